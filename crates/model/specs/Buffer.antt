@@ -1,0 +1,147 @@
+-- The lent matrix and row lists, cut into tiles and lists; one column of a task on them; what a failed or spoiled task leaves.
+-- Assumes nothing.
+use Prim.Native.Nat.{ℕ, suc, _+_, _*_, _/_, _%_}
+use mathlib.Core.Bool.{Bool, true, false, cond, _||_}
+use mathlib.Core.List.{List}
+use lib.ListN.{replicate}
+use lib.Dec.{eqb, leb}
+use lib.Ieee.{Float}
+use Rattle.model.specs.declared.ColumnEnd.{ColumnEnd}
+use Rattle.model.specs.declared.ColumnEnd.the-variants.{GoesOn, Done, Failed}
+use Rattle.model.specs.Lists.{every, part, withPart}
+use Rattle.model.specs.Num.{plusZero, finite}
+use Rattle.model.specs.Tile.{at, block, allFinite, zeros}
+use Rattle.model.specs.Column.{Factored, Coupled, Paired, factorColumn, factorComputes, applyColumn, applyComputes, coupleColumn, coupleComputes, pairColumn, pairComputes, Column·open}
+use Rattle.model.specs.Task.{Task, T-1, T-2, T-3, T-4, Place, isList, writes, touches}
+use Rattle.model.specs.Links.{taken, done, failed}
+use Rattle.model.specs.Plan.{Plan, Plan·open}
+
+-- ---- parts of the lent slices
+
+-- tile A(i,j) of the matrix m: it starts at (i·N + j)·t² and holds t² numbers, row by row
+unfoldable pub tile : ℕ → ℕ → List Float → ℕ → ℕ → List Float
+tile N t m i j = part ((i * N + j) * (t * t)) (t * t) m
+
+-- m with the tile a in that place
+unfoldable pub putTile : ℕ → ℕ → ℕ → ℕ → List Float → List Float → List Float
+putTile N t i j a m = withPart ((i * N + j) * (t * t)) (t * t) a m
+
+-- row list (i,j) of the lists l, in the same order: t entries
+unfoldable pub rows : ℕ → ℕ → List ℕ → ℕ → ℕ → List ℕ
+rows N t l i j = part ((i * N + j) * t) t l
+
+-- l with the row list p in that place
+unfoldable pub putRows : ℕ → ℕ → ℕ → ℕ → List ℕ → List ℕ → List ℕ
+putRows N t i j p l = withPart ((i * N + j) * t) t p l
+
+-- element (x,y) of the whole matrix
+unfoldable pub element : ℕ → ℕ → List Float → ℕ → ℕ → Float
+element N t m x y = at t (tile N t m (x / t) (y / t)) (x % t) (y % t)
+
+-- ---- what tasks work on
+
+pub record Buffers : Type 0 where
+  pub matrix : List Float
+  pub lists : List ℕ
+
+-- what a column or a task left, and the task's mark then
+pub record Ended : Type 0 where
+  pub left : Buffers
+  pub mark : ℕ
+
+-- the mark that a column's end gives its task
+abbrev pub markOf : ColumnEnd → ℕ
+markOf GoesOn = taken
+markOf Done = done
+markOf Failed = failed
+
+module _ (z : Plan) where
+  unfoldable pub tileOf : Buffers → ℕ → ℕ → List Float
+  tileOf s i j = tile (z .N) (z .t) (s .matrix) i j
+
+  unfoldable pub rowsOf : Buffers → ℕ → ℕ → List ℕ
+  rowsOf s i j = rows (z .N) (z .t) (s .lists) i j
+
+  unfoldable pub withTile : ℕ → ℕ → List Float → Buffers → Buffers
+  withTile i j a s = record { matrix = putTile (z .N) (z .t) i j a (s .matrix); lists = s .lists }
+
+  unfoldable pub withRows : ℕ → ℕ → List ℕ → Buffers → Buffers
+  withRows i j p s = record { matrix = s .matrix; lists = putRows (z .N) (z .t) i j p (s .lists) }
+
+  -- ---- what each step reads of the buffers
+
+  unfoldable pub factorInput : Buffers → ℕ → Factored
+  factorInput s k = record { tile = tileOf s k k; rows = rowsOf s k k }
+
+  unfoldable pub coupleInput : Buffers → ℕ → ℕ → Coupled
+  coupleInput s k i = record { upper = tileOf s k k; lower = tileOf s i k; rows = rowsOf s i k }
+
+  unfoldable pub pairInput : Buffers → ℕ → ℕ → ℕ → Paired
+  pairInput s k i j = record { upper = tileOf s k j; lower = tileOf s i j }
+
+  -- ---- column c of a task
+
+  -- what it leaves where every number computed is finite
+  unfoldable pub worked : Task → ℕ → Buffers → Buffers
+  worked (T-1 k) c s =
+      let r = factorColumn (z .t) c (factorInput s k) in
+      withTile k k (r .tile) (withRows k k (r .rows) s)
+  worked (T-2 k j) c s = withTile k j (applyColumn (z .t) (z .t) c (tileOf s k k) (rowsOf s k k) (tileOf s k j)) s
+  worked (T-3 k i) c s =
+      let r = coupleColumn (z .t) c (coupleInput s k i) in
+      withTile k k (r .upper) (withTile i k (r .lower) (withRows i k (r .rows) s))
+  worked (T-4 k i j) c s =
+      let r = pairColumn (z .t) (z .t) c (tileOf s i k) (rowsOf s i k) (pairInput s k i j) in
+      withTile k j (r .upper) (withTile i j (r .lower) s)
+
+  -- the numbers that it computes: quotients, products and differences
+  unfoldable pub computed : Task → ℕ → Buffers → List Float
+  computed (T-1 k) c s = factorComputes (z .t) c (factorInput s k)
+  computed (T-2 k j) c s = applyComputes (z .t) (z .t) c (tileOf s k k) (rowsOf s k k) (tileOf s k j)
+  computed (T-3 k i) c s = coupleComputes (z .t) c (coupleInput s k i)
+  computed (T-4 k i j) c s = pairComputes (z .t) (z .t) c (tileOf s i k) (rowsOf s i k) (pairInput s k i j)
+
+  -- every number computed is finite
+  unfoldable pub sound : Task → ℕ → Buffers → Bool
+  sound a c s = every finite (computed a c s)
+
+  -- a place is a list, or every number of its tile is finite
+  unfoldable pub finiteIn : Buffers → Place → Bool
+  finiteIn s x = isList x || allFinite (tileOf s (x .row) (x .column))
+
+  -- every element of a tile that the task touches is finite
+  unfoldable pub finiteTiles : Task → Buffers → Bool
+  finiteTiles a s = every (finiteIn s) (touches a)
+
+  -- ---- what a failed or spoiled task leaves: +0 in its tiles and 0 in its lists; in T-3's upper tile only the diagonal and above
+
+  unfoldable pub fillTile : ℕ → ℕ → Buffers → Buffers
+  fillTile i j s = withTile i j (zeros (z .t * z .t)) s
+
+  unfoldable pub fillRows : ℕ → ℕ → Buffers → Buffers
+  fillRows i j s = withRows i j (replicate (z .t) 0) s
+
+  -- the tile a with +0 on the diagonal and above
+  unfoldable pub upperFilled : List Float → List Float
+  upperFilled a = block (z .t) (z .t) (λ r q. cond (leb r q) plusZero (at (z .t) a r q))
+
+  unfoldable pub fillUpper : ℕ → Buffers → Buffers
+  fillUpper k s = withTile k k (upperFilled (tileOf s k k)) s
+
+  unfoldable pub filled : Task → Buffers → Buffers
+  filled (T-1 k) s = fillTile k k (fillRows k k s)
+  filled (T-2 k j) s = fillTile k j s
+  filled (T-3 k i) s = fillUpper k (fillTile i k (fillRows i k s))
+  filled (T-4 k i j) s = fillTile k j (fillTile i j s)
+
+  -- ---- column c of a task that is not spoiled: failed where a number computed isn't finite, else done after column t - 1, else still taken
+
+  unfoldable pub columnEnds : Task → ℕ → Buffers → Ended
+  columnEnds a c s = elim (sound a c s) [
+    | true ↦ record { left = worked a c s; mark = cond (eqb (suc c) (z .t)) done taken }
+    | false ↦ record { left = filled a (worked a c s); mark = failed }
+  ]
+
+unfoldable pub Buffer·open : Unit {0}
+unfolding Column·open Plan·open tile putTile rows putRows element tileOf rowsOf withTile withRows factorInput coupleInput pairInput worked computed sound finiteIn finiteTiles fillTile fillRows upperFilled fillUpper filled columnEnds
+Buffer·open = tt

@@ -1,0 +1,136 @@
+-- What accepted calls do: opening, take, column, and a whole run. Document 01, sections "The system and its buffers" and
+-- "The outcome, and solving". Assumes nothing.
+use Prim.Native.Nat.{ℕ, zero, suc, _+_, _*_, _%_}
+use mathlib.Core.Bool.{Bool, true, false, cond, not, _&&_, _||_}
+use mathlib.Core.List.{List, map}
+use lib.ListN.{length, getD, set, replicate}
+use lib.Dec.{eqb}
+use lib.Ieee.{Float}
+use Rattle.model.specs.declared.TaskRecord.{TaskRecord}
+use Rattle.model.specs.declared.Worker.{Worker}
+use Rattle.model.specs.declared.RunAnswer.{RunAnswer}
+use Rattle.model.specs.declared.RunAnswer.the-variants.{Finished, Spent, RunRefused}
+use Rattle.model.specs.Lists.{below, every, keep, firstOr}
+use Rattle.model.specs.Task.{Task, T-1, kindOf, kOf, iOf, jOf}
+use Rattle.model.specs.Plan.{Plan}
+use Rattle.model.specs.Links.{task, waiting, taken, spoiled, finished, spoils, ready}
+use Rattle.model.specs.Buffer.{Buffers, Ended, filled, columnEnds}
+use Rattle.model.specs.Loops.{State, start, Loops·open}
+
+-- ---- what is lent
+
+pub record Lent : Type 0 where
+  pub buffers : Buffers
+  pub records : List TaskRecord
+  pub workers : List Worker
+
+unfoldable pub marksOf : Lent → List ℕ
+marksOf s = map (λ r. r .mark) (s .records)
+
+-- the buffers and marks, as the published loops have them
+unfoldable pub stateOf : Lent → State
+stateOf s = record { buffers = s .buffers; marks = marksOf s }
+
+-- the record of a waiting task
+unfoldable pub recordOf : Task → TaskRecord
+recordOf a = record { kind = kindOf a; k = kOf a; i = iOf a; j = jOf a; mark = waiting }
+
+-- the record r with the mark m
+unfoldable pub withMark : ℕ → TaskRecord → TaskRecord
+withMark m r = record { kind = r .kind; k = r .k; i = r .i; j = r .j; mark = m }
+
+-- the records with the mark m for task p
+unfoldable pub marked : ℕ → ℕ → List TaskRecord → List TaskRecord
+marked p m rs = set rs p (withMark m (getD rs p (recordOf (T-1 0))))
+
+-- a worker that holds no task, and one that holds task p with c its next column
+abbrev pub idle : Worker
+idle = record { busy = false; task = 0; column = 0 }
+
+abbrev pub holding : ℕ → ℕ → Worker
+holding p c = record { busy = true; task = p; column = c }
+
+unfoldable pub worker : Lent → ℕ → Worker
+worker s w = getD (s .workers) w idle
+
+-- a run's answer, and what it leaves
+pub record RunEnd : Type 0 where
+  pub answer : RunAnswer
+  pub left : Lent
+
+module _ (z : Plan) where
+  -- ---- opening sets lists to 0, records to the numbering and waiting, and W workers to idle
+
+  unfoldable pub opened : ℕ → List Float → Lent
+  opened W m = record {
+    buffers = start z m .buffers;
+    records = map recordOf (z .tasks);
+    workers = replicate W idle;
+  }
+
+  -- ---- worker w takes task p
+
+  unfoldable pub took : ℕ → ℕ → Lent → Lent
+  took w p s = record {
+    buffers = s .buffers;
+    records = marked p taken (s .records);
+    workers = set (s .workers) w (holding p 0);
+  }
+
+  -- ---- worker w does the next column of the task it holds
+
+  -- Column c of task p: spoiled, where it is the first column and the task is spoiled by marks that stand now, or what the column makes
+  unfoldable pub columnOf : Lent → ℕ → ℕ → Ended
+  columnOf s p c =
+      let a = task (z .tasks) p in
+      elim (eqb c 0 && spoils (z .tasks) (marksOf s) p) [
+        | true ↦ record { left = filled z a (s .buffers); mark = spoiled }
+        | false ↦ columnEnds z a c (s .buffers)
+      ]
+
+  unfoldable pub advanced : ℕ → Lent → Lent
+  advanced w s =
+      let h = worker s w in
+      let e = columnOf s (h .task) (h .column) in
+      record {
+        buffers = e .left;
+        records = marked (h .task) (e .mark) (s .records);
+        workers = set (s .workers) w (cond (finished (e .mark)) idle (holding (h .task) (suc (h .column))));
+      }
+
+  -- ---- a whole run
+
+  unfoldable pub readyTasks : Lent → List ℕ
+  readyTasks s = keep (ready (z .tasks) (marksOf s)) (below (length (z .tasks)))
+
+  unfoldable pub allFinished : Lent → Bool
+  allFinished s = every finished (marksOf s)
+
+  -- worker w has something to do: a column, or a task to take
+  unfoldable pub hasWork : Lent → ℕ → Bool
+  hasWork s w = worker s w .busy || not (eqb (length (readyTasks s)) 0)
+
+  -- a turn of worker w: an idle one takes the lowest ready task, a busy one does a column
+  unfoldable pub turn : ℕ → Lent → Lent
+  turn w s = elim (worker s w .busy) [ true ↦ advanced w s | false ↦ took w (firstOr (readyTasks s) (λ p. p) 0) s ]
+
+  -- the next of W workers, from w on, that has something to do: turns with nothing to do are passed over and not counted
+  unfoldable pub nextWorker : ℕ → ℕ → Lent → ℕ
+  nextWorker W w s = firstOr (keep (hasWork s) (map (λ d. (w + d) % W) (below W))) (λ v. v) w
+
+  -- b calls are left of the budget, n have been made, and the turn is worker w's
+  unfoldable pub runFrom : ℕ → ℕ → ℕ → ℕ → Lent → RunEnd
+  runFrom W zero n w s = record { answer = cond (allFinished s) (Finished n) (Spent n); left = s }
+  runFrom W (suc b) n w s =
+      let v = nextWorker W w s in
+      elim (allFinished s) [
+        | true ↦ record { answer = Finished n; left = s }
+        | false ↦ runFrom W b (suc n) (suc v % W) (turn v s)
+      ]
+
+  unfoldable pub wholeRun : ℕ → ℕ → Lent → RunEnd
+  wholeRun W budget s = runFrom W budget 0 0 s
+
+unfoldable pub Calls·open : Unit {0}
+unfolding Loops·open marksOf stateOf recordOf withMark marked worker opened took columnOf advanced readyTasks allFinished hasWork turn nextWorker runFrom wholeRun
+Calls·open = tt

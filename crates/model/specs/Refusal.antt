@@ -1,0 +1,183 @@
+-- What opening, take, column, run and outcome calls answer and leave: the refusals of document 01's table in their order, and else
+-- what an accepted call does. A refusal changes nothing. Assumes nothing.
+use Prim.Native.Nat.{ℕ, suc, _+_, _-_, _*_, _/_, _%_}
+use mathlib.Core.Bool.{Bool, true, false, cond, not, _&&_, _||_}
+use mathlib.Core.List.{List}
+use lib.ListN.{length, getD}
+use lib.Dec.{eqb, leb, ltb}
+use lib.Ieee.{Float, nan}
+use Rattle.model.specs.declared.Sizes.{Sizes}
+use Rattle.model.specs.declared.TaskRecord.{TaskRecord}
+use Rattle.model.specs.declared.Worker.{Worker}
+use Rattle.model.specs.declared.Answer.{Answer}
+use Rattle.model.specs.declared.Answer.the-variants.{Accepted, Refused}
+use Rattle.model.specs.declared.RunAnswer.the-variants.{RunRefused}
+use Rattle.model.specs.declared.OutcomeAnswer.{OutcomeAnswer}
+use Rattle.model.specs.declared.OutcomeAnswer.the-variants.{Ended as EndedWith, Unfinished, OutcomeRefused}
+use Rattle.model.specs.Lists.{below, every, some, keep, firstOr}
+use Rattle.model.specs.Num.{finite}
+use Rattle.model.specs.Tile.{allFinite}
+use Rattle.model.specs.Task.{Task, kindOf, kOf, iOf, jOf}
+use Rattle.model.specs.Plan.{Plan, planOf, order}
+use Rattle.model.specs.Links.{task, mark, taken, finished, ready}
+use Rattle.model.specs.Buffer.{finiteTiles}
+use Rattle.model.specs.Loops.{outcome}
+use Rattle.model.specs.Calls.{Lent, RunEnd, marksOf, stateOf, recordOf, worker, took, advanced, opened, wholeRun, Calls·open}
+
+-- ---- the form of the table: a row's number, its place, and when it is given; the first row that holds decides
+
+infixr 10 _otherwise_
+unfoldable pub refuse : ℕ → ℕ → Bool → Answer → Answer
+refuse n x true r = Refused n x
+refuse n x false r = r
+
+abbrev pub _otherwise_ : (Answer → Answer) → Answer → Answer
+f otherwise r = f r
+
+-- the refusal's number and place: both 0 where the call is accepted
+abbrev pub answerNumber : Answer → ℕ
+answerNumber Accepted = 0
+answerNumber (Refused n x) = n
+
+abbrev pub answerPlace : Answer → ℕ
+answerPlace Accepted = 0
+answerPlace (Refused n x) = x
+
+-- a call's answer, and what it leaves
+pub record Reply : Type 0 where
+  pub answer : Answer
+  pub left : Lent
+
+unfoldable pub replied : Answer → Lent → Lent → Reply
+replied Accepted old new = record { answer = Accepted; left = new }
+replied (Refused n x) old new = record { answer = Refused n x; left = old }
+
+unfoldable pub runReplied : Answer → Lent → RunEnd → RunEnd
+runReplied Accepted old e = e
+runReplied (Refused n x) old e = record { answer = RunRefused n x; left = old }
+
+unfoldable pub outcomeReplied : Answer → OutcomeAnswer → OutcomeAnswer
+outcomeReplied Accepted r = r
+outcomeReplied (Refused n x) r = OutcomeRefused n x
+
+-- ---- when each is given
+
+-- from 1 to top
+unfoldable pub inside : ℕ → ℕ → Bool
+inside top x = leb 1 x && leb x top
+
+-- 1: N, t or W outside its range
+unfoldable pub badSizes : Sizes → Bool
+badSizes z = not (inside 16 (z .tiles) && inside 16 (z .side) && inside 32 (z .workers))
+
+-- 3: the lowest offset of a number that isn't finite
+unfoldable pub firstNotFinite : List Float → ℕ
+firstNotFinite m = firstOr (keep (λ x. not (finite (getD m x nan))) (below (length m))) (λ x. x) 0
+
+-- 5: no such worker
+unfoldable pub noWorker : ℕ → Lent → Bool
+noWorker w s = leb (length (s .workers)) w
+
+-- worker h holds task p
+unfoldable pub holds : ℕ → Worker → Bool
+holds p h = h .busy && eqb (h .task) p
+
+module _ (z : Plan) where
+  -- 2: a lent length differs from the one stated
+  unfoldable pub badLengths : ℕ → Lent → Bool
+  badLengths W s =
+      not (eqb (length (s .buffers .matrix)) (order z * order z) && eqb (length (s .buffers .lists)) (z .N * z .N * z .t)
+      && eqb (length (s .records)) (length (z .tasks)) && eqb (length (s .workers)) W)
+
+  -- 4: a record's task differs from the numbering; a mark exceeds 4
+  unfoldable pub badRecord : Lent → ℕ → Bool
+  badRecord s p =
+      let a = task (z .tasks) p in
+      let r = getD (s .records) p (recordOf a) in
+      not (eqb (r .kind) (kindOf a) && eqb (r .k) (kOf a) && eqb (r .i) (iOf a) && eqb (r .j) (jOf a) && leb (r .mark) 4)
+
+  -- 4: a task with mark 1 isn't held by exactly one worker
+  unfoldable pub badHold : Lent → ℕ → Bool
+  badHold s p = eqb (mark (marksOf s) p) taken && not (eqb (length (keep (holds p) (s .workers))) 1)
+
+  -- 4: a worker holds a task that doesn't exist or lacks mark 1, or a column not below t
+  unfoldable pub badWorker : Lent → Worker → Bool
+  badWorker s h = h .busy && not (ltb (h .task) (length (z .tasks)) && eqb (mark (marksOf s) (h .task)) taken && ltb (h .column) (z .t))
+
+  -- 4: an entry of list (i,j) exceeds t - 1 on the diagonal, t below it or 0 above it
+  unfoldable pub entryLimit : ℕ → ℕ → ℕ
+  entryLimit i j = cond (eqb i j) (z .t - 1) (cond (ltb j i) (z .t) 0)
+
+  unfoldable pub badEntry : Lent → ℕ → Bool
+  badEntry s x = ltb (entryLimit (x / z .t / z .N) (x / z .t % z .N)) (getD (s .buffers .lists) x 0)
+
+  unfoldable pub damaged : Lent → Bool
+  damaged s =
+      some (badRecord s) (below (length (z .tasks))) || some (badHold s) (below (length (z .tasks)))
+      || some (badWorker s) (s .workers) || some (badEntry s) (below (z .N * z .N * z .t))
+
+  -- 4, for a column: an element of a tile that the task touches isn't finite. A worker that is idle or doesn't exist has no task
+  unfoldable pub badTiles : ℕ → Lent → Bool
+  badTiles w s = worker s w .busy && not (finiteTiles z (task (z .tasks) (worker s w .task)) (s .buffers))
+
+  -- the unfinished tasks, lowest first
+  unfoldable pub unfinished : Lent → List ℕ
+  unfinished s = keep (λ p. not (finished (mark (marksOf s) p))) (below (length (z .tasks)))
+
+-- ---- the calls
+
+module _ (z : Sizes) where
+  unfoldable pub openCall : Lent → Reply
+  openCall s = replied (
+      refuse 1 0 (badSizes z)
+      otherwise refuse 2 0 (badLengths (planOf z) (z .workers) s)
+      otherwise refuse 3 (firstNotFinite (s .buffers .matrix)) (not (allFinite (s .buffers .matrix)))
+      otherwise Accepted) s (opened (planOf z) (z .workers) (s .buffers .matrix))
+
+  unfoldable pub takeAnswer : ℕ → ℕ → Lent → Answer
+  takeAnswer w p s =
+      refuse 1 0 (badSizes z)
+      otherwise refuse 2 0 (badLengths (planOf z) (z .workers) s)
+      otherwise refuse 4 0 (damaged (planOf z) s)
+      otherwise refuse 5 w (noWorker w s || worker s w .busy)
+      otherwise refuse 6 0 (leb (length (planOf z .tasks)) p)
+      otherwise refuse 7 p (not (ready (planOf z .tasks) (marksOf s) p))
+      otherwise Accepted
+
+  unfoldable pub takeCall : ℕ → ℕ → Lent → Reply
+  takeCall w p s = replied (takeAnswer w p s) s (took (planOf z) w p s)
+
+  unfoldable pub columnAnswer : ℕ → Lent → Answer
+  columnAnswer w s =
+      refuse 1 0 (badSizes z)
+      otherwise refuse 2 0 (badLengths (planOf z) (z .workers) s)
+      otherwise refuse 4 0 (damaged (planOf z) s || badTiles (planOf z) w s)
+      otherwise refuse 5 w (noWorker w s || not (worker s w .busy))
+      otherwise Accepted
+
+  unfoldable pub columnCall : ℕ → Lent → Reply
+  columnCall w s = replied (columnAnswer w s) s (advanced (planOf z) w s)
+
+  unfoldable pub runAnswer : Lent → Answer
+  runAnswer s =
+      refuse 1 0 (badSizes z)
+      otherwise refuse 2 0 (badLengths (planOf z) (z .workers) s)
+      otherwise refuse 4 0 (damaged (planOf z) s || not (allFinite (s .buffers .matrix)))
+      otherwise Accepted
+
+  unfoldable pub runCall : ℕ → Lent → RunEnd
+  runCall budget s = runReplied (runAnswer s) s (wholeRun (planOf z) (z .workers) budget s)
+
+  -- What the outcome call answers of a system: its outcome once every task is finished, and before that the lowest unfinished task. It changes nothing
+  unfoldable pub outcomeFound : Lent → OutcomeAnswer
+  outcomeFound s = firstOr (unfinished (planOf z) s) Unfinished (EndedWith (outcome (planOf z) (stateOf s)))
+
+  unfoldable pub outcomeCall : Lent → OutcomeAnswer
+  outcomeCall s = outcomeReplied (
+      refuse 1 0 (badSizes z)
+      otherwise refuse 2 0 (badLengths (planOf z) (z .workers) s)
+      otherwise Accepted) (outcomeFound s)
+
+unfoldable pub Refusal·open : Unit {0}
+unfolding Calls·open refuse replied runReplied outcomeReplied inside badSizes firstNotFinite noWorker badLengths badRecord holds badHold badWorker entryLimit badEntry damaged badTiles unfinished openCall takeAnswer takeCall columnAnswer columnCall runAnswer runCall outcomeFound outcomeCall
+Refusal·open = tt

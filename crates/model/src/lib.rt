@@ -1,0 +1,128 @@
+// The types that the definitions in specs/ and the code share. The definitions are document 01's, section by section.
+ghost use mathlib.Core.Path.{_≡_};
+ghost use Prim.Native.Nat.{_+_, _<_};
+ghost use Rattle.model.specs.Calls.{idle, holding};
+
+// What a call is told of a system: N tiles a side, each tile t numbers a side, and W workers.
+pub struct Sizes {
+    pub tiles: usize,
+    pub side: usize,
+    pub workers: usize,
+}
+
+// What is lent for a task: kind 1 to 4, k, i and j (0 where unused), and its mark.
+pub struct TaskRecord {
+    pub kind: u8,
+    pub k: u8,
+    pub i: u8,
+    pub j: u8,
+    pub mark: u8,
+}
+
+// A worker: idle, or a task and its next column.
+pub struct Worker {
+    pub busy: bool,
+    pub task: u16,
+    pub column: u8,
+}
+
+impl Worker {
+    pub fn idle() -> Worker
+        ensures { λ r. ⌜ r ≡ idle ⌝ }
+    {
+        Worker {
+            busy: false,
+            task: 0,
+            column: 0,
+        }
+    }
+
+    // The worker takes a task, whose next column is 0.
+    pub fn take(mut self, task: u16) -> Worker
+        ensures { λ r. ⌜ r ≡ holding task 0 ⌝ }
+    {
+        self.busy = true;
+        self.task = task;
+        self.column = 0;
+        self
+    }
+
+    // The worker's next column is one further.
+    pub fn advance(mut self) -> Worker
+        requires { ⌜ self .column < 255 ⌝ }
+        ensures { λ r. ⌜ r ≡ holding (self .task) (self .column + 1) ⌝ }
+    {
+        self.busy = true;
+        self.column += 1;
+        self
+    }
+
+    // The worker's task has finished.
+    pub fn release(mut self) -> Worker
+        ensures { λ r. ⌜ r ≡ idle ⌝ }
+    {
+        self.busy = false;
+        self.task = 0;
+        self.column = 0;
+        self
+    }
+}
+
+// The winner of a pivot search: its place among the candidates, and its magnitude.
+pub struct Pivot {
+    pub place: usize,
+    pub magnitude: f64,
+}
+
+// How a column of a task that is not spoiled ends.
+pub enum ColumnEnd {
+    GoesOn,
+    Done,
+    Failed,
+}
+
+// What a call answers: that it was accepted, or a refusal's number and place.
+pub enum Answer {
+    Accepted,
+    Refused(u8, usize),
+}
+
+// What a whole run answers: finished or spent, with the count of its calls, or a refusal's number and place.
+pub enum RunAnswer {
+    Finished(u64),
+    Spent(u64),
+    RunRefused(u8, usize),
+}
+
+// The outcome: good, overflow at a task, or singular at a row.
+pub enum Outcome {
+    Good,
+    Overflow(u16),
+    Singular(u16),
+}
+
+// What the outcome call answers: the outcome, the lowest task that is unfinished, or a refusal's number and place.
+pub enum OutcomeAnswer {
+    Ended(Outcome),
+    Unfinished(usize),
+    OutcomeRefused(u8, usize),
+}
+
+// One backward row of a solve: its number, or the fact that it left the finite range.
+pub enum Row {
+    Number(f64),
+    NotFinite,
+}
+
+// What a writer answers: the length written, or a refusal's number and place.
+pub enum WriteAnswer {
+    Written(usize),
+    WriteRefused(u8, usize),
+}
+
+// What a reader answers: N and t of a system; N, t and the outcome of a result; or a refusal's number and place.
+pub enum ReadAnswer {
+    SystemRead(usize, usize),
+    ResultRead(usize, usize, Outcome),
+    ReadRefused(u8, usize),
+}

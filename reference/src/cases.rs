@@ -1,0 +1,154 @@
+//! Makes the cases for single columns: crafted ones first, then random ones of every family.
+
+use crate::families::{numbers, FAMILIES};
+use crate::kernels::Case;
+use crate::numbers::{LARGEST as M, SMALLEST as S};
+use crate::rng::Rng;
+
+/// Four tiles in tile order with lists of zeros.
+fn crafted(kind: u8, side: usize, column: usize, tiles: [&[f64]; 4]) -> Case {
+    let mut matrix = Vec::new();
+    for tile in tiles {
+        assert_eq!(tile.len(), side * side);
+        matrix.extend_from_slice(tile);
+    }
+    Case { kind, side, column, matrix, lists: vec![0; 4 * side] }
+}
+
+fn crafted_singles() -> Vec<Case> {
+    let mut cases = Vec::new();
+    for kind in 1..=4 {
+        for corner in [0.0, -0.0, S, -S, M, -M, 1.0, -2.0] {
+            cases.push(crafted(kind, 1, 0, [&[corner], &[M], &[-1.0], &[M]]));
+            cases.push(crafted(kind, 1, 0, [&[corner], &[-0.0], &[0.0], &[-0.0]]));
+        }
+    }
+    // A lower row that wins, a multiplier that underflows, a quotient of −0, a pair of zeros.
+    cases.push(crafted(3, 1, 0, [&[1.0], &[5.0], &[4.0], &[7.0]]));
+    cases.push(crafted(3, 1, 0, [&[M], &[5.0], &[S], &[7.0]]));
+    cases.push(crafted(3, 1, 0, [&[-M], &[5.0], &[S], &[7.0]]));
+    cases.push(crafted(3, 1, 0, [&[-0.0], &[5.0], &[0.0], &[7.0]]));
+    cases
+}
+
+fn crafted_doubles() -> Vec<Case> {
+    let one = [1.0, 0.0, -1.0, 1.0];
+    let zeros = [0.0, -0.0, -0.0, 0.0];
+    let large = [M, M, M, M];
+    let mut cases = Vec::new();
+    // The difference leaves the finite range in each kind.
+    cases.push(crafted(1, 2, 0, [&[1.0, M, -1.0, M], &one, &one, &one]));
+    cases.push(crafted(2, 2, 0, [&one, &large, &one, &one]));
+    cases.push(crafted(3, 2, 0, [&[1.0, M, 0.5, 1.0], &one, &[-1.0, M, 1.0, 1.0], &one]));
+    cases.push(crafted(4, 2, 0, [&one, &large, &[-1.0, 0.0, 1.0, 0.0], &large]));
+    cases.push(crafted(4, 2, 1, [&one, &large, &[0.0, 1.0, 0.0, -1.0], &large]));
+    // The product alone leaves it.
+    cases.push(crafted(4, 1, 0, [&[1.0], &[M], &[2.0], &[M]]));
+    cases.push(crafted(2, 2, 0, [&[1.0, 0.0, 3.0, 1.0], &large, &one, &one]));
+    // Zero pivots in first and last column, with rows that must stay.
+    cases.push(crafted(1, 2, 0, [&[0.0, 3.0, -0.0, 4.0], &one, &one, &one]));
+    cases.push(crafted(1, 2, 1, [&[2.0, 3.0, 0.5, -0.0], &one, &one, &one]));
+    cases.push(crafted(3, 2, 0, [&[-0.0, 3.0, 9.0, 4.0], &one, &zeros, &one]));
+    cases.push(crafted(3, 2, 1, [&[2.0, 3.0, 9.0, 0.0], &one, &[0.5, -0.0, 0.25, 0.0], &one]));
+    // Old multipliers stay in place in T-3 and move with their row in T-1.
+    cases.push(crafted(3, 2, 1, [&[2.0, 3.0, 9.0, 1.0], &one, &[0.5, 1.0, 0.25, 8.0], &one]));
+    let third = [4.0, 1.0, 1.0, 0.5, 2.0, 3.0, 0.25, 8.0, 5.0];
+    let other = [1.0; 9];
+    cases.push(crafted(1, 3, 1, [&third, &other, &other, &other]));
+    let late = [2.0, 1.0, 1.0, 0.5, 1.0, M, 0.25, -1.0, M];
+    cases.push(crafted(1, 3, 1, [&late, &other, &other, &other]));
+    cases.push(crafted(3, 3, 1, [&late, &other, &late, &other]));
+    // Multipliers that underflow leave the largest number; quotients of −0.
+    cases.push(crafted(1, 2, 0, [&[M, M, S, M], &one, &one, &one]));
+    cases.push(crafted(1, 2, 0, [&[-2.0, M, 0.0, -0.0], &one, &one, &one]));
+    cases.push(crafted(3, 2, 0, [&[-M, M, 0.5, 1.0], &one, &[S, M, 0.0, -0.0], &one]));
+    // Ties of both signs.
+    cases.push(crafted(1, 2, 0, [&[-1.0, 2.0, 1.0, 3.0], &one, &one, &one]));
+    cases.push(crafted(3, 2, 0, [&[-1.0, 2.0, 7.0, 3.0], &one, &[1.0, 4.0, -1.0, 5.0], &one]));
+    cases.push(crafted(3, 2, 0, [&[0.5, 2.0, 7.0, 3.0], &one, &[1.0, 4.0, -1.0, 5.0], &one]));
+    // A zero row updated by a nonzero multiplier: the sign of the zero is computed.
+    cases.push(crafted(2, 2, 0, [&one, &zeros, &one, &one]));
+    cases.push(crafted(4, 2, 0, [&one, &zeros, &one, &[-0.0, -0.0, 0.0, 0.0]]));
+    cases
+}
+
+/// Entries valid for their place: up to t − 1 on the diagonal, t below it, 0 above it.
+pub fn random_lists(rng: &mut Rng, tiles: usize, side: usize) -> Vec<u8> {
+    let mut lists = Vec::new();
+    for i in 0..tiles {
+        for j in 0..tiles {
+            for _ in 0..side {
+                let entry = if i == j {
+                    rng.below(side)
+                } else if i > j {
+                    rng.below(side + 1)
+                } else {
+                    0
+                };
+                lists.push(entry as u8);
+            }
+        }
+    }
+    lists
+}
+
+fn random_case(rng: &mut Rng, kind: u8, side: usize, family: usize) -> Case {
+    let column = rng.below(side);
+    let mut matrix = numbers(rng, family, 4 * side * side);
+    match rng.below(4) {
+        0 => set_column(rng, side, column, &mut matrix, &[0.0, -0.0]),
+        1 => set_column(rng, side, column, &mut matrix, &[1.0, -1.0]),
+        _ => {}
+    }
+    let lists = random_lists(rng, 2, side);
+    Case { kind, side, column, matrix, lists }
+}
+
+/// Random choices through one column of tiles (0,0) and (1,0): zeros stop the pivot search of T-1 and
+/// T-3, ones of both signs give ties and multipliers that do not shrink what they meet.
+fn set_column(rng: &mut Rng, side: usize, column: usize, matrix: &mut [f64], choices: &[f64]) {
+    for row in 0..side {
+        matrix[row * side + column] = rng.pick(choices);
+        matrix[2 * side * side + row * side + column] = rng.pick(choices);
+    }
+}
+
+/// Ones in the first column and the largest numbers elsewhere: most of these leave the finite range.
+fn overflow_case(rng: &mut Rng, kind: u8) -> Case {
+    let side = rng.between(2, 3);
+    let mut case = random_case(rng, kind, side, 0);
+    for place in 0..case.matrix.len() {
+        case.matrix[place] = rng.pick(&[M, -M, M / 2.0]);
+    }
+    set_column(rng, side, 0, &mut case.matrix, &[1.0, -1.0]);
+    case.column = 0;
+    case
+}
+
+pub fn all_cases(seed: u64) -> Vec<Case> {
+    let mut rng = Rng::new(seed);
+    let mut cases = crafted_singles();
+    cases.extend(crafted_doubles());
+    for kind in 1..=4 {
+        for family in 0..FAMILIES {
+            for side in [2, 3] {
+                cases.push(random_case(&mut rng, kind, side, family));
+            }
+        }
+        for _ in 0..3 {
+            cases.push(overflow_case(&mut rng, kind));
+        }
+        cases.push(random_case(&mut rng, kind, 1, 4));
+        for family in [0, 1, 3, 8] {
+            cases.push(random_case(&mut rng, kind, 4, family));
+        }
+        for family in [0, 9] {
+            let side = rng.between(5, 9);
+            cases.push(random_case(&mut rng, kind, side, family));
+        }
+        for family in [0, 2] {
+            cases.push(random_case(&mut rng, kind, 16, family));
+        }
+    }
+    cases
+}

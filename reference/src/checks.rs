@@ -1,0 +1,141 @@
+//! Refusals 1, 2 and 4: the tests that the calls share.
+
+use crate::lent::{refuse, Lent, Refusal, Sizes, SPOILED, TAKEN};
+use crate::numbers::first_not_finite;
+use crate::tasks::{table, Task, Thing};
+use crate::tile::Shape;
+
+/// Refusal 1 for N and t.
+pub fn accept_shape(tiles: u64, side: u64) -> Result<Shape, Refusal> {
+    if tiles < 1 || tiles > 16 || side < 1 || side > 16 {
+        return refuse(1, 0);
+    }
+    Ok(Shape { tiles: tiles as usize, side: side as usize })
+}
+
+/// Refusal 1 for N, t and W; hands back the shape and W.
+pub fn accept_sizes(sizes: Sizes) -> Result<(Shape, usize), Refusal> {
+    let shape = accept_shape(sizes.tiles, sizes.side)?;
+    if sizes.workers < 1 || sizes.workers > 32 {
+        return refuse(1, 0);
+    }
+    Ok((shape, sizes.workers as usize))
+}
+
+/// Matrix, lists and records have the lengths that N and t call for.
+pub fn lengths_fit(shape: Shape, lent: &Lent) -> bool {
+    lent.matrix.len() == shape.matrix_length()
+        && lent.lists.len() == shape.lists_length()
+        && lent.records.len() == table(shape.tiles).tasks.len()
+}
+
+/// Refusal 2 for matrix, lists and records.
+pub fn accept_lengths(shape: Shape, lent: &Lent) -> Result<(), Refusal> {
+    if !lengths_fit(shape, lent) {
+        return refuse(2, 0);
+    }
+    Ok(())
+}
+
+/// Refusal 4 but for the elements: records, marks, workers and list entries.
+pub fn accept_state(shape: Shape, workers: usize, lent: &Lent) -> Result<(), Refusal> {
+    if !records_fit(shape, lent) || !holders_fit(workers, lent) {
+        return refuse(4, 0);
+    }
+    if !workers_fit(shape, workers, lent) || !entries_fit(shape, lent) {
+        return refuse(4, 0);
+    }
+    Ok(())
+}
+
+fn records_fit(shape: Shape, lent: &Lent) -> bool {
+    let tasks = &table(shape.tiles).tasks;
+    for number in 0..tasks.len() {
+        let record = lent.records[number];
+        let recorded =
+            Task { kind: record.kind, k: record.k as usize, i: record.i as usize, j: record.j as usize };
+        if recorded != tasks[number] || record.mark > SPOILED {
+            return false;
+        }
+    }
+    true
+}
+
+/// Every task with mark 1 is held by exactly one worker.
+fn holders_fit(workers: usize, lent: &Lent) -> bool {
+    for number in 0..lent.records.len() {
+        if lent.records[number].mark != TAKEN {
+            continue;
+        }
+        let mut holders = 0;
+        for worker in 0..workers {
+            if lent.workers[worker].busy && lent.workers[worker].task as usize == number {
+                holders += 1;
+            }
+        }
+        if holders != 1 {
+            return false;
+        }
+    }
+    true
+}
+
+/// Every busy worker holds an existing task with mark 1 and stands at a column below t.
+fn workers_fit(shape: Shape, workers: usize, lent: &Lent) -> bool {
+    for worker in 0..workers {
+        let held = lent.workers[worker];
+        if !held.busy {
+            continue;
+        }
+        let number = held.task as usize;
+        if number >= lent.records.len() || lent.records[number].mark != TAKEN {
+            return false;
+        }
+        if held.column as usize >= shape.side {
+            return false;
+        }
+    }
+    true
+}
+
+fn entries_fit(shape: Shape, lent: &Lent) -> bool {
+    for i in 0..shape.tiles {
+        for j in 0..shape.tiles {
+            let most = if i == j {
+                shape.side - 1
+            } else if i > j {
+                shape.side
+            } else {
+                0
+            };
+            for c in 0..shape.side {
+                if lent.lists[shape.entry(i, j, c)] as usize > most {
+                    return false;
+                }
+            }
+        }
+    }
+    true
+}
+
+/// Refusal 4 for the elements of the tiles a task touches.
+pub fn accept_touched(shape: Shape, lent: &Lent, task: Task) -> Result<(), Refusal> {
+    for thing in task.touches() {
+        if let Thing::Tile(i, j) = thing {
+            let start = shape.element(i, j, 0, 0);
+            let part = &lent.matrix[start..start + shape.side * shape.side];
+            if first_not_finite(part).is_some() {
+                return refuse(4, 0);
+            }
+        }
+    }
+    Ok(())
+}
+
+/// Refusal 4 for all elements.
+pub fn accept_elements(lent: &Lent) -> Result<(), Refusal> {
+    if first_not_finite(&lent.matrix).is_some() {
+        return refuse(4, 0);
+    }
+    Ok(())
+}

@@ -1,0 +1,27 @@
+//! A second program for document 01, written from the papers alone, to check another one against.
+//! Straight loops in the order of the document; nothing here is made to be fast.
+
+pub mod calls;
+pub mod cases;
+pub mod checks;
+pub mod crafted;
+pub mod damages;
+pub mod families;
+pub mod frames;
+pub mod hex;
+pub mod judge;
+pub mod kernels;
+pub mod lent;
+pub mod loops;
+pub mod numbers;
+pub mod oddities;
+pub mod read;
+pub mod rng;
+pub mod script;
+pub mod solve;
+pub mod tasks;
+pub mod texts;
+pub mod tile;
+pub mod vectors;
+pub mod write;
+pub mod writer;

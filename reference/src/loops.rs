@@ -1,0 +1,44 @@
+//! The published loops: all tasks in number order, without calls, workers or readiness.
+
+use crate::lent::{DONE, FAILED, SPOILED, WAITING};
+use crate::solve::{outcome, Outcome};
+use crate::tasks::table;
+use crate::tile::{fill, work_column, Shape};
+
+/// What the loops leave behind.
+pub struct Final {
+    pub matrix: Vec<f64>,
+    pub lists: Vec<u8>,
+    pub marks: Vec<u8>,
+    pub outcome: Outcome,
+}
+
+pub fn published_loops(shape: Shape, system: &[f64]) -> Final {
+    let table = table(shape.tiles);
+    let mut matrix = system.to_vec();
+    let mut lists = vec![0; shape.lists_length()];
+    let mut marks = vec![WAITING; table.tasks.len()];
+    for number in 0..table.tasks.len() {
+        let task = table.tasks[number];
+        let mut mark = DONE;
+        for &writer in &table.writers[number] {
+            if marks[writer] == FAILED || marks[writer] == SPOILED {
+                mark = SPOILED;
+            }
+        }
+        if mark != SPOILED {
+            for c in 0..shape.side {
+                if !work_column(shape, &mut matrix, &mut lists, task, c) {
+                    mark = FAILED;
+                    break;
+                }
+            }
+        }
+        if mark != DONE {
+            fill(shape, &mut matrix, &mut lists, task);
+        }
+        marks[number] = mark;
+    }
+    let outcome = outcome(shape, &matrix, &marks);
+    Final { matrix, lists, marks, outcome }
+}
