@@ -46,7 +46,8 @@ impl<'a> Fields<'a> {
     pub fn numbers(&mut self, count: usize) -> Vec<f64> {
         let mut numbers = Vec::new();
         for _ in 0..count {
-            numbers.push(f64::from_bits(self.take(16)));
+            let number = f64::from_bits(self.take(16));
+            numbers.push(if number.is_nan() { f64::from_bits(0x7FF8_0000_0000_0000) } else { number });
         }
         numbers
     }

@@ -126,3 +126,15 @@ pub enum ReadAnswer {
     ResultRead(usize, usize, Outcome),
     ReadRefused(u8, usize),
 }
+
+// What an opening, a take or a column hands back: its answer, and the workers.
+pub struct CallReply {
+    pub answer: Answer,
+    pub workers: [Worker; 32],
+}
+
+// What a whole run hands back: its answer, and the workers.
+pub struct RunReply {
+    pub answer: RunAnswer,
+    pub workers: [Worker; 32],
+}

@@ -1,0 +1,169 @@
+-- A column due can be worked; what each branch leaves; and the state after a worker's column. Assumes nothing.
+use Prim.Native.Nat.{ℕ, suc, _+_, _-_, _*_, _≤_, _<_}
+use mathlib.Core.Bool.{Bool, true, false, cond, _&&_}
+use mathlib.Core.Path.{_≡_, refl, sym, ap, _∙_, subst}
+use mathlib.Core.List.{List}
+use native.Mathlib.Omega.{arith}
+use lib.Dec.{eqb}
+use lib.Ieee.{Float}
+use lib.ListN.{length, getD, set, take, drop}
+use lib.Seq.{take-set-lt, drop-set-lt}
+use borrow.Author.Tests.{eq-eqb, ne-eqb, lt-ltb}
+use Rattle.model.specs.declared.Sizes.{Sizes}
+use Rattle.model.specs.declared.TaskRecord.{TaskRecord}
+use Rattle.model.specs.declared.Worker.{Worker}
+use Rattle.model.specs.Task.{Task, tasks}
+use Rattle.model.specs.Plan.{plan, planOf}
+use Rattle.model.specs.Links.{task, finished, spoils}
+use Rattle.model.specs.Buffer.{Buffers, Ended, filled, columnEnds}
+use Rattle.model.specs.Calls.{Lent, marksOf, marked, worker, idle, holding, columnOf, advanced}
+use Rattle.model.specs.Refusal.{entryLimit, damaged}
+use Rattle.links.proofs.Order.{Within, within-1, within-2, within-3, within-4}
+use Rattle.columns.specs.Workable.{Placed, EntriesFit, Workable}
+use Rattle.records.specs.Records.{recordsFrom, marksFrom, lent}
+use Rattle.checks.specs.Checks.{Sized, taskFrom}
+use Rattle.run_laws.proofs.Undamaged.{entry-fits}
+use Rattle.call_laws.proofs.Undamaged.{worker-lent, record-named, task-inside, record-inside, recorded, worker-holds}
+use Rattle.advancing.specs.Advancing.{ColumnDue, Working}
+
+-- ---- what refusal 4 gives
+
+placed : (N : ℕ) (a : Task) → Within N a → Placed N a
+placed N a (within-1 k h) = h
+placed N a (within-2 k j h g) = (h, g)
+placed N a (within-3 k i h g) = (h, g)
+placed N a (within-4 k i j h g f e) = (h, g, f, e)
+
+module _ (z : Sizes) where
+  limit-diagonal : (k : ℕ) → entryLimit (planOf z) k k ≡ z .side - 1
+  unfolding entryLimit plan
+  limit-diagonal k = rw (eq-eqb k k refl)
+
+  limit-below : (i k : ℕ) → k < i → entryLimit (planOf z) i k ≡ z .side
+  unfolding entryLimit plan
+  limit-below i k h = rw (ne-eqb i k (λ e. omega arith), lt-ltb k i h)
+
+  module _ (m : List Float) (l : List ℕ) (r : List (List ℕ)) (ws : List Worker) (sizes : Sized z) (fine : damaged (planOf z) (lent m l r ws (z .workers)) ≡ false) where
+    entry : (i j x : ℕ) → i < z .tiles → j < z .tiles → x < z .side → getD l ((i * z .tiles + j) * z .side + x) 0 ≤ entryLimit (planOf z) i j
+    unfolding lent plan
+    entry i j x hi hj hx = entry-fits (planOf z) (lent m l r ws (z .workers)) fine i j x hi hj hx
+
+    entries : (a : Task) → Within (z .tiles) a → EntriesFit (z .tiles) (z .side) a l
+    entries a (within-1 k h) = tt
+    entries a (within-2 k j h g) = λ x hx. omega (arith, entry k k x (omega arith) (omega arith) hx, limit-diagonal k, sizes .some-side)
+    entries a (within-3 k i h g) = tt
+    entries a (within-4 k i j h g f e) = λ x hx. omega (arith, entry i k x (omega arith) (omega arith) hx, limit-below i k h)
+
+-- the column of a worker at work is due
+module _ (z : Sizes) (w : ℕ) (m : List Float) (l : List ℕ) (r : List (List ℕ)) (ws : List Worker) (long : length ws ≡ 32) (d : Working z w m l r ws) where
+  abbrev h : Worker
+  h = getD ws w idle
+
+  pub holds : (h .task < length (tasks (z .tiles))) × (h .column < z .side)
+  holds =
+      let k = worker-holds z m l r ws w (omega (arith, d .sound .sizes .few-workers)) (d .sound .undamaged) (d .exists) (d .busy) in
+      (k .0, k .2)
+
+  pub due : ColumnDue z (h .task) (h .column) m l r
+  due =
+      let p = h .task in
+      let v = task-inside z m l r ws (d .sound .sizes) (d .sound .records-fit) (d .sound .undamaged) p (holds .0) in
+      record {
+        sizes = d .sound .sizes;
+        workable = record {
+          tiles-some = d .sound .sizes .some-tiles;
+          tiles-most = d .sound .sizes .few-tiles;
+          side-some = d .sound .sizes .some-side;
+          side-most = d .sound .sizes .small-side;
+          matrix-long = d .sound .matrix-fits;
+          lists-long = d .sound .lists-fit;
+          placed = placed (z .tiles) (task (tasks (z .tiles)) p) v;
+          column = holds .1;
+          entries = entries z m l r ws (d .sound .sizes) (d .sound .undamaged) (task (tasks (z .tiles)) p) v;
+          tiles-finite = d .tiles-finite;
+        };
+        recorded = recorded z m l r ws (d .sound .sizes) (d .sound .records-fit) (d .sound .undamaged) p (holds .0);
+        named = record-named z m l r ws (d .sound .sizes) (d .sound .records-fit) (d .sound .undamaged) p (holds .0);
+        inside = record-inside z m l r ws (d .sound .sizes) (d .sound .records-fit) (d .sound .undamaged) p (holds .0);
+      }
+
+-- ---- a column by the record's kind
+
+module _ (z : Sizes) (m : List Float) (l : List ℕ) (a : TaskRecord) (c : ℕ) (b : Task) (e : taskFrom a ≡ b) where
+  pub workable-as : Workable z (taskFrom a) c m l → Workable z b c m l
+  workable-as w = subst (λ (t : Task). Workable z t c m l) e w
+
+  pub ends-as : (x : Ended) → x ≡ columnEnds (planOf z) b c (record { matrix = m; lists = l }) → x ≡ columnEnds (planOf z) (taskFrom a) c (record { matrix = m; lists = l })
+  ends-as x g = g ∙ ap (λ t. columnEnds (planOf z) t c (record { matrix = m; lists = l })) (sym e)
+
+pub with-mark : (x : Buffers) (k j : ℕ) (e : Ended) → k ≡ j → record { left = x; mark = j } ≡ e → record { left = x; mark = k } ≡ e
+with-mark x k j e q g = (λ i. record { left = x; mark = q i }) ∙ g
+
+-- ---- a column of a task: spoiled, or worked
+
+pub later-column : (c : ℕ) (b : Bool) → (c ≡ 0 → ⊥) → false ≡ (eqb c 0 && b)
+later-column c b h = rw (ne-eqb c 0 h)
+
+pub first-column : (c : ℕ) (b : Bool) → c ≡ 0 → b ≡ (eqb c 0 && b)
+first-column c b h = rw (eq-eqb c 0 h)
+
+module _ (z : Sizes) (m : List Float) (l : List ℕ) (r : List (List ℕ)) (ws : List Worker) (p c : ℕ) where
+  abbrev s : Lent
+  s = lent m l r ws (z .workers)
+
+  abbrev buffers : Buffers
+  buffers = record { matrix = m; lists = l }
+
+  module _ (a : TaskRecord) (named : taskFrom a ≡ task (tasks (z .tiles)) p) (b : Bool) (e : b ≡ (eqb c 0 && spoils (tasks (z .tiles)) (marksFrom r) p)) where
+    pub task-spoiled : b ≡ true → (left : Buffers) → left ≡ filled (planOf z) (taskFrom a) buffers → _≡_ {A = Ended} (record { left = left; mark = 4 }) (columnOf (planOf z) s p c)
+    unfolding columnOf marksOf lent marksFrom plan
+    task-spoiled q left g =
+        rw (sym e ∙ q, columnOf) (λ x. record { left = (g ∙ ap (λ y. filled (planOf z) y buffers) named) x; mark = 4 })
+
+    pub task-worked : b ≡ false → (end : Ended) → end ≡ columnEnds (planOf z) (taskFrom a) c buffers → end ≡ columnOf (planOf z) s p c
+    unfolding columnOf marksOf lent marksFrom plan
+    task-worked q end g = rw (sym e ∙ q, columnOf) (g ∙ ap (λ y. columnEnds (planOf z) y c buffers) named)
+
+-- ---- the worker afterwards
+
+pub freed : (b : Bool) (x y : Worker) → b ≡ true → x ≡ cond b x y
+freed b x y e = rw e
+
+pub goes-on : (b : Bool) (p c : ℕ) → b ≡ false → holding p (c + 1) ≡ cond b idle (holding p (suc c))
+goes-on b p c e = rw e (ap (λ (k : ℕ). holding p k) (omega arith))
+
+-- ---- the state after worker w's column
+
+module _ (z : Sizes) (m : List Float) (l : List ℕ) (r : List (List ℕ)) (ws : List Worker) (w : ℕ) (here : w < z .workers) where
+  abbrev old : Lent
+  old = lent m l r ws (z .workers)
+
+  -- what worker v's column leaves where it ends as x
+  abbrev moved : Worker → Ended → Lent
+  moved v x = record {
+    buffers = x .left;
+    records = marked (v .task) (x .mark) (recordsFrom r);
+    workers = set (take (z .workers) ws) w (cond (finished (x .mark)) idle (holding (v .task) (suc (v .column))));
+  }
+
+  advanced-is : moved (worker old w) (columnOf (planOf z) old (worker old w .task) (worker old w .column)) ≡ advanced (planOf z) w old
+  unfolding advanced lent
+  advanced-is = refl
+
+  pub state-after : (h : Worker) → h ≡ getD ws w idle → (m' : List Float) (l' : List ℕ) (r' : List (List ℕ)) (k : ℕ) (h' : Worker)
+      → _≡_ {A = Ended} (record { left = record { matrix = m'; lists = l' }; mark = k }) (columnOf (planOf z) old (h .task) (h .column))
+      → recordsFrom r' ≡ marked (h .task) k (recordsFrom r) → h' ≡ cond (finished k) idle (holding (h .task) (suc (h .column)))
+      → lent m' l' r' (set ws w h') (z .workers) ≡ advanced (planOf z) w old
+  unfolding lent
+  state-after h e m' l' r' k h' f g i =
+      (λ x. record {
+        buffers = record { matrix = m'; lists = l' };
+        records = g x;
+        workers = (take-set-lt (z .workers) ws w h' here ∙ ap (λ y. set (take (z .workers) ws) w y) i) x;
+      })
+      ∙ ap (moved h) f
+      ∙ ap (λ v. moved v (columnOf (planOf z) old (v .task) (v .column))) (e ∙ sym (worker-lent m l r ws (z .workers) w here))
+      ∙ advanced-is
+
+  pub others-after : (h : Worker) → drop (z .workers) (set ws w h) ≡ drop (z .workers) ws
+  others-after h = drop-set-lt (z .workers) ws w h here

@@ -1,0 +1,82 @@
+-- What the calls may count on once what is lent passed refusals 1, 2 and 4. Assumes nothing.
+use Prim.Native.Nat.{ℕ, _≤_, _<_}
+use mathlib.Core.Bool.{true, false}
+use mathlib.Core.Path.{_≡_, _∙_}
+use mathlib.Core.List.{List}
+use native.Mathlib.Omega.{arith}
+use lib.Ieee.{Float}
+use lib.ListN.{length, getD, take, length-take, List·getD-eq-default}
+use lib.Seq.{getD-take, length-take-le}
+use Rattle.model.specs.declared.Sizes.{Sizes}
+use Rattle.model.specs.declared.Worker.{Worker}
+use Rattle.model.specs.Task.{tasks}
+use Rattle.model.specs.Plan.{plan, planOf}
+use Rattle.model.specs.Links.{task, mark, taken}
+use Rattle.model.specs.Calls.{marksOf, worker, idle}
+use Rattle.model.specs.Refusal.{damaged}
+use Rattle.records.specs.Records.{recordsFrom, marksFrom, blank, lent}
+use Rattle.records.proofs.Laws.{length-records}
+use Rattle.links.proofs.Order.{Within, length-tasks, task-within}
+use Rattle.graph.specs.Graph.{Recorded}
+use Rattle.checks.specs.Checks.{Sized, RecordsFit, Inside, taskFrom}
+use Rattle.run_laws.proofs.Undamaged.{Due, Held, due-any, held}
+use Rattle.call_laws.proofs.Named.{named, inside}
+
+-- ---- workers
+
+module _ (m : List Float) (l : List ℕ) (r : List (List ℕ)) (ws : List Worker) (W w : ℕ) where
+  pub worker-lent : w < W → worker (lent m l r ws W) w ≡ getD ws w idle
+  unfolding worker lent
+  worker-lent h = getD-take W ws w idle h
+
+  -- beyond the workers lent there is none, and it reads as idle
+  pub worker-beyond : W ≤ w → worker (lent m l r ws W) w ≡ idle
+  unfolding worker lent
+  worker-beyond h = List·getD-eq-default (take W ws) idle (rw (length-take W ws) (omega arith))
+
+  pub workers-long : W ≤ length ws → length (lent m l r ws W .workers) ≡ W
+  unfolding lent
+  workers-long h = length-take-le W ws h
+
+-- ---- records
+
+module _ (z : Sizes) (m : List Float) (l : List ℕ) (r : List (List ℕ)) (ws : List Worker)
+    (sizes : Sized z) (fit : RecordsFit z r) (fine : damaged (planOf z) (lent m l r ws (z .workers)) ≡ false) (p : ℕ) (h : p < length (tasks (z .tiles))) where
+  pub record-due : Due (task (tasks (z .tiles)) p) (getD (recordsFrom r) p blank)
+  unfolding lent plan
+  record-due = due-any (planOf z) (lent m l r ws (z .workers)) fine (length-records r ∙ fit) p blank h
+
+  -- it is read as task p, and its tiles are among those lent
+  pub record-named : taskFrom (getD (recordsFrom r) p blank) ≡ task (tasks (z .tiles)) p
+  record-named = named (task (tasks (z .tiles)) p) (getD (recordsFrom r) p blank) record-due
+
+  pub task-inside : Within (z .tiles) (task (tasks (z .tiles)) p)
+  task-inside = let e = length-tasks (z .tiles) in task-within (z .tiles) p (omega arith)
+
+  pub record-inside : Inside (z .tiles) (getD (recordsFrom r) p blank)
+  record-inside = inside (z .tiles) (task (tasks (z .tiles)) p) (getD (recordsFrom r) p blank) task-inside record-due
+
+  pub recorded : Recorded (z .tiles) r p
+  recorded =
+      let e = length-tasks (z .tiles) in
+      record {
+        small = sizes .few-tiles;
+        long = fit ∙ e;
+        below = omega arith;
+        k-is = record-due .k-is;
+        i-is = record-due .i-is;
+        j-is = record-due .j-is;
+      }
+
+-- ---- a busy worker
+
+module _ (z : Sizes) (m : List Float) (l : List ℕ) (r : List (List ℕ)) (ws : List Worker) (w : ℕ)
+    (few : z .workers ≤ length ws) (fine : damaged (planOf z) (lent m l r ws (z .workers)) ≡ false) (here : w < z .workers) (busy : getD ws w idle .busy ≡ true) where
+  -- its task exists and is marked taken, and its column is below t
+  pub worker-holds : (getD ws w idle .task < length (tasks (z .tiles))) × (mark (marksFrom r) (getD ws w idle .task) ≡ taken) × (getD ws w idle .column < z .side)
+  unfolding plan marksOf lent marksFrom
+  worker-holds =
+      let e = worker-lent m l r ws (z .workers) w here in
+      let h = held (planOf z) (lent m l r ws (z .workers)) fine w (rw (workers-long m l r ws (z .workers) w few) here) (rw e busy) in
+      let k : Held (planOf z) (lent m l r ws (z .workers)) (getD ws w idle) = rw e at h in
+      (k .exists, k .is-taken, k .column-fits)

@@ -1,0 +1,302 @@
+-- How a column ends: from what the inner steps promise to the definition of a column's end. Assumes nothing.
+use mathlib.Core.Path.{_≡_, refl, sym, _∙_, ap}
+use mathlib.Core.Bool.{Bool, true, false, cond}
+use mathlib.Core.List.{List}
+use Prim.Native.Nat.{ℕ, suc, _+_, _-_, _*_, _<_, _≤_}
+use native.Mathlib.Nat.{zero-add}
+use native.Mathlib.Omega.{arith}
+use lib.Dec.{eqb, leb}
+use lib.ListN.{length, getD, set, replicate, length-replicate, length-set}
+use lib.Ieee.{Float, nan}
+use borrow.Author.Tests.{leb-false}
+use Rattle.model.specs.declared.Pivot.{Pivot}
+use Rattle.model.specs.Lists.{below, every, joined, part, withPart}
+use Rattle.model.specs.Num.{finite, plusZero, isZero, update}
+use Rattle.model.specs.Tile.{at, zeros, block}
+use Rattle.model.specs.Column.{rowComputes, beyond, applyStart, factorPivot, couplePivot}
+use Rattle.model.specs.Task.{Task, T-1, T-2, T-3, T-4}
+use Rattle.model.specs.Links.{taken, done, failed}
+use Rattle.model.specs.Plan.{Plan, plan}
+use Rattle.model.specs.Buffer.{Buffers, Ended, tile, putTile, rows, putRows, tileOf, rowsOf, withTile, withRows, worked, computed, sound, fillTile, fillRows, upperFilled, fillUpper, filled, columnEnds}
+use Rattle.kernel.specs.Flat.{upperZeroed}
+use Rattle.laws.proofs.Parts.{Apart, Fits, length-put, part-put, put-put}
+use Rattle.laws.proofs.Blocks.{length-block, block-cong}
+use Rattle.column_laws.specs.Steps.{tileStart, listStart, RowsApplied, applied, appliedComputes, RowsPaired, paired, pairedComputes, upperAt, lowerAt, withTwo, TileFactored, factored, factoredComputes, exchangedAt, TilesCoupled, eliminatedRows, eliminatedComputes}
+use Rattle.column_laws.proofs.Nested.{length-part}
+use Rattle.column_laws.proofs.Computes.{every-joined}
+use Rattle.column_laws.proofs.Updates.{at-part}
+use Rattle.column_laws.proofs.Two.{put-upper, put-lower}
+use Rattle.column_laws.proofs.Pairs.{length-upper, length-lower, length-paired, length-eliminated, length-factored, length-applied}
+use Rattle.column_laws.proofs.Permutes.{length-start}
+use Rattle.column_laws.proofs.Worked.{pair-worked, pair-computed, apply-worked, apply-computed, factor-worked, factor-skipped, factor-computed, factor-none, couple-worked, couple-skipped, couple-computed, couple-none}
+
+-- ---- by whether every number computed is finite
+
+module _ (z : Plan) (a : Task) (c : ℕ) (s w : Buffers) where
+  ends-sound : (mark : ℕ) → w ≡ worked z a c s → sound z a c s ≡ true → mark ≡ cond (eqb (suc c) (z .t)) done taken → record { left = w; mark = mark } ≡ columnEnds z a c s
+  unfolding columnEnds
+  ends-sound mark p h e = rw (p, e, h, columnEnds)
+
+  ends-failed : w ≡ filled z a (worked z a c s) → sound z a c s ≡ false → record { left = w; mark = failed } ≡ columnEnds z a c s
+  unfolding columnEnds
+  ends-failed p h = rw (p, h, columnEnds)
+
+-- ---- what a failed task leaves, by where its tiles and lists start
+
+module _ (N t : ℕ) (m : List Float) (l : List ℕ) where
+  pub factor-filled : (k : ℕ) → filled (plan N t) (T-1 k) (record { matrix = m; lists = l })
+      ≡ record { matrix = withPart (tileStart N t k k) (t * t) (zeros (t * t)) m; lists = withPart (listStart N t k k) t (replicate t 0) l }
+  unfolding plan filled fillTile fillRows withTile withRows putTile putRows
+  factor-filled k = refl
+
+  pub apply-filled : (k j : ℕ) → filled (plan N t) (T-2 k j) (record { matrix = m; lists = l })
+      ≡ record { matrix = withPart (tileStart N t k j) (t * t) (zeros (t * t)) m; lists = l }
+  unfolding plan filled fillTile withTile putTile
+  apply-filled k j = refl
+
+  pub couple-filled : (k i : ℕ) → filled (plan N t) (T-3 k i) (record { matrix = m; lists = l })
+      ≡ record {
+        matrix = withPart (tileStart N t k k) (t * t) (upperZeroed t (part (tileStart N t k k) (t * t) (withPart (tileStart N t i k) (t * t) (zeros (t * t)) m)))
+          (withPart (tileStart N t i k) (t * t) (zeros (t * t)) m);
+        lists = withPart (listStart N t i k) t (replicate t 0) l;
+      }
+  unfolding plan filled fillUpper upperFilled fillTile fillRows withTile withRows putTile putRows tileOf tile upperZeroed
+  couple-filled k i = refl
+
+  pub pair-filled : (k i j : ℕ) → filled (plan N t) (T-4 k i j) (record { matrix = m; lists = l })
+      ≡ record { matrix = withPart (tileStart N t k j) (t * t) (zeros (t * t)) (withPart (tileStart N t i j) (t * t) (zeros (t * t)) m); lists = l }
+  unfolding plan filled fillTile withTile putTile
+  pair-filled k i j = refl
+
+pub length-zeros : (n : ℕ) → length (zeros n) ≡ n
+unfolding zeros
+length-zeros n = length-replicate n plusZero
+
+-- two blocks filled, whatever they held
+filled-two : (n u d : ℕ) (m : List Float) (apart : Apart n u d) → u + n ≤ length m → d + n ≤ length m → (x y : List Float) → length x ≡ n → length y ≡ n
+    → (after : List Float) → after ≡ withTwo n u d x y m → withPart u n (zeros n) (withPart d n (zeros n) after) ≡ withTwo n u d (zeros n) (zeros n) m
+filled-two n u d m apart ru rd x y hx hy after e =
+    rw (e, put-lower n u d m apart ru rd x y hx hy (zeros n) (length-zeros n), put-upper n u d m apart ru rd x (zeros n) hx (length-zeros n) (zeros n))
+
+-- ---- multipliers that agree where they are used
+
+module _ (t w c : ℕ) (l l′ : ℕ → Float) where
+  applied-at : (c′ r q : ℕ) (b : List Float) → ((r : ℕ) → c′ < r → r < t → l r ≡ l′ r) → r < t → (z : Bool) → leb r c′ ≡ z
+      → cond z (at w b r q) (update (at w b r q) (l r) (at w b c′ q)) ≡ cond z (at w b r q) (update (at w b r q) (l′ r) (at w b c′ q))
+  applied-at c′ r q b h hr true e = refl
+  applied-at c′ r q b h hr false e = rw (h r (leb-false r c′ e) hr)
+
+  applied-same : ((r : ℕ) → c < r → r < t → l r ≡ l′ r) → (b : List Float) → applied t w c l b ≡ applied t w c l′ b
+  unfolding applied
+  applied-same h b = block-cong t w _ _ (λ r q hr hq. applied-at c r q b h hr (leb r c) refl)
+
+  applied-finite : ((r : ℕ) → c < r → r < t → l r ≡ l′ r) → (b : List Float) → every finite (appliedComputes t w c l b) ≡ every finite (appliedComputes t w c l′ b)
+  unfolding appliedComputes beyond
+  applied-finite h b = every-joined finite _ _ (suc c) (suc c) (t - suc c) (λ r hr. rw (h (suc c + r) (omega arith) (omega arith)))
+
+  paired-same : ((r : ℕ) → r < t → l r ≡ l′ r) → (u d : List Float) → paired t w c l u d ≡ paired t w c l′ u d
+  unfolding paired
+  paired-same h u d = block-cong t w _ _ (λ r q hr hq. rw (h r hr))
+
+  paired-finite : ((r : ℕ) → r < t → l r ≡ l′ r) → (u d : List Float) → every finite (pairedComputes t w c l u d) ≡ every finite (pairedComputes t w c l′ u d)
+  unfolding pairedComputes below
+  paired-finite h u d = every-joined finite _ _ 0 0 t (λ r hr. rw (zero-add r, h r hr))
+
+-- a column of a tile, read number by number
+pub column-read : (t c x a : ℕ) (m mult : List Float) → c < t → x ≡ a + c → a + t * t ≤ length m → ((r : ℕ) → r < t → getD mult r nan ≡ getD m (x + r * t) nan)
+    → (r : ℕ) → r < t → getD mult r nan ≡ at t (part a (t * t) m) r c
+column-read t c x a m mult hc e room h r hr =
+    let i : x + r * t ≡ a + (r * t + c) = omega arith in
+    h r hr ∙ ap (λ (j : ℕ). getD m j nan) i ∙ sym (at-part t t a m r c room hr hc)
+
+-- ---- T-4
+
+module _ (N t k i j c e u d : ℕ) (hc : c < t) (m : List Float) (l : List ℕ) (lists : listStart N t i k + t ≤ length l)
+    (he : e ≡ getD l (listStart N t i k + c) 0) (hu : u ≡ tileStart N t k j) (hd : d ≡ tileStart N t i j)
+    (mult after : List Float) (answer : Bool)
+    (read : (r : ℕ) → r < t → getD mult r nan ≡ at t (part (tileStart N t i k) (t * t) m) r c)
+    (p : RowsPaired t t c e u d (λ r. getD mult r nan) m after answer) where
+  pair-sound : answer ≡ sound (plan N t) (T-4 k i j) c (record { matrix = m; lists = l })
+  unfolding sound
+  pair-sound = p .sound ∙ rw (hu, hd) (paired-finite t t c _ _ read _ _ ∙ ap (every finite) (sym (pair-computed N t c m l k i j hc lists e he)))
+
+  pub pair-ends : (mark : ℕ) → answer ≡ true → mark ≡ cond (eqb (suc c) t) done taken
+      → record { left = record { matrix = after; lists = l }; mark = mark } ≡ columnEnds (plan N t) (T-4 k i j) c (record { matrix = m; lists = l })
+  unfolding plan
+  pair-ends mark h q =
+      ends-sound (plan N t) (T-4 k i j) c (record { matrix = m; lists = l }) (record { matrix = after; lists = l }) mark
+      (rw (p .whole h, hu, hd, paired-same t t c (λ r. getD mult r nan) (λ r. at t (part (tileStart N t i k) (t * t) m) r c) read) (sym (pair-worked N t c m l k i j hc lists e he)))
+      (sym pair-sound ∙ h) q
+
+  -- the worked column and the matrix where the code stopped differ only in the two tiles, which are filled
+  pub pair-fails : (half last : List Float) → u + t * t ≤ length m → d + t * t ≤ length m → Apart (t * t) u d
+      → answer ≡ false → half ≡ withPart d (t * t) (zeros (t * t)) after → last ≡ withPart u (t * t) (zeros (t * t)) half
+      → record { left = record { matrix = last; lists = l }; mark = failed } ≡ columnEnds (plan N t) (T-4 k i j) c (record { matrix = m; lists = l })
+  pair-fails half last ru rd apart h q q′ =
+      let n = t * t in
+      let long = length-upper t t 0 c e u d m in
+      let stopped = filled-two n u d m apart ru rd (upperAt t t 0 c e u d m) (part d n after) long (length-part d n after (rw (p .long) rd)) after (p .frame) in
+      let whole = filled-two n u d m apart ru rd (upperAt t t 0 c e u d m) _ long (length-paired t t c (λ r. at t (part (tileStart N t i k) (t * t) m) r c) (upperAt t t 0 c e u d m) (lowerAt t t 0 c e u d m)) _ refl in
+      ends-failed (plan N t) (T-4 k i j) c (record { matrix = m; lists = l }) (record { matrix = last; lists = l })
+      (rw (pair-worked N t c m l k i j hc lists e he, pair-filled N t, ← hu, ← hd)
+      (ap (λ (a : List Float). record { matrix = a; lists = l }) (q′ ∙ ap (withPart u n (zeros n)) q ∙ stopped ∙ sym whole)))
+      (sym pair-sound ∙ h)
+
+-- ---- T-2
+
+-- the multipliers below row c, read number by number
+pub below-read : (t c x a k : ℕ) (m mult : List Float) → suc c + k ≡ t → x ≡ a + (suc c * t + c) → a + t * t ≤ length m → ((i : ℕ) → i < k → getD mult i nan ≡ getD m (x + i * t) nan)
+    → (r : ℕ) → c < r → r < t → getD mult (r - suc c) nan ≡ at t (part a (t * t) m) r c
+below-read t c x a k m mult ends e room h r hc hr =
+    let p : suc c + (r - suc c) ≡ r = omega arith in
+    let i : x + (r - suc c) * t ≡ a + (r * t + c) = omega (arith, ap (λ (j : ℕ). j * t) p) in
+    h (r - suc c) (omega arith) ∙ ap (λ (j : ℕ). getD m j nan) i ∙ sym (at-part t t a m r c room hr (omega arith))
+
+module _ (N t k j c a b : ℕ) (m : List Float) (l : List ℕ) (ha : a ≡ tileStart N t k j) (hb : b ≡ listStart N t k k) (room : a + t * t ≤ length m)
+    (mid mult after : List Float) (answer : Bool)
+    (x : mid ≡ withPart a (t * t) (applyStart t t c (part b t l) (part a (t * t) m)) m)
+    (read : (r : ℕ) → c < r → r < t → getD mult (r - suc c) nan ≡ at t (part (tileStart N t k k) (t * t) m) r c)
+    (p : RowsApplied t t c a (λ i. getD mult (i - suc c) nan) mid after answer) where
+  start-fits : Fits (t * t) a m (applyStart t t c (part b t l) (part a (t * t) m))
+  start-fits = record { whole = length-start t t c (part b t l) (part a (t * t) m) (length-part a (t * t) m room); room = room }
+
+  begun : part a (t * t) mid ≡ applyStart t t c (part b t l) (part a (t * t) m)
+  begun = rw x (part-put (t * t) nan a m (applyStart t t c (part b t l) (part a (t * t) m)) start-fits)
+
+  put-mid : (z : List Float) → withPart a (t * t) z mid ≡ withPart a (t * t) z m
+  put-mid z = rw x (put-put (t * t) nan a m (applyStart t t c (part b t l) (part a (t * t) m)) start-fits z)
+
+  apply-sound : answer ≡ sound (plan N t) (T-2 k j) c (record { matrix = m; lists = l })
+  unfolding sound
+  apply-sound = p .sound ∙ applied-finite t t c _ _ read _ ∙ rw (begun, ha, hb) (ap (every finite) (sym (apply-computed N t c m l k j)))
+
+  pub apply-ends : (mark : ℕ) → answer ≡ true → mark ≡ cond (eqb (suc c) t) done taken
+      → record { left = record { matrix = after; lists = l }; mark = mark } ≡ columnEnds (plan N t) (T-2 k j) c (record { matrix = m; lists = l })
+  unfolding plan
+  apply-ends mark h q =
+      ends-sound (plan N t) (T-2 k j) c (record { matrix = m; lists = l }) (record { matrix = after; lists = l }) mark
+      (ap (λ (y : List Float). record { matrix = y; lists = l }) (p .whole h ∙ put-mid (applied t t c (λ i. getD mult (i - suc c) nan) (part a (t * t) mid)))
+      ∙ rw (begun, applied-same t t c (λ i. getD mult (i - suc c) nan) (λ r. at t (part (tileStart N t k k) (t * t) m) r c) read, ha, hb) (sym (apply-worked N t c m l k j)))
+      (sym apply-sound ∙ h) q
+
+  pub apply-fails : (last : List Float) → length after ≡ length mid → answer ≡ false → last ≡ withPart a (t * t) (zeros (t * t)) after
+      → record { left = record { matrix = last; lists = l }; mark = failed } ≡ columnEnds (plan N t) (T-2 k j) c (record { matrix = m; lists = l })
+  apply-fails last long h q =
+      let n = t * t in
+      let here : a + n ≤ length mid = rw (ap length x ∙ length-put n nan a m _ start-fits) room in
+      let stopped : withPart a n (zeros n) after ≡ withPart a n (zeros n) m =
+        ap (withPart a n (zeros n)) (p .frame)
+        ∙ put-put n nan a mid (part a n after) (record { whole = length-part a n after (rw long here); room = here }) (zeros n) ∙ put-mid (zeros n) in
+      let whole = put-put n nan a m (applied t t c (λ r. at t (part (tileStart N t k k) n m) r c) (applyStart t t c (part b t l) (part a n m)))
+        (record { whole = length-applied t t c _ _; room = room }) (zeros n) in
+      ends-failed (plan N t) (T-2 k j) c (record { matrix = m; lists = l }) (record { matrix = last; lists = l })
+      (rw (apply-worked N t c m l k j, apply-filled N t, ← ha, ← hb) (ap (λ (y : List Float). record { matrix = y; lists = l }) (q ∙ stopped ∙ sym whole)))
+      (sym apply-sound ∙ h)
+
+-- ---- T-1: f is the pivot found in the tile at a
+
+module _ (N t k c a b : ℕ) (ha : a ≡ tileStart N t k k) (hb : b ≡ listStart N t k k) (hc : c < t) (m : List Float) (l l′ : List ℕ) (lists : b + t ≤ length l)
+    (f : Pivot) (hf : f ≡ factorPivot t c (part a (t * t) m)) where
+  lists-here : listStart N t k k + t ≤ length l
+  lists-here = rw (← hb) lists
+
+  pivot-is : f ≡ factorPivot t c (part (tileStart N t k k) (t * t) m)
+  pivot-is = hf ∙ rw ha
+
+  -- a pivot of zero: nothing is computed
+  pub factor-skips : (mark : ℕ) → isZero (f .magnitude) ≡ true → l′ ≡ set l (b + c) c → mark ≡ cond (eqb (suc c) t) done taken
+      → record { left = record { matrix = m; lists = l′ }; mark = mark } ≡ columnEnds (plan N t) (T-1 k) c (record { matrix = m; lists = l })
+  unfolding plan sound every
+  factor-skips mark z e q =
+      let zero = rw pivot-is at z in
+      ends-sound (plan N t) (T-1 k) c (record { matrix = m; lists = l }) (record { matrix = m; lists = l′ }) mark
+      (rw (e, hb) (sym (factor-skipped N t c m l k hc lists-here zero))) (ap (every finite) (factor-none N t c m l k zero)) q
+
+  module _ (y : ℕ) (room : a + t * t ≤ length m) (nz : isZero (f .magnitude) ≡ false) (hy : y ≡ c + f .place) (hl : l′ ≡ set l (b + c) y)
+      (after : List Float) (answer : Bool) (p : TileFactored t c y a m after answer) where
+    some : isZero (factorPivot t c (part (tileStart N t k k) (t * t) m) .magnitude) ≡ false
+    some = rw pivot-is at nz
+
+    row-is : c + factorPivot t c (part (tileStart N t k k) (t * t) m) .place ≡ y
+    row-is = rw (← pivot-is) (sym hy)
+
+    factor-sound : answer ≡ sound (plan N t) (T-1 k) c (record { matrix = m; lists = l })
+    unfolding sound
+    factor-sound = p .sound ∙ rw (factor-computed N t c m l k some, row-is, ← ha)
+
+    worked-is : worked (plan N t) (T-1 k) c (record { matrix = m; lists = l }) ≡ record { matrix = withPart a (t * t) (factored t c (exchangedAt t c y a m)) m; lists = l′ }
+    worked-is = factor-worked N t c m l k hc lists-here some ∙ rw (row-is, ← ha, ← hb, ← hl)
+
+    pub factor-ends : (mark : ℕ) → answer ≡ true → mark ≡ cond (eqb (suc c) t) done taken
+        → record { left = record { matrix = after; lists = l′ }; mark = mark } ≡ columnEnds (plan N t) (T-1 k) c (record { matrix = m; lists = l })
+    unfolding plan
+    factor-ends mark h q =
+        ends-sound (plan N t) (T-1 k) c (record { matrix = m; lists = l }) (record { matrix = after; lists = l′ }) mark
+        (ap (λ (x : List Float). record { matrix = x; lists = l′ }) (p .whole h) ∙ sym worked-is) (sym factor-sound ∙ h) q
+
+    pub factor-fails : (last : List Float) (l″ : List ℕ) → answer ≡ false → last ≡ withPart a (t * t) (zeros (t * t)) after → l″ ≡ withPart b t (replicate t 0) l′
+        → record { left = record { matrix = last; lists = l″ }; mark = failed } ≡ columnEnds (plan N t) (T-1 k) c (record { matrix = m; lists = l })
+    factor-fails last l″ h q q′ =
+        let n = t * t in
+        let stopped : withPart a n (zeros n) after ≡ withPart a n (zeros n) m =
+          ap (withPart a n (zeros n)) (p .frame) ∙ put-put n nan a m (part a n after) (record { whole = length-part a n after (rw (p .long) room); room = room }) (zeros n) in
+        let whole = put-put n nan a m (factored t c (exchangedAt t c y a m)) (record { whole = length-factored t c _; room = room }) (zeros n) in
+        ends-failed (plan N t) (T-1 k) c (record { matrix = m; lists = l }) (record { matrix = last; lists = l″ })
+        (rw (worked-is, factor-filled N t, ← ha, ← hb, ← q′) (ap (λ (x : List Float). record { matrix = x; lists = l″ }) (q ∙ stopped ∙ sym whole)))
+        (sym factor-sound ∙ h)
+
+-- ---- T-3: f is the pivot found in the tiles at u and d
+
+module _ (N t k i c u d b : ℕ) (hu : u ≡ tileStart N t k k) (hd : d ≡ tileStart N t i k) (hb : b ≡ listStart N t i k) (hc : c < t) (m : List Float) (l l′ : List ℕ)
+    (lists : b + t ≤ length l) (f : Pivot) (hf : f ≡ couplePivot t c (part u (t * t) m) (part d (t * t) m)) where
+  list-here : listStart N t i k + t ≤ length l
+  list-here = rw (← hb) lists
+
+  found-is : f ≡ couplePivot t c (part (tileStart N t k k) (t * t) m) (part (tileStart N t i k) (t * t) m)
+  found-is = hf ∙ rw (hu, hd)
+
+  pub couple-skips : (mark : ℕ) → isZero (f .magnitude) ≡ true → l′ ≡ set l (b + c) 0 → mark ≡ cond (eqb (suc c) t) done taken
+      → record { left = record { matrix = m; lists = l′ }; mark = mark } ≡ columnEnds (plan N t) (T-3 k i) c (record { matrix = m; lists = l })
+  unfolding plan sound every
+  couple-skips mark z e q =
+      let zero = rw found-is at z in
+      ends-sound (plan N t) (T-3 k i) c (record { matrix = m; lists = l }) (record { matrix = m; lists = l′ }) mark
+      (rw (e, hb) (sym (couple-skipped N t c m l k i hc list-here zero))) (ap (every finite) (couple-none N t c m l k i zero)) q
+
+  module _ (e : ℕ) (ru : u + t * t ≤ length m) (rd : d + t * t ≤ length m) (apart : Apart (t * t) u d)
+      (nz : isZero (f .magnitude) ≡ false) (he : e ≡ f .place) (hl : l′ ≡ set l (b + c) e)
+      (after : List Float) (answer : Bool) (p : TilesCoupled t c e u d m after answer) where
+    found : isZero (couplePivot t c (part (tileStart N t k k) (t * t) m) (part (tileStart N t i k) (t * t) m) .magnitude) ≡ false
+    found = rw found-is at nz
+
+    entry-is : e ≡ couplePivot t c (part (tileStart N t k k) (t * t) m) (part (tileStart N t i k) (t * t) m) .place
+    entry-is = rw (← found-is) he
+
+    couple-sound : answer ≡ sound (plan N t) (T-3 k i) c (record { matrix = m; lists = l })
+    unfolding sound
+    couple-sound = p .sound ∙ rw (hu, hd) (ap (every finite) (sym (couple-computed N t c m l k i found e entry-is)))
+
+    coupled-is : worked (plan N t) (T-3 k i) c (record { matrix = m; lists = l })
+        ≡ record { matrix = withTwo (t * t) u d (upperAt t t c c e u d m) (eliminatedRows t t c (at t (upperAt t t c c e u d m) c) (lowerAt t t c c e u d m)) m; lists = l′ }
+    coupled-is = couple-worked N t c m l k i hc list-here found e entry-is ∙ rw (hl, hu, hd, hb)
+
+    pub couple-ends : (mark : ℕ) → answer ≡ true → mark ≡ cond (eqb (suc c) t) done taken
+        → record { left = record { matrix = after; lists = l′ }; mark = mark } ≡ columnEnds (plan N t) (T-3 k i) c (record { matrix = m; lists = l })
+    unfolding plan
+    couple-ends mark h q =
+        ends-sound (plan N t) (T-3 k i) c (record { matrix = m; lists = l }) (record { matrix = after; lists = l′ }) mark
+        (ap (λ (x : List Float). record { matrix = x; lists = l′ }) (p .whole h) ∙ sym coupled-is) (sym couple-sound ∙ h) q
+
+    pub couple-fails : (half last : List Float) (l″ : List ℕ) → answer ≡ false → half ≡ withPart d (t * t) (zeros (t * t)) after
+        → last ≡ withPart u (t * t) (upperZeroed t (part u (t * t) half)) half → l″ ≡ withPart b t (replicate t 0) l′
+        → record { left = record { matrix = last; lists = l″ }; mark = failed } ≡ columnEnds (plan N t) (T-3 k i) c (record { matrix = m; lists = l })
+    couple-fails half last l″ h q q′ q″ =
+        let n = t * t in
+        let x = upperAt t t c c e u d m in
+        let long = length-upper t t c c e u d m in
+        let stopped = ap (withPart d n (zeros n)) (p .frame) ∙ put-lower n u d m apart ru rd x (part d n after) long (length-part d n after (rw (p .long) rd)) (zeros n) (length-zeros n) in
+        let whole = put-lower n u d m apart ru rd x (eliminatedRows t t c (at t x c) (lowerAt t t c c e u d m)) long (length-eliminated t t c _ _) (zeros n) (length-zeros n) in
+        ends-failed (plan N t) (T-3 k i) c (record { matrix = m; lists = l }) (record { matrix = last; lists = l″ })
+        (rw (coupled-is, couple-filled N t, ← hu, ← hd, ← hb, ← q″, whole)
+        (ap (λ (y : List Float). record { matrix = y; lists = l″ }) (q′ ∙ ap (λ (y : List Float). withPart u n (upperZeroed t (part u n y)) y) (q ∙ stopped))))
+        (sym couple-sound ∙ h)

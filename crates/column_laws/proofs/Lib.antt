@@ -1,0 +1,15 @@
+pub mod Nested
+pub mod Rows
+pub mod Computes
+pub mod Exchanges
+pub mod Finite
+pub mod Updates
+pub mod Eliminates
+pub mod Two
+pub mod Pairs
+pub mod Permutes
+pub mod Pivots
+pub mod Places
+pub mod Worked
+pub mod Ends
+pub mod Touched

@@ -1,0 +1,189 @@
+-- Rows of the flat matrix updated, or a pivot row eliminated from them: what that makes of the tile that they stand in. Assumes nothing.
+use mathlib.Core.Path.{_≡_, refl, sym, _∙_, ap}
+use mathlib.Core.Logic.{_⊎_, inl, inr, ⊎-elim}
+use mathlib.Core.Bool.{Bool, true, false, cond, _&&_}
+use mathlib.Core.List.{List, _∷_, map}
+use Prim.Native.Nat.{ℕ, zero, suc, _+_, _-_, _*_, _<_, _≤_, compare, Ordering, Ordering·lt, Ordering·eq, Ordering·gt}
+use native.Mathlib.Nat.{zero-add, sub-zero, mul-le-mul-right}
+use native.Mathlib.Numerals.{add-one}
+use native.Mathlib.Omega.{arith}
+use lib.Dec.{eqb, ltb, leb, isLe, isEq}
+use lib.ListN.{length, getD}
+use lib.Seq.{ext-getD}
+use lib.Ieee.{Float, nan}
+use borrow.Author.Tests.{eqb-true, eqb-false, leb-true, leb-false, ltb-true, ltb-false, eq-eqb, ne-eqb, le-leb, lt-leb, lt-ltb, le-ltb}
+use Rattle.model.specs.Lists.{run, below, every, joined, part, withPart}
+use Rattle.model.specs.Num.{finite, update, updateComputes, quotient}
+use Rattle.model.specs.Tile.{at, block}
+use Rattle.model.specs.Column.{beyond, sides, eliminated, eliminationComputes, rowComputes}
+use Rattle.kernel.specs.Flat.{ColumnDivided, RowsUpdated, updatedRows, rowsCompute}
+use Rattle.laws.proofs.Tests.{Order, less, equal, more, order, never}
+use Rattle.laws.proofs.Blocks.{length-block, block-unique, block-cong, at-block, in-block, column-same}
+use Rattle.laws.proofs.Parts.{Fits, length-put, get-in, get-before, get-after, part-put, put-put}
+use Rattle.column_laws.specs.Steps.{RowsApplied, applied, appliedComputes, RowsEliminated, eliminatedRows, eliminatedComputes}
+use Rattle.column_laws.proofs.Nested.{length-part, get-part, part-in, put-in}
+use Rattle.column_laws.proofs.Rows.{row-room}
+use Rattle.column_laws.proofs.Computes.{every-joined}
+
+-- ---- comparisons
+
+module _ (q c : ℕ) where
+  less-by : q < c → (o : Ordering) → compare q c ≡ o → o ≡ Ordering·lt
+  less-by h Ordering·lt e = refl
+  less-by h Ordering·eq e = absurd (let p = eqb-true q c (ap isEq e) in omega arith)
+  less-by h Ordering·gt e = absurd (let p = leb-false q c (ap isLe e) in omega arith)
+
+  pub compare-less : q < c → compare q c ≡ Ordering·lt
+  compare-less h = less-by h (compare q c) refl
+
+  equal-by : q ≡ c → (o : Ordering) → compare q c ≡ o → o ≡ Ordering·eq
+  equal-by h Ordering·lt e = absurd (eqb-false q c (ap isEq e) h)
+  equal-by h Ordering·eq e = refl
+  equal-by h Ordering·gt e = absurd (eqb-false q c (ap isEq e) h)
+
+  pub compare-equal : q ≡ c → compare q c ≡ Ordering·eq
+  compare-equal h = equal-by h (compare q c) refl
+
+  more-by : c < q → (o : Ordering) → compare q c ≡ o → o ≡ Ordering·gt
+  more-by h Ordering·lt e = absurd (let p = leb-true q c (ap isLe e) in omega arith)
+  more-by h Ordering·eq e = absurd (let p = leb-true q c (ap isLe e) in omega arith)
+  more-by h Ordering·gt e = refl
+
+  pub compare-more : c < q → compare q c ≡ Ordering·gt
+  compare-more h = more-by h (compare q c) refl
+
+-- ---- the rows below row c of the tile at a: k rows, from s on
+
+-- an element of a tile is an element of the matrix
+pub at-part : (t w a : ℕ) (m : List Float) (r q : ℕ) → a + t * w ≤ length m → r < t → q < w → at w (part a (t * w) m) r q ≡ getD m (a + (r * w + q)) nan
+unfolding at
+at-part t w a m r q room hr hq = get-part a (t * w) m room nan (r * w + q) (in-block t w r q hr hq)
+
+pub get-row : (t w a c top : ℕ) (m : List Float) (q : ℕ) → a + t * w ≤ length m → c < t → top ≡ a + c * w → q < w → getD m (top + q) nan ≡ at w (part a (t * w) m) c q
+get-row t w a c top m q room hc e hq =
+    let i : top + q ≡ a + (c * w + q) = omega arith in
+    ap (λ (x : ℕ). getD m x nan) i ∙ sym (at-part t w a m c q room hc hq)
+
+module _ (t w c k a s : ℕ) (m : List Float) (room : a + t * w ≤ length m) (ends : suc c + k ≡ t) (start : s ≡ a + suc c * w) where
+  tile : List Float
+  tile = part a (t * w) m
+
+  split : suc c * w + k * w ≡ t * w
+  split = omega (arith, ap (λ (i : ℕ). i * w) ends)
+
+  pub rows-room : s + k * w ≤ length m
+  rows-room = omega (arith, split)
+
+  pub at-rows : (i q : ℕ) → i < k → q < w → at w (part s (k * w) m) i q ≡ at w (part a (t * w) m) (suc c + i) q
+  at-rows i q hi hq =
+      let e : s + (i * w + q) ≡ a + ((suc c + i) * w + q) = omega arith in
+      at-part k w s m i q rows-room hi hq ∙ ap (λ (x : ℕ). getD m x nan) e ∙ sym (at-part t w a m (suc c + i) q room (omega arith) hq)
+
+  module _ (g : ℕ → ℕ → Float) where
+    fits : length (part a (t * w) m) ≡ t * w → Fits (k * w) (suc c * w) (part a (t * w) m) (block k w g)
+    fits e = record { whole = length-block k w g; room = rw e (omega (arith, split)) }
+
+    put-by : (r q : ℕ) → r < t → q < w → (b : Bool) → leb r c ≡ b
+        → at w (withPart (suc c * w) (k * w) (block k w g) tile) r q ≡ cond b (at w tile r q) (g (r - suc c) q)
+    unfolding at tile
+    put-by r q hr hq true e =
+        let h : suc r ≤ suc c = (let l = leb-true r c e in omega arith) in
+        get-before (k * w) nan (suc c * w) tile (block k w g) (fits (length-part a (t * w) m room)) (r * w + q) (omega (arith, mul-le-mul-right w h))
+    put-by r q hr hq false e =
+        let l : c < r = leb-false r c e in
+        let x : ℕ = r - suc c in
+        let p : suc c + x ≡ r = omega arith in
+        let i : r * w + q ≡ suc c * w + (x * w + q) = omega (arith, ap (λ (j : ℕ). j * w) p) in
+        ap (λ (j : ℕ). getD (withPart (suc c * w) (k * w) (block k w g) tile) j nan) i
+        ∙ get-in (k * w) nan (suc c * w) tile (block k w g) (fits (length-part a (t * w) m room)) (x * w + q) (in-block k w x q (omega arith) hq)
+        ∙ at-block k w g x q (omega arith) hq
+
+    pub put-rows : withPart s (k * w) (block k w g) m ≡ withPart a (t * w) (block t w (λ r q. cond (leb r c) (at w (part a (t * w) m) r q) (g (r - suc c) q))) m
+    unfolding tile
+    put-rows =
+        rw (start, put-in a (t * w) m room (suc c * w) (k * w) (omega (arith, split)) (block k w g))
+        (ap (λ (b : List Float). withPart a (t * w) b m)
+        (block-unique t w (λ r q. cond (leb r c) (at w tile r q) (g (r - suc c) q)) (withPart (suc c * w) (k * w) (block k w g) tile)
+        (length-put (k * w) nan (suc c * w) tile (block k w g) (fits (length-part a (t * w) m room)) ∙ length-part a (t * w) m room)
+        (λ r q hr hq. put-by r q hr hq (leb r c) refl)))
+
+  -- what is changed only in these rows is changed only in the tile
+  pub frame-rows : (after ys : List Float) → length ys ≡ k * w → after ≡ withPart s (k * w) ys m → after ≡ withPart a (t * w) (part a (t * w) after) m
+  unfolding tile
+  frame-rows after ys long e =
+      let whole : length tile ≡ t * w = length-part a (t * w) m room in
+      let b : List Float = withPart (suc c * w) (k * w) ys tile in
+      let f : Fits (k * w) (suc c * w) tile ys = record { whole = long; room = rw whole (omega (arith, split)) } in
+      let g : Fits (t * w) a m b = record { whole = length-put (k * w) nan (suc c * w) tile ys f ∙ whole; room = room } in
+      let p : after ≡ withPart a (t * w) b m = e ∙ rw (start, put-in a (t * w) m room (suc c * w) (k * w) (omega (arith, split)) ys) in
+      let q : part a (t * w) after ≡ b = rw p (part-put (t * w) nan a m b g) in
+      p ∙ ap (λ (x : List Float). withPart a (t * w) x m) (sym q)
+
+-- ---- the numbers that a row's update computes
+
+pub row-finite : (f n : ℕ) (x y : Float) (u v d e : ℕ → Float) → x ≡ y → ((q : ℕ) → f ≤ q → q < f + n → u q ≡ v q) → ((q : ℕ) → f ≤ q → q < f + n → d q ≡ e q)
+    → every finite (joined (map (λ q. updateComputes (d q) x (u q)) (run f n))) ≡ every finite (joined (map (λ q. updateComputes (e q) y (v q)) (run f n)))
+row-finite f n x y u v d e hx hu hd =
+    every-joined finite (λ q. updateComputes (d q) x (u q)) (λ q. updateComputes (e q) y (v q)) f f n
+    (λ i h. rw (hx, hu (f + i) (omega arith) (omega arith), hd (f + i) (omega arith) (omega arith)))
+
+-- ---- T-2: the rows below row c updated by row c
+
+module _ (t w c k a s top : ℕ) (m : List Float) (room : a + t * w ≤ length m) (ends : suc c + k ≡ t) (start : s ≡ a + suc c * w) (first : top ≡ a + c * w)
+    (l after : List Float) (answer : Bool) (long : length after ≡ length m)
+    (r : RowsUpdated k w 0 s (λ i. getD l i nan) (λ q. getD m (top + q) nan) m after answer) where
+  l′ : ℕ → Float
+  l′ i = getD l (i - suc c) nan
+
+  back : (i : ℕ) → l′ (suc c + i) ≡ getD l i nan
+  unfolding l′
+  back i = let e : suc c + i - suc c ≡ i = omega arith in rw e
+
+  sound-row : (i : ℕ) → i < k
+      → every finite (joined (map (λ q. updateComputes (at w (part s (k * w) m) i q) (getD l i nan) (getD m (top + q) nan)) (run 0 (w - 0))))
+      ≡ every finite (rowComputes w (l′ (suc c + i)) (at w (part a (t * w) m) c) (at w (part a (t * w) m) (suc c + i)))
+  unfolding rowComputes below
+  sound-row i h =
+      rw (sub-zero w)
+      (row-finite 0 w (getD l i nan) (l′ (suc c + i)) (λ q. getD m (top + q) nan) (at w (part a (t * w) m) c) (at w (part s (k * w) m) i) (at w (part a (t * w) m) (suc c + i))
+      (sym (back i))
+      (λ q hf hq. get-row t w a c top m q room (omega arith) first (omega arith))
+      (λ q hf hq. at-rows t w c k a s m room ends start i q h (omega arith)))
+
+  applied-sound : every finite (rowsCompute k w 0 (λ i. getD l i nan) (λ q. getD m (top + q) nan) (part s (k * w) m)) ≡ every finite (appliedComputes t w c l′ (part a (t * w) m))
+  unfolding rowsCompute appliedComputes beyond below
+  applied-sound =
+      let e : t - suc c ≡ k = omega arith in
+      rw e
+      (every-joined finite
+      (λ i. joined (map (λ q. updateComputes (at w (part s (k * w) m) i q) (getD l i nan) (getD m (top + q) nan)) (run 0 (w - 0))))
+      (λ i. rowComputes w (l′ i) (at w (part a (t * w) m) c) (at w (part a (t * w) m) i)) 0 (suc c) k
+      (λ i h. rw (zero-add i) (sound-row i h)))
+
+  applied-at : (i q : ℕ) → i < t → q < w → (b : Bool) → leb i c ≡ b
+      → cond b (at w (part a (t * w) m) i q)
+      (cond (ltb q 0) (at w (part s (k * w) m) (i - suc c) q) (update (at w (part s (k * w) m) (i - suc c) q) (getD l (i - suc c) nan) (getD m (top + q) nan)))
+      ≡ cond b (at w (part a (t * w) m) i q) (update (at w (part a (t * w) m) i q) (l′ i) (at w (part a (t * w) m) c q))
+  unfolding l′
+  applied-at i q hi hq true e = refl
+  applied-at i q hi hq false e =
+      let h : c < i = leb-false i c e in
+      let p : suc c + (i - suc c) ≡ i = omega arith in
+      rw (le-ltb q 0 (omega arith), at-rows t w c k a s m room ends start (i - suc c) q (omega arith) hq, p, get-row t w a c top m q room (omega arith) first hq)
+
+  applied-whole : withPart s (k * w) (updatedRows k w 0 (λ i. getD l i nan) (λ q. getD m (top + q) nan) (part s (k * w) m)) m ≡ withPart a (t * w) (applied t w c l′ (part a (t * w) m)) m
+  unfolding updatedRows applied
+  applied-whole =
+      put-rows t w c k a s m room ends start
+      (λ i q. cond (ltb q 0) (at w (part s (k * w) m) i q) (update (at w (part s (k * w) m) i q) (getD l i nan) (getD m (top + q) nan)))
+      ∙ ap (λ (b : List Float). withPart a (t * w) b m) (block-cong t w _ _ (λ i q hi hq. applied-at i q hi hq (leb i c) refl))
+
+  pub rows-applied : RowsApplied t w c a (λ i. getD l (i - suc c) nan) m after answer
+  unfolding l′
+  rows-applied = record {
+    long = long;
+    sound = r .sound ∙ applied-sound;
+    whole = λ e. r .whole e ∙ applied-whole;
+    frame = frame-rows t w c k a s m room ends start after (part s (k * w) after)
+      (length-part s (k * w) after (rw long (rows-room t w c k a s m room ends start))) (r .frame);
+  }

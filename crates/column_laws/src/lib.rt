@@ -1,0 +1,1 @@
+// Laws of the columns on a flat matrix: from parts of the matrix to the definitions on tiles. Proofs only.

@@ -1,0 +1,58 @@
+// Where tiles and row lists stand in the lent slices, and how a column ends.
+ghost use mathlib.Core.Path.{_≡_};
+ghost use mathlib.Core.Bool.{cond};
+ghost use Prim.Native.Nat.{suc, _*_, _<_, _≤_};
+ghost use lib.Dec.{eqb};
+ghost use lib.ListN.{length};
+ghost use Rattle.model.specs.Buffer.{markOf, tile as tileOf};
+ghost use Rattle.model.specs.Links.{taken, done};
+ghost use Rattle.column_laws.specs.Steps.{tileStart, listStart};
+use model::ColumnEnd;
+use model::Sizes;
+
+// Where tile (i,j) starts in the matrix.
+pub fn tile_start(n: usize, t: usize, i: usize, j: usize) -> usize
+    requires { ⌜ (n ≤ 16) × (t ≤ 16) × (i < n) × (j < n) ⌝ }
+    ensures { λ r. ⌜ r ≡ tileStart n t i j ⌝ }
+{
+    (i * n + j) * (t * t)
+}
+
+// Where row list (i,j) starts in the lists.
+pub fn list_start(n: usize, t: usize, i: usize, j: usize) -> usize
+    requires { ⌜ (n ≤ 16) × (t ≤ 16) × (i < n) × (j < n) ⌝ }
+    ensures { λ r. ⌜ r ≡ listStart n t i j ⌝ }
+{
+    (i * n + j) * t
+}
+
+// The t² numbers of tile (i,j).
+pub fn tile(matrix: &[f64], z: Sizes, i: usize, j: usize) -> &[f64]
+    requires { ⌜ (z .tiles ≤ 16) × (z .side ≤ 16) × (i < z .tiles) × (j < z .tiles) × (length (now matrix) ≡ z .tiles * z .side * (z .tiles * z .side)) ⌝ }
+    ensures { λ r. ⌜ now r ≡ tileOf (z .tiles) (z .side) (now (matrix .entry)) i j ⌝ }
+{
+    let n = z.tiles;
+    let t = z.side;
+    let s = t * t;
+    let a = tile_start(n, t, i, j);
+    &matrix[a..a + s]
+}
+
+// How column c of a task that did not fail ends: the task is done after column t - 1.
+pub fn ended(t: usize, c: usize) -> ColumnEnd
+    requires { ⌜ c < t ⌝ }
+    ensures { λ r. ⌜ markOf r ≡ cond (eqb (suc c) t) done taken ⌝ }
+{
+    if c + 1 == t {
+        ColumnEnd::Done
+    } else {
+        ColumnEnd::GoesOn
+    }
+}
+
+// A list entry as an index.
+pub fn wide(x: u8) -> usize
+    ensures { λ r. ⌜ r ≡ x ⌝ }
+{
+    x as usize
+}

@@ -1,0 +1,119 @@
+-- A record against the one due, and refusal 4 as its four tests. Assumes nothing.
+use Prim.Native.Nat.{ℕ, zero, suc, _-_, _*_, _<_}
+use mathlib.Core.Path.{_≡_, refl, sym, ap, _∙_}
+use mathlib.Core.Logic.{_⊎_, inl, inr}
+use mathlib.Core.Bool.{Bool, true, false, not, _&&_, _||_}
+use mathlib.Core.List.{List, [], _∷_}
+use native.Mathlib.Nat.{not-suc-le-zero, le-of-suc-le-suc}
+use native.Mathlib.Omega.{arith}
+use lib.Dec.{eqb, leb, ltb}
+use lib.Ieee.{Float}
+use lib.ListN.{length, getD, take}
+use borrow.Author.Tests.{ltb-true, ltb-false, le-leb, lt-leb, eq-eqb, ne-eqb}
+use Rattle.model.specs.declared.Sizes.{Sizes}
+use Rattle.model.specs.declared.TaskRecord.{TaskRecord}
+use Rattle.model.specs.declared.Worker.{Worker}
+use Rattle.model.specs.Lists.{below, some}
+use Rattle.model.specs.Task.{tasks}
+use Rattle.model.specs.Plan.{plan, planOf}
+use Rattle.model.specs.Links.{task}
+use Rattle.model.specs.Calls.{recordOf, marksOf}
+use Rattle.model.specs.Refusal.{badRecord, badHold, badWorker, badEntry, damaged}
+use Rattle.laws.proofs.Tests.{true-or-false}
+use Rattle.records.specs.Records.{recordsFrom, blank, lent}
+use Rattle.records.proofs.Laws.{length-records}
+use Rattle.links.specs.Closed.{key, In, taskAt, offset, number}
+use Rattle.links.proofs.Numbering.{task-is}
+use Rattle.checks.specs.Checks.{recordsAlone, listsAlone, held}
+
+-- ---- records
+
+lt-as-le : (a b : ℕ) → ltb a b ≡ not (leb b a)
+lt-as-le a b = go (true-or-false (ltb a b))
+  where
+    go : (ltb a b ≡ true) ⊎ (ltb a b ≡ false) → ltb a b ≡ not (leb b a)
+    go (inl e) = rw (e, lt-leb b a (ltb-true a b e))
+    go (inr e) = rw (e, le-leb b a (ltb-false a b e))
+
+-- the record found is not the one due, or its mark exceeds 4
+abbrev pub apart : TaskRecord → TaskRecord → Bool
+apart found due =
+    not (eqb (found .kind) (due .kind) && eqb (found .k) (due .k) && eqb (found .i) (due .i) && eqb (found .j) (due .j) && leb (found .mark) 4)
+
+module _ (f d : TaskRecord) where
+  pub apart-1 : (f .kind ≡ d .kind → ⊥) → true ≡ apart f d
+  apart-1 h = rw (ne-eqb (f .kind) (d .kind) h)
+
+  module _ (a : f .kind ≡ d .kind) where
+    pub apart-2 : (f .k ≡ d .k → ⊥) → true ≡ apart f d
+    apart-2 h = rw (eq-eqb (f .kind) (d .kind) a, ne-eqb (f .k) (d .k) h)
+
+    module _ (b : f .k ≡ d .k) where
+      pub apart-3 : (f .i ≡ d .i → ⊥) → true ≡ apart f d
+      apart-3 h = rw (eq-eqb (f .kind) (d .kind) a, eq-eqb (f .k) (d .k) b, ne-eqb (f .i) (d .i) h)
+
+      module _ (c : f .i ≡ d .i) where
+        pub apart-4 : (f .j ≡ d .j → ⊥) → true ≡ apart f d
+        apart-4 h = rw (eq-eqb (f .kind) (d .kind) a, eq-eqb (f .k) (d .k) b, eq-eqb (f .i) (d .i) c, ne-eqb (f .j) (d .j) h)
+
+        pub apart-5 : f .j ≡ d .j → ltb 4 (f .mark) ≡ apart f d
+        apart-5 h = rw (eq-eqb (f .kind) (d .kind) a, eq-eqb (f .k) (d .k) b, eq-eqb (f .i) (d .i) c, eq-eqb (f .j) (d .j) h) (lt-as-le 4 (f .mark))
+
+-- in a list, what is read past its end does not matter
+pub any-default : {A : Type 0} (l : List A) (p : ℕ) (d e : A) → p < length l → getD l p d ≡ getD l p e
+any-default [] p d e h = absurd (not-suc-le-zero h)
+any-default (x ∷ l) zero d e h = refl
+any-default (x ∷ l) (suc p) d e h = any-default l p d e (le-of-suc-le-suc h)
+
+-- the task with the number p is that of its triple, so the record due is that triple's
+pub record-bad : (z : Sizes) (r : List (List ℕ)) (p k i j : ℕ) → p < length r → In (z .tiles) (key k i j) → number (z .tiles) (key k i j) ≡ p
+    → (found due : TaskRecord) → found ≡ getD (recordsFrom r) p blank → due ≡ recordOf (taskAt (key k i j))
+    → (v : Bool) → v ≡ apart found due → v ≡ badRecord (planOf z) (recordsAlone r) p
+unfolding badRecord lent plan recordOf
+record-bad z r p k i j h w n found due f d v e =
+    let a : task (tasks (z .tiles)) p ≡ taskAt (key k i j) = rw n at (task-is (z .tiles) (key k i j) w) in
+    let due-is : due ≡ recordOf (task (tasks (z .tiles)) p) = d ∙ ap recordOf (sym a) in
+    let found-is : found ≡ getD (recordsFrom r) p (recordOf (task (tasks (z .tiles)) p)) =
+    f ∙ any-default (recordsFrom r) p blank (recordOf (task (tasks (z .tiles)) p)) (rw length-records h) in
+    e ∙ ap (λ x. apart x due) found-is ∙ ap (apart (getD (recordsFrom r) p (recordOf (task (tasks (z .tiles)) p)))) due-is
+
+-- the triple of task 0
+pub number-first : (N : ℕ) → number N (key 0 0 0) ≡ 0
+unfolding number offset
+number-first N = let z : 0 - 0 ≡ 0 = refl in omega arith
+
+-- ---- all of it
+
+module _ (z : Sizes) (m : List Float) (l : List ℕ) (r : List (List ℕ)) (h : List Worker) where
+  abbrev W : ℕ
+  W = z .workers
+
+  abbrev pub records : Bool
+  records = some (badRecord (planOf z) (recordsAlone r)) (below (length (tasks (z .tiles))))
+
+  abbrev pub holdings : Bool
+  holdings = some (badHold (planOf z) (held r h W)) (below (length (tasks (z .tiles))))
+
+  abbrev pub crew : Bool
+  crew = some (badWorker (planOf z) (recordsAlone r)) (take W h)
+
+  abbrev pub entries : Bool
+  entries = some (badEntry (planOf z) (listsAlone l)) (below (z .tiles * z .tiles * z .side))
+
+  parts : damaged (planOf z) (lent m l r h W) ≡ (((records || holdings) || crew) || entries)
+  unfolding damaged badRecord badHold badWorker badEntry lent plan marksOf
+  parts = refl
+
+  pub damaged-1 : (a : Bool) → a ≡ records → a ≡ true → true ≡ damaged (planOf z) (lent m l r h W)
+  damaged-1 a e q = rw (parts, sym e ∙ q)
+
+  module _ (a : Bool) (e : a ≡ records) (q : a ≡ false) where
+    pub damaged-2 : (b : Bool) → b ≡ holdings → b ≡ true → true ≡ damaged (planOf z) (lent m l r h W)
+    damaged-2 b f p = rw (parts, sym e ∙ q, sym f ∙ p)
+
+    module _ (b : Bool) (f : b ≡ holdings) (p : b ≡ false) where
+      pub damaged-3 : (c : Bool) → c ≡ crew → c ≡ true → true ≡ damaged (planOf z) (lent m l r h W)
+      damaged-3 c g o = rw (parts, sym e ∙ q, sym f ∙ p, sym g ∙ o)
+
+      pub damaged-4 : (c d : Bool) → c ≡ crew → c ≡ false → d ≡ entries → d ≡ damaged (planOf z) (lent m l r h W)
+      damaged-4 c d g o i = rw (parts, sym e ∙ q, sym f ∙ p, sym g ∙ o) i

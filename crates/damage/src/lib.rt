@@ -1,0 +1,79 @@
+// Refusal 4 but for elements: records, what the workers hold, and list entries.
+ghost use mathlib.Core.Path.{_≡_};
+ghost use mathlib.Core.Bool.{_&&_, not};
+ghost use mathlib.Core.List.{List};
+ghost use lib.Dec.{eqb, leb};
+ghost use lib.Ieee.{Float};
+ghost use lib.ListN.{length};
+ghost use Rattle.model.specs.Lists.{below, some};
+ghost use Rattle.model.specs.Task.{tasks};
+ghost use Rattle.model.specs.Plan.{planOf};
+ghost use Rattle.model.specs.Refusal.{badRecord, damaged as isDamaged};
+ghost use Rattle.records.specs.Records.{lent};
+ghost use Rattle.checks.specs.Checks.{Sized, RecordsFit, ListsFit, recordsAlone};
+use entries::bad_entries;
+use model::Sizes;
+use model::TaskRecord;
+use model::Worker;
+use numbering::Triple;
+use numbering::next;
+use numbering::record_of;
+use numbering::task_count;
+use records::record_at;
+use workers::bad_holds;
+use workers::bad_workers;
+
+// Whether a record differs from the one due in more than its mark, or its mark exceeds 4.
+fn differs(found: TaskRecord, due: TaskRecord) -> bool
+    ensures { λ r. ⌜ r ≡ not (eqb (found .kind) (due .kind) && eqb (found .k) (due .k) && eqb (found .i) (due .i) && eqb (found .j) (due .j) && leb (found .mark) 4) ⌝ }
+{
+    if found.kind != due.kind {
+        return true;
+    }
+    if found.k != due.k {
+        return true;
+    }
+    if found.i != due.i {
+        return true;
+    }
+    if found.j != due.j {
+        return true;
+    }
+    4 < found.mark
+}
+
+// Whether a record's task differs from the numbering, or a mark exceeds 4.
+fn bad_records(z: Sizes, records: &[[u8; 5]]) -> bool
+    requires { ⌜ Sized z × RecordsFit z (now records) ⌝ }
+    ensures { λ r. ⌜ r ≡ some (badRecord (planOf z) (recordsAlone (now (records .entry)))) (below (length (tasks (z .tiles)))) ⌝ }
+{
+    let count = task_count(z.tiles);
+    let mut a = Triple { k: 0, i: 0, j: 0 };
+    let mut p = 0;
+    while p < count {
+        let due = record_of(a);
+        if differs(record_at(records, p), due) {
+            return true;
+        }
+        a = next(z.tiles as u8, a);
+        p += 1;
+    }
+    false
+}
+
+// Whether what is lent is damaged, by refusal 4 but for elements.
+pub fn damaged(z: Sizes, lists: &[u8], records: &[[u8; 5]], workers: [Worker; 32]) -> bool
+    requires { ⌜ Sized z × ListsFit z (now lists) × RecordsFit z (now records) ⌝ }
+    ensures { λ r. ⌜ ((matrix : List Float) → r ≡ isDamaged (planOf z) (lent matrix (now (lists .entry)) (now (records .entry)) workers (z .workers))) ⌝ }
+{
+    if bad_records(z, records) {
+        return true;
+    }
+    if bad_holds(z, records, workers) {
+        return true;
+    }
+    if bad_workers(z, records, workers) {
+        return true;
+    }
+    bad_entries(z, lists)
+}

@@ -1,0 +1,167 @@
+-- The checks of refusals 2 and 4 as facts, each way: lengths, records, and who holds what.
+-- Assumes nothing.
+use Prim.Native.Nat.{ℕ, _*_, _<_}
+use mathlib.Core.Bool.{Bool, true, false, not, _&&_}
+use mathlib.Core.Path.{_≡_, refl, sym, ap, _∙_, subst}
+use mathlib.Core.List.{List}
+use native.Mathlib.Nat.{mul-mul-mul-comm}
+use native.Mathlib.Omega.{arith}
+use lib.Dec.{eqb, leb, ltb}
+use lib.ListN.{length, getD}
+use borrow.Author.Tests.{eqb-true, eq-eqb, ltb-true, lt-ltb, leb-true, le-leb, not-false}
+use Rattle.model.specs.declared.Sizes.{Sizes}
+use Rattle.model.specs.declared.Answer.{Answer}
+use Rattle.model.specs.declared.Answer.the-variants.{Accepted, Refused}
+use Rattle.model.specs.Lists.{run, below, some, keep}
+use Rattle.model.specs.Task.{Task, T-1, tasks, kindOf, kOf, iOf, jOf}
+use Rattle.model.specs.Plan.{plan, planOf, order}
+use Rattle.model.specs.Links.{task, mark}
+use Rattle.model.specs.Calls.{Lent, marksOf, recordOf, idle, worker}
+use Rattle.model.specs.Refusal.{refuse, replied, holds, badLengths, badRecord, badHold, badWorker}
+use Rattle.laws.proofs.Tests.{never, and-left, and-right, and-intro, false-if}
+use Rattle.demand.proofs.Members.{Member, some-intro, run-member}
+use Rattle.demand.proofs.Elements.{getD-any}
+use Rattle.demand.proofs.Single.{Single, single-kept, kept-single}
+use Rattle.demand.proofs.Machine.{count, Stated}
+use Rattle.demand.proofs.Whole.{Recorded, AtWork}
+
+-- ---- a chain of refusals
+
+pub passed : (n x : ℕ) (b : Bool) (r : Answer) → refuse n x b r ≡ Accepted → (b ≡ false) × (r ≡ Accepted)
+unfolding refuse
+passed n x true r e = let y : _≡_ {A = ℕ} 0 1 = cc in absurd (omega arith)
+passed n x false r e = (refl, e)
+
+pub passes : (n x : ℕ) (b : Bool) (r : Answer) → b ≡ false → r ≡ Accepted → refuse n x b r ≡ Accepted
+unfolding refuse
+passes n x true r e f = never refl e
+passes n x false r e f = f
+
+-- an accepted call leaves what it does
+pub accepted-new : (a : Answer) (old new : Lent) → a ≡ Accepted → replied a old new .left ≡ new
+unfolding replied
+accepted-new Accepted old new e = refl
+accepted-new (Refused n x) old new e = let y : _≡_ {A = ℕ} 0 1 = cc in absurd (omega arith)
+
+-- no member passes a test that none does
+pub fails : {A : Type 0} (f : A → Bool) (xs : List A) (x : A) → some f xs ≡ false → Member x xs → f x ≡ false
+fails f xs x e m = false-if (f x) (λ q. never (some-intro f xs x m q) e)
+
+pub fails-below : (f : ℕ → Bool) (n p : ℕ) → some f (below n) ≡ false → p < n → f p ≡ false
+unfolding below
+fails-below f n p e h = fails f (run 0 n) p e (run-member 0 n p (omega arith) (omega arith))
+
+-- ---- lengths
+
+pub lengths : (z : Sizes) (s : Lent) → badLengths (planOf z) (z .workers) s ≡ false → Stated z s
+unfolding badLengths plan order
+lengths z s e =
+    let m = eqb (length (s .buffers .matrix)) (z .tiles * z .side * (z .tiles * z .side)) in
+    let l = eqb (length (s .buffers .lists)) (z .tiles * z .tiles * z .side) in
+    let r = eqb (length (s .records)) (count z) in
+    let w = eqb (length (s .workers)) (z .workers) in
+    let a = not-false (m && l && r && w) e in
+    let b = and-left (m && l && r) w a in
+    let c = and-left (m && l) r b in
+    record {
+      sized = record {
+        matrix = eqb-true _ _ (and-left m l c) ∙ mul-mul-mul-comm (z .tiles) (z .side) (z .tiles) (z .side);
+        lists = eqb-true _ _
+            (and-right m l c);
+      };
+      records = eqb-true _ _ (and-right (m && l) r b);
+      workers = eqb-true _ _ (and-right (m && l && r) w a);
+    }
+
+pub good-lengths : (z : Sizes) (s : Lent) → Stated z s → badLengths (planOf z) (z .workers) s ≡ false
+unfolding badLengths plan order
+good-lengths z s g = ap not (and-intro _ _ (and-intro _ _ (and-intro _ _
+    (eq-eqb _ _ (g .sized .matrix ∙ sym (mul-mul-mul-comm (z .tiles) (z .side) (z .tiles) (z .side)))) (eq-eqb _ _ (g .sized .lists)))
+    (eq-eqb _ _ (g .records))) (eq-eqb _ _ (g .workers)))
+
+module _ (z : Sizes) (s : Lent) where
+  abbrev N : ℕ
+  N = z .tiles
+
+  abbrev t : ℕ
+  t = z .side
+
+  abbrev tk : ℕ → Task
+  tk p = task (tasks N) p
+
+  -- ---- records
+
+  pub recorded : Stated z s → (p : ℕ) → p < count z → badRecord (planOf z) s p ≡ false → Recorded (tk p) (getD (s .records) p (recordOf (T-1 0)))
+  unfolding badRecord plan
+  recorded g p h e =
+      let r = getD (s .records) p (recordOf (tk p)) in
+      let a = eqb (r .kind) (kindOf (tk p)) in
+      let b = eqb (r .k) (kOf (tk p)) in
+      let c = eqb (r .i) (iOf (tk p)) in
+      let d = eqb (r .j) (jOf (tk p)) in
+      let m = leb (r .mark) 4 in
+      let f = not-false (a && b && c && d && m) e in
+      let f₄ = and-left (a && b && c && d) m f in
+      let f₃ = and-left (a && b && c) d f₄ in
+      let f₂ = and-left (a && b) c f₃ in
+      subst (Recorded (tk p)) (getD-any (s .records) p (recordOf (tk p)) (recordOf (T-1 0)) (subst (λ (k : ℕ). p < k) (sym (g .records)) h))
+      (record {
+        kind = eqb-true _ _ (and-left a b f₂);
+        k = eqb-true _ _ (and-right a b f₂);
+        i = eqb-true _ _ (and-right (a && b) c f₃);
+        j = eqb-true _ _ (and-right (a && b && c) d f₄);
+        most = leb-true _ _ (and-right (a && b && c && d) m f);
+      })
+
+  pub good-record : Stated z s → (p : ℕ) → p < count z → Recorded (tk p) (getD (s .records) p (recordOf (T-1 0))) → badRecord (planOf z) s p ≡ false
+  unfolding badRecord plan
+  good-record g p h x =
+      let a : Recorded (tk p) (getD (s .records) p (recordOf (tk p))) = subst (Recorded (tk p))
+      (getD-any (s .records) p (recordOf (T-1 0)) (recordOf (tk p)) (subst (λ (k : ℕ). p < k) (sym (g .records)) h)) x in
+      ap not (and-intro _ _ (and-intro _ _ (and-intro _ _ (and-intro _ _ (eq-eqb _ _ (a .kind)) (eq-eqb _ _ (a .k))) (eq-eqb _ _ (a .i)))
+      (eq-eqb _ _ (a .j))) (le-leb _ _ (a .most)))
+
+  -- ---- who holds what
+
+  pub one-holder : (p : ℕ) → badHold (planOf z) s p ≡ false → mark (marksOf s) p ≡ 1 → Single (holds p) idle (s .workers)
+  unfolding badHold
+  one-holder p e m =
+      let a = eqb (mark (marksOf s) p) 1 in
+      let k = eqb (length (keep (holds p) (s .workers))) 1 in
+      kept-single (holds p) idle (s .workers) (eqb-true _ 1 (and-not a k e (eq-eqb (mark (marksOf s) p) 1 m)))
+    where
+      and-not : (a k : Bool) → (a && not k) ≡ false → a ≡ true → k ≡ true
+      and-not true k e f = not-false k e
+      and-not false k e f = never f refl
+
+  pub good-hold : (p : ℕ) → (mark (marksOf s) p ≡ 1 → Single (holds p) idle (s .workers)) → badHold (planOf z) s p ≡ false
+  unfolding badHold
+  good-hold p h = go (eqb (mark (marksOf s) p) 1) refl
+    where
+      go : (b : Bool) → eqb (mark (marksOf s) p) 1 ≡ b → (b && not (eqb (length (keep (holds p) (s .workers))) 1)) ≡ false
+      go false e = refl
+      go true e = ap not (eq-eqb _ 1 (single-kept (holds p) idle (s .workers) (h (eqb-true (mark (marksOf s) p) 1 e))))
+
+  abbrev works : ℕ → Bool
+  works w = ltb (worker s w .task) (count z) && eqb (mark (marksOf s) (worker s w .task)) 1 && ltb (worker s w .column) t
+
+  pub at-work : (w : ℕ) → badWorker (planOf z) s (worker s w) ≡ false → worker s w .busy ≡ true → AtWork z s w
+  unfolding badWorker plan
+  at-work w e b =
+      let x = ltb (worker s w .task) (count z) in
+      let y = eqb (mark (marksOf s) (worker s w .task)) 1 in
+      let v = ltb (worker s w .column) t in
+      let f : works w ≡ true = not-false (works w) (subst (λ (c : Bool). (c && not (works w)) ≡ false) b e) in
+      record {
+        task = ltb-true _ _ (and-left x y (and-left (x && y) v f));
+        mark = eqb-true _ _ (and-right x y (and-left (x && y) v f));
+        column = ltb-true _ _ (and-right (x && y) v f);
+      }
+
+  pub good-worker : (w : ℕ) → (worker s w .busy ≡ true → AtWork z s w) → badWorker (planOf z) s (worker s w) ≡ false
+  unfolding badWorker plan
+  good-worker w h = go (worker s w .busy) refl
+    where
+      go : (b : Bool) → worker s w .busy ≡ b → (b && not (works w)) ≡ false
+      go false e = refl
+      go true e = let a = h e in ap not (and-intro _ _ (and-intro _ _ (lt-ltb _ _ (a .task)) (eq-eqb _ _ (a .mark))) (lt-ltb _ _ (a .column)))

@@ -1,0 +1,117 @@
+-- A column, its test and a fill on the lent buffers are those of the system on the buffers' cells.
+-- Assumes nothing.
+use Prim.Native.Nat.{ℕ, _*_, _<_}
+use mathlib.Core.Path.{_≡_, refl, sym, ap, _∙_}
+use mathlib.Core.List.{List}
+use lib.Ieee.{Float}
+use lib.ListN.{length, replicate, length-replicate}
+use Rattle.model.specs.Lists.{every}
+use Rattle.model.specs.Num.{plusZero, finite}
+use Rattle.model.specs.Tile.{zeros}
+use Rattle.model.specs.Column.{factorColumn, factorComputes, applyColumn, applyComputes, coupleColumn, coupleComputes, pairColumn, pairComputes}
+use Rattle.model.specs.Task.{Task, T-1, T-2, T-3, T-4, tasks}
+use Rattle.model.specs.Plan.{Plan, plan}
+use Rattle.model.specs.Links.{task}
+use Rattle.model.specs.Buffer.{Buffers, tileOf, rowsOf, withTile, withRows, factorInput, coupleInput, pairInput, worked, computed, sound, fillTile, fillRows, upperFilled, fillUpper, filled}
+use Rattle.laws.proofs.Blocks.{length-block}
+use Rattle.demand.specs.Cells.{Val, tileAt, listAt, view, putTile, putFactored, putCoupled, putPaired, putZeros, factorIn, coupleIn, pairIn, workedAt, computedAt, soundAt, filledAt, system}
+use Rattle.demand.proofs.Lengths.{factor-size, apply-size, couple-size, pair-size}
+use Rattle.demand.proofs.Valid.{Valid, v₁, v₂, v₃, v₄, task-valid}
+use Rattle.demand.proofs.View.{Sized, Same, tile-cell, rows-cell, length-tile, length-rows, put-tile, put-rows}
+
+module _ (N t : ℕ) where
+  abbrev z : Plan
+  z = plan N t
+
+  -- ---- what a column gets
+
+  module _ (s : Buffers) where
+    abbrev σ : ℕ → Val
+    σ = view N t s
+
+    tile-in : (i j : ℕ) → i < N → j < N → tileOf z s i j ≡ σ (tileAt N i j) .floats
+    tile-in i j hi hj = sym (tile-cell N t s i j hi hj)
+
+    rows-in : (i j : ℕ) → rowsOf z s i j ≡ σ (listAt N i j) .bytes
+    rows-in i j = sym (rows-cell N t s i j)
+
+    factor-in : (k : ℕ) → k < N → factorInput z s k ≡ factorIn N t k σ
+    unfolding factorInput
+    factor-in k h = λ i. record { tile = tile-in k k h h i; rows = rows-in k k i }
+
+    couple-in : (k m : ℕ) → k < N → m < N → coupleInput z s k m ≡ coupleIn N t k m σ
+    unfolding coupleInput
+    couple-in k m h l = λ i. record { upper = tile-in k k h h i; lower = tile-in m k l h i; rows = rows-in m k i }
+
+    pair-in : (k m j : ℕ) → k < N → m < N → j < N → pairInput z s k m j ≡ pairIn N t k m j σ
+    unfolding pairInput
+    pair-in k m j h l f = λ i. record { upper = tile-in k j h f i; lower = tile-in m j l f i }
+
+  -- ---- what it leaves
+
+  worked-view : (a : Task) → Valid N a → (c : ℕ) (s : Buffers) → Sized N t s → Same N t (worked z a c s) (workedAt N t a c (view N t s))
+  unfolding worked workedAt plan factorInput coupleInput
+  worked-view (T-1 k) (v₁ h) c s d =
+      let n = factor-size t c (factorInput z s k) (record { tile = length-tile N t s d k k h h; rows = length-rows N t s d k k h h }) in
+      let w = put-tile N t _ _ (put-rows N t s (view N t s) (d, refl) k k h h _ (n .rows)) k k h h _ (n .tile) in
+      (w .0, w .1 ∙ (λ i. putFactored N t k (factorColumn t c (factor-in s k h i)) (view N t s)))
+  worked-view (T-2 k j) (v₂ h l m) c s d =
+      let w = put-tile N t s (view N t s) (d, refl) k j h l _ (apply-size t c t (tileOf z s k k) (rowsOf z s k k) (tileOf z s k j)) in
+      (w .0, w .1 ∙ (λ i. putTile N t k j (applyColumn t t c (tile-in s k k h h i) (rows-in s k k i) (tile-in s k j h l i)) (view N t s)))
+  worked-view (T-3 k m) (v₃ h l f) c s d =
+      let n = couple-size t c (coupleInput z s k m)
+      (record { upper = length-tile N t s d k k h h; lower = length-tile N t s d m k l h; rows = length-rows N t s d m k l h }) in
+      let w = put-tile N t _ _ (put-tile N t _ _ (put-rows N t s (view N t s) (d, refl) m k l h _ (n .rows)) m k l h _ (n .lower)) k k h h _ (n .upper) in
+      (w .0, w .1 ∙ (λ i. putCoupled N t k m (coupleColumn t c (couple-in s k m h l i)) (view N t s)))
+  worked-view (T-4 k m j) (v₄ h l f e g) c s d =
+      let n = pair-size t c t (tileOf z s m k) (rowsOf z s m k) (pairInput z s k m j) in
+      let w = put-tile N t _ _ (put-tile N t s (view N t s) (d, refl) m j l f _ (n .1)) k j h f _ (n .0) in
+      (w .0, w .1 ∙ (λ i. putPaired N t k m j (pairColumn t t c (tile-in s m k l h i) (rows-in s m k i) (pair-in s k m j h l f i)) (view N t s)))
+
+  -- ---- the numbers that it computes
+
+  computed-view : (a : Task) → Valid N a → (c : ℕ) (s : Buffers) → computed z a c s ≡ computedAt N t a c (view N t s)
+  unfolding computed computedAt plan
+  computed-view (T-1 k) (v₁ h) c s = ap (factorComputes t c) (factor-in s k h)
+  computed-view (T-2 k j) (v₂ h l m) c s = λ i. applyComputes t t c (tile-in s k k h h i) (rows-in s k k i) (tile-in s k j h l i)
+  computed-view (T-3 k m) (v₃ h l f) c s = ap (coupleComputes t c) (couple-in s k m h l)
+  computed-view (T-4 k m j) (v₄ h l f e g) c s = λ i. pairComputes t t c (tile-in s m k l h i) (rows-in s m k i) (pair-in s k m j h l f i)
+
+  sound-view : (a : Task) → Valid N a → (c : ℕ) (s : Buffers) → sound z a c s ≡ soundAt N t a c (view N t s)
+  unfolding sound soundAt
+  sound-view a v c s = ap (every finite) (computed-view a v c s)
+
+  -- ---- what a fill leaves
+
+  length-zeros : length (zeros (t * t)) ≡ t * t
+  unfolding zeros
+  length-zeros = length-replicate (t * t) plusZero
+
+  length-upper : (a : List Float) → length (upperFilled z a) ≡ t * t
+  unfolding upperFilled plan
+  length-upper a = length-block t t _
+
+  filled-view : (a : Task) → Valid N a → (s : Buffers) → Sized N t s → Same N t (filled z a s) (filledAt N t a (view N t s))
+  unfolding filled filledAt fillTile fillRows fillUpper plan
+  filled-view (T-1 k) (v₁ h) s d = put-tile N t _ _ (put-rows N t s (view N t s) (d, refl) k k h h _ (length-replicate t 0)) k k h h _ length-zeros
+  filled-view (T-2 k j) (v₂ h l m) s d = put-tile N t s (view N t s) (d, refl) k j h l _ length-zeros
+  filled-view (T-3 k m) (v₃ h l f) s d =
+      let s' : Buffers = withTile z m k (zeros (t * t)) (withRows z m k (replicate t 0) s) in
+      let σ' : ℕ → Val = putZeros N t m k (view N t s) in
+      let w : Same N t s' σ' = put-tile N t _ _ (put-rows N t s (view N t s) (d, refl) m k l h _ (length-replicate t 0)) m k l h _ length-zeros in
+      let q = put-tile N t s' σ' w k k h h (upperFilled z (tileOf z s' k k)) (length-upper _) in
+      let x : tileOf z s' k k ≡ σ' (tileAt N k k) .floats = sym (tile-cell N t s' k k h h) ∙ (λ i. w .1 i (tileAt N k k) .floats) in
+      (q .0, q .1 ∙ (λ i. putTile N t k k (upperFilled z (x i)) σ'))
+  filled-view (T-4 k m j) (v₄ h l f e g) s d = put-tile N t _ _ (put-tile N t s (view N t s) (d, refl) m j l f _ length-zeros) k j h f _ length-zeros
+
+  -- ---- the same by a task's number
+
+  module _ (p : ℕ) (h : p < length (tasks N)) (s : Buffers) (σ : ℕ → Val) (w : Same N t s σ) where
+    pub worked-same : (c : ℕ) → Same N t (worked z (task (tasks N) p) c s) (system N t .col p c σ)
+    worked-same c = let x = worked-view (task (tasks N) p) (task-valid N p h) c s (w .0) in (x .0, x .1 ∙ ap (workedAt N t (task (tasks N) p) c) (w .1))
+
+    pub filled-same : Same N t (filled z (task (tasks N) p) s) (system N t .fill p σ)
+    filled-same = let x = filled-view (task (tasks N) p) (task-valid N p h) s (w .0) in (x .0, x .1 ∙ ap (filledAt N t (task (tasks N) p)) (w .1))
+
+    pub sound-same : (c : ℕ) → sound z (task (tasks N) p) c s ≡ system N t .ok p c σ
+    sound-same c = sound-view (task (tasks N) p) (task-valid N p h) c s ∙ ap (soundAt N t (task (tasks N) p) c) (w .1)

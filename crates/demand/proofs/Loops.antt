@@ -1,0 +1,125 @@
+-- The published loops on the lent buffers are order_free's loops on their cells.
+-- Assumes nothing.
+use Prim.Native.Nat.{ℕ, zero, suc, _+_, _*_, _≤_, _<_}
+use mathlib.Core.Bool.{Bool, true, false, cond}
+use mathlib.Core.Path.{_≡_, refl, sym, ap, _∙_, subst}
+use mathlib.Core.List.{List}
+use native.Mathlib.Nat.{zero-add, add-zero, add-suc, suc-add}
+use native.Mathlib.Omega.{arith}
+use lib.Ieee.{Float}
+use lib.ListN.{length, length-set, length-replicate}
+use Rattle.model.specs.Lists.{run, below, inTurn}
+use Rattle.model.specs.Task.{Task, tasks}
+use Rattle.model.specs.Plan.{Plan, plan}
+use Rattle.model.specs.Links.{task, mark}
+use Rattle.model.specs.Links as ML
+use Rattle.model.specs.Buffer.{Buffers, Ended, worked, sound}
+use Rattle.model.specs.Loops.{State, columns, ended, performed, start}
+use Rattle.model.specs.Loops as M
+use Rattle.order_free.specs.Below.{set}
+use Rattle.order_free.specs.System.{System}
+use Rattle.order_free.specs.Graph.{Mark, spoils}
+use Rattle.order_free.specs.Graph as G
+use Rattle.order_free.specs.Loops.{Outcome, Swept, loops}
+use Rattle.order_free.specs.Loops as OL
+use Rattle.demand.specs.Cells.{Val, view, system}
+use Rattle.demand.proofs.Elements.{getD-same}
+use Rattle.demand.proofs.View.{Same}
+use Rattle.demand.proofs.Columns.{worked-same, filled-same, sound-same}
+use Rattle.demand.proofs.Marks.{toMark, marks-set}
+use Rattle.demand.proofs.Spoils.{spoils-is}
+
+-- the last of a run of numbers in turn comes last
+in-turn-last : {A : Type 0} (f : ℕ → A → A) (a n : ℕ) (s : A) → inTurn f (run a (suc n)) s ≡ f (a + n) (inTurn f (run a n) s)
+unfolding inTurn run
+in-turn-last f a zero s = ap (λ (k : ℕ). f k s) (sym (add-zero a))
+in-turn-last f a (suc n) s = in-turn-last f (suc a) n (f a s) ∙ ap (λ (k : ℕ). f k (inTurn f (run (suc a) n) (f a s))) (suc-add a n ∙ sym (add-suc a n))
+
+module _ (N t : ℕ) where
+  abbrev S : System
+  S = system N t
+
+  abbrev z : Plan
+  z = plan N t
+
+  abbrev count : ℕ
+  count = length (tasks N)
+
+  abbrev tk : ℕ → Task
+  tk p = task (tasks N) p
+
+  -- ---- a task
+
+  -- what a task or a column left in the model, and in the system
+  pub record Ends (e : Ended) (o : Outcome S) : Type 0 where
+    pub left : Same N t (e .left) (o .cells)
+    pub mark : toMark (e .mark) ≡ o .mark
+    pub begun : 1 ≤ e .mark
+    pub most : e .mark ≤ 4
+
+  pub either-ends : (b b' : Bool) → b ≡ b' → (x y : Ended) (u v : Outcome S) → Ends x u → Ends y v
+      → Ends (elim b as (λ q. Ended) [ true ↦ x | false ↦ y ]) (cond b' u v)
+  either-ends true b' e x y u v p q = subst (λ (c : Bool). Ends x (cond c u v)) e p
+  either-ends false b' e x y u v p q = subst (λ (c : Bool). Ends y (cond c u v)) e q
+
+  columns-run : (n c p : ℕ) → p < count → (s : Buffers) (σ : ℕ → Val) → Same N t s σ → Ends (columns z n c (tk p) s) (OL.run S p c n σ)
+  unfolding columns OL.run
+  columns-run zero c p h s σ w = record { left = w; mark = refl; begun = omega arith; most = omega arith }
+  columns-run (suc n) c p h s σ w =
+      let w' : Same N t (worked z (tk p) c s) (S .col p c σ) = worked-same N t p h s σ w c in
+      either-ends (sound z (tk p) c s) (S .ok p c σ) (sound-same N t p h s σ w c) _ _ (OL.run S p (suc c) n (S .col p c σ))
+      (record { cells = S .fill p (S .col p c σ); mark = G.failed })
+      (columns-run n (suc c) p h (worked z (tk p) c s) (S .col p c σ) w')
+      (record { left = filled-same N t p h _ _ w'; mark = refl; begun = omega arith; most = omega arith })
+
+  -- ---- the loops
+
+  pub record Matches (s : State) (x : Swept S) : Type 0 where
+    pub cells : Same N t (s .buffers) (x .cells)
+    pub marks : (λ (p : ℕ). toMark (mark (s .marks) p)) ≡ x .marks
+    pub long : length (s .marks) ≡ count
+
+  ended-task : (p : ℕ) → p < count → (s : State) (x : Swept S) → Matches s x → Ends (ended z s p) (OL.task S p (x .marks) (x .cells))
+  unfolding ended OL.task plan
+  ended-task p h s x m =
+      either-ends (ML.spoils (tasks N) (s .marks) p) (spoils S (x .marks) p)
+      (sym (spoils-is N t (s .marks) p h) ∙ ap (λ (f : ℕ → Mark). spoils S f p) (m .marks))
+      _ _ (record { cells = S .fill p (x .cells); mark = G.spoiled }) (OL.run S p zero t (x .cells))
+      (record { left = filled-same N t p h _ _ (m .cells); mark = refl; begun = omega arith; most = omega arith })
+      (columns-run t 0 p h (s .buffers) (x .cells) (m .cells))
+
+  performed-step : (p : ℕ) → p < count → (s : State) (x : Swept S) → Matches s x
+      → Matches (performed z p s) (record { cells = OL.task S p (x .marks) (x .cells) .cells; marks = set (x .marks) p (OL.task S p (x .marks) (x .cells) .mark) })
+  unfolding performed
+  performed-step p h s x m =
+      let e : Ends (ended z s p) (OL.task S p (x .marks) (x .cells)) = ended-task p h s x m in
+      record {
+        cells = e .left;
+        marks = marks-set (s .marks) p (ended z s p .mark) (subst (λ (k : ℕ). p < k) (sym (m .long)) h) ∙ (λ i. set (m .marks i) p (e .mark i));
+        long = length-set (s .marks) p (ended z s p .mark) ∙ m .long;
+      }
+
+  module _ (m : List Float) (hm : length m ≡ N * N * (t * t)) where
+    -- the cells that the loops start from
+    unfoldable pub σ₀ : ℕ → Val
+    σ₀ = view N t (start z m .buffers)
+
+    pub start-same : Same N t (start z m .buffers) σ₀
+    unfolding start plan σ₀
+    start-same = (record { matrix = hm; lists = length-replicate (N * N * t) 0 }, refl)
+
+    begin : Matches (inTurn (performed z) (run 0 0) (start z m)) (record { cells = σ₀; marks = λ p. G.waiting })
+    unfolding inTurn run start plan mark
+    begin = record { cells = start-same; marks = λ i p. toMark (getD-same count p 0 i); long = length-replicate count 0 }
+
+    sweep : (k : ℕ) → k ≤ count → Matches (inTurn (performed z) (run 0 k) (start z m)) (loops S k σ₀)
+    unfolding loops
+    sweep zero h = begin
+    sweep (suc k) h =
+        let s : State = inTurn (performed z) (run 0 k) (start z m) in
+        subst (λ (y : State). Matches y (loops S (suc k) σ₀)) (sym (in-turn-last (performed z) 0 k (start z m) ∙ ap (λ (q : ℕ). performed z q s) (zero-add k)))
+        (performed-step k h s (loops S k σ₀) (sweep k (omega arith)))
+
+    pub loops-match : Matches (M.loops z m) (loops S count σ₀)
+    unfolding M.loops below plan
+    loops-match = sweep count (omega arith)

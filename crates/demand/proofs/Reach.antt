@@ -1,0 +1,98 @@
+-- What is reached: what is lent is whole, and is the state to which a list of accepted calls brings order_free's machine. Moves keep it.
+-- Assumes nothing.
+use Prim.Native.Nat.{ℕ, _+_, _≤_, _<_}
+use mathlib.Core.Bool.{Bool, true, false, not, cond, _&&_}
+use mathlib.Core.Path.{_≡_, refl, sym, ap, _∙_}
+use mathlib.Core.List.{List, [], _∷_, _++_}
+use native.Mathlib.Omega.{arith}
+use lib.Dec.{eqb, ltb}
+use borrow.Author.Tests.{lt-ltb}
+use Rattle.model.specs.declared.Sizes.{Sizes}
+use Rattle.model.specs.declared.Worker as MW
+use Rattle.model.specs.Task.{tasks}
+use Rattle.model.specs.Plan.{planOf}
+use Rattle.model.specs.Links.{mark}
+use Rattle.model.specs.Links as ML
+use Rattle.model.specs.Calls.{Lent, marksOf, worker, took, advanced}
+use Rattle.order_free.specs.Graph.{is-waiting}
+use Rattle.order_free.specs.Machine.{Worker, is-idle, State, Call, take, column, start, effect, accepts, about, works-on, step, after, spent, ready}
+use Rattle.laws.proofs.Tests.{and-left, and-right, and-intro}
+use Rattle.demand.specs.Cells.{Val}
+use Rattle.demand.proofs.Marks.{toMark}
+use Rattle.demand.proofs.Links.{ready-is}
+use Rattle.demand.proofs.Machine.{S, count, workerOf, busy-of, abs, took-is, advanced-is}
+use Rattle.demand.proofs.Whole.{Whole}
+use Rattle.demand.proofs.Moves.{Move, takes, works, move-whole}
+
+idle-of : (h : MW.Worker) → h .busy ≡ false → is-idle (workerOf h) ≡ true
+idle-of h e = rw e
+
+module _ (z : Sizes) (σ : ℕ → Val) (q : ℕ) where
+  -- n calls at least were about task q
+  pub record Reach (n : ℕ) (s : Lent) : Type 0 where
+    pub whole : Whole z s
+    pub calls : List Call
+    pub is : abs z s ≡ after (S z) (z .workers) calls (start (S z) σ)
+    pub made : n ≤ spent (S z) (z .workers) q calls (start (S z) σ)
+
+  pub as-many : (n k : ℕ) (s : Lent) → n ≡ k → Reach n s → Reach k s
+  as-many n k s h r = record { whole = r .whole; calls = r .calls; is = r .is; made = omega (arith, r .made) }
+
+  -- ---- one more call
+
+  after-last : (xs : List Call) (c : Call) (s : State (S z))
+      → after (S z) (z .workers) (xs ++ (c ∷ [])) s ≡ step (S z) (z .workers) c (after (S z) (z .workers) xs s)
+  unfolding after
+  after-last [] c s = refl
+  after-last (x ∷ xs) c s = after-last xs c (step (S z) (z .workers) x s)
+
+  abbrev counted : Call → State (S z) → ℕ
+  counted c s = cond (accepts (S z) (z .workers) c s && about (S z) c s q) 1 0
+
+  spent-last : (xs : List Call) (c : Call) (s : State (S z))
+      → spent (S z) (z .workers) q (xs ++ (c ∷ [])) s ≡ spent (S z) (z .workers) q xs s + counted c (after (S z) (z .workers) xs s)
+  unfolding after spent
+  spent-last [] c s = omega arith
+  spent-last (x ∷ xs) c s = omega (arith, spent-last xs c (step (S z) (z .workers) x s))
+
+  grows : (n : ℕ) (s s' : Lent) → Reach n s → (c : Call) → accepts (S z) (z .workers) c (abs z s) ≡ true → Whole z s' → abs z s' ≡ effect (S z) c (abs z s)
+      → Reach (n + cond (about (S z) c (abs z s) q) 1 0) s'
+  unfolding step
+  grows n s s' r c a h e =
+      let end = after (S z) (z .workers) (r .calls) (start (S z) σ) in
+      let x : counted c end ≡ cond (about (S z) c (abs z s) q) 1 0 =
+      ap (counted c) (sym (r .is)) ∙ ap (λ (b : Bool). cond (b && about (S z) c (abs z s) q) 1 0) a in
+      record {
+        whole = h;
+        calls = r .calls ++ (c ∷ []);
+        is = e ∙ ap (λ (b : Bool). cond b (effect (S z) c (abs z s)) (abs z s)) (sym a) ∙ ap (step (S z) (z .workers) c) (r .is) ∙ sym
+            (after-last (r .calls) c (start (S z) σ));
+        made = omega (arith, x, spent-last (r .calls) c (start (S z) σ), r .made);
+      }
+
+  -- ---- the machine accepts the model's moves
+
+  may-take : (s : Lent) (w p : ℕ) → w < z .workers → worker s w .busy ≡ false → p < count z → ML.ready (tasks (z .tiles)) (marksOf s) p ≡ true
+      → accepts (S z) (z .workers) (take w p) (abs z s) ≡ true
+  unfolding accepts abs
+  may-take s w p hw hb hp hr =
+      let waits = is-waiting (toMark (mark (marksOf s) p)) in
+      let links = ready (S z) (λ q. toMark (mark (marksOf s) q)) p in
+      let e : (waits && links) ≡ true = ready-is (z .tiles) (z .side) (marksOf s) p hp ∙ hr in
+      and-intro _ _ (and-intro _ _ (and-intro _ _ (and-intro _ _ (lt-ltb w (z .workers) hw) (idle-of (worker s w) hb)) (lt-ltb p (count z) hp))
+      (and-left waits links e)) (and-right waits links e)
+
+  may-column : (s : Lent) (w : ℕ) → w < z .workers → worker s w .busy ≡ true → accepts (S z) (z .workers) (column w) (abs z s) ≡ true
+  unfolding accepts abs
+  may-column s w hw hb = and-intro (ltb w (z .workers)) (not (is-idle (workerOf (worker s w)))) (lt-ltb w (z .workers) hw)
+      (ap (λ (y : Worker). not (is-idle y)) (busy-of (worker s w) hb))
+
+  pub move-reach : {n p : ℕ} {s s' : Lent} → Reach n s → Move z s s' p → Reach (n + cond (eqb p q) 1 0) s'
+  unfolding about abs
+  move-reach {n = n} {s = s} r (takes w p hw hb hp hr) =
+      grows n s (took (planOf z) w p s) r (take w p) (may-take s w p hw hb hp hr) (move-whole (r .whole) (takes w p hw hb hp hr))
+      (took-is z s (r .whole .stated) w p hw hp)
+  move-reach {n = n} {s = s} r (works w hw hb) =
+      as-many _ _ _ (ap (λ (y : Worker). n + cond (works-on y q) 1 0) (busy-of (worker s w) hb))
+      (grows n s (advanced (planOf z) w s) r (column w) (may-column s w hw hb) (move-whole (r .whole) (works w hw hb))
+      (advanced-is z s (r .whole .stated) w (r .whole .held w hw hb .task) hw hb))

@@ -1,0 +1,126 @@
+-- A take and a column keep what a run asks of what is lent.
+-- Assumes nothing.
+use Prim.Native.Nat.{ℕ, suc, _<_}
+use mathlib.Core.Bool.{Bool, true, false, cond, _&&_}
+use mathlib.Core.Path.{_≡_, refl, sym, ap, _∙_, subst}
+use native.Mathlib.Omega.{arith}
+use lib.Dec.{eqb}
+use lib.ListN.{length}
+use borrow.Author.Tests.{eqb-true, eqb-false}
+use Rattle.model.specs.declared.Sizes.{Sizes}
+use Rattle.model.specs.Task.{tasks}
+use Rattle.model.specs.Plan.{plan, planOf}
+use Rattle.model.specs.Links.{task, mark, finished, ready}
+use Rattle.model.specs.Links as ML
+use Rattle.model.specs.Buffer.{Buffers, Ended, sound, columnEnds}
+use Rattle.model.specs.Calls.{Lent, marksOf, idle, holding, worker, took, columnOf, advanced}
+use Rattle.model.specs.Refusal.{holds}
+use Rattle.order_free.specs.Graph.{Mark, spoils}
+use Rattle.order_free.specs.Graph as G
+use Rattle.order_free.specs.Loops.{Outcome}
+use Rattle.order_free.specs.Machine.{perform}
+use Rattle.laws.proofs.Tests.{never, and-left}
+use Rattle.demand.specs.Cells.{Val, view}
+use Rattle.demand.proofs.Single.{Single}
+use Rattle.demand.proofs.Choices.{either}
+use Rattle.demand.proofs.Valid.{Valid, task-valid}
+use Rattle.demand.proofs.View.{Sized, tile-cell, length-tile}
+use Rattle.demand.proofs.Kept.{Tiles, Rows, Long, worked-rows, worked-tiles}
+use Rattle.demand.proofs.Fills.{filled-rows, spoiled-tiles, failed-tiles}
+use Rattle.demand.proofs.Marks.{toMark}
+use Rattle.demand.proofs.Machine.{S, count, took-stated, advanced-stated, column-ends}
+use Rattle.demand.proofs.Whole.{AtWork, Whole, in-range}
+use Rattle.demand.proofs.Stores.{holds-busy, holds-task, busy-holds, Suits, rests, works, stored-whole}
+
+module _ (z : Sizes) where
+  -- ---- take
+
+  pub ready-waits : (s : Lent) (p : ℕ) → ready (tasks (z .tiles)) (marksOf s) p ≡ true → mark (marksOf s) p ≡ 0
+  unfolding ready
+  ready-waits s p e = eqb-true (mark (marksOf s) p) 0 (and-left (eqb (mark (marksOf s) p) 0) _ e)
+
+  pub took-whole : (s : Lent) → Whole z s → (w p : ℕ) → w < z .workers → worker s w .busy ≡ false → p < count z
+      → ready (tasks (z .tiles)) (marksOf s) p ≡ true → Whole z (took (planOf z) w p s)
+  unfolding took
+  took-whole s h w p hw hb hp hr =
+      stored-whole z s h (s .buffers) p 1 w (holding p 0) hp hw
+      (works refl refl refl (in-range z (h .fit) .some-side))
+      (λ j d l e. let m = h .held j l (holds-busy p (worker s j) e) .mark in
+      let k : mark (marksOf s) p ≡ 1 = ap (mark (marksOf s)) (sym (holds-task p (worker s j) e)) ∙ m in
+      let f : mark (marksOf s) p ≡ 0 = ready-waits s p hr in
+      omega arith)
+      (λ q e. never (holds-busy q (worker s w) e) hb)
+      (omega arith) (unfold took in took-stated z s (h .stated) w p) (h .rows) (h .tiles)
+
+  -- ---- column
+
+  -- a task stays taken only where a column is left
+  column-suits : (s : Lent) (p c : ℕ) → c < z .side
+      → Suits z p (columnOf (planOf z) s p c .mark) (cond (finished (columnOf (planOf z) s p c .mark)) idle (holding p (suc c)))
+  unfolding columnOf columnEnds plan finished
+  column-suits s p c hc =
+      let fine : Ended → Type 0 = λ e. Suits z p (e .mark) (cond (finished (e .mark)) idle (holding p (suc c))) in
+      either fine (eqb c 0 && ML.spoils (tasks (z .tiles)) (marksOf s) p) _ _ (rests refl (λ e. omega arith))
+      (either fine (sound (planOf z) (task (tasks (z .tiles)) p) c (s .buffers)) _ _ (last (eqb (suc c) (z .side)) refl) (rests refl (λ e. omega arith)))
+    where
+      last : (b : Bool) → eqb (suc c) (z .side) ≡ b → Suits z p (cond b 2 1) (cond (finished (cond b 2 1)) idle (holding p (suc c)))
+      last true e = rests refl (λ f. omega arith)
+      last false e = let d = eqb-false (suc c) (z .side) e in works refl refl refl (omega arith)
+
+  long : (b : Buffers) → Sized (z .tiles) (z .side) b → Long (z .tiles) (z .side) (view (z .tiles) (z .side) b)
+  long b d i j hi hj = ap length (tile-cell (z .tiles) (z .side) b i j hi hj) ∙ length-tile (z .tiles) (z .side) b d i j hi hj
+
+  -- the cells that a column leaves, by which of its three ways it goes
+  performed-kept : (p c : ℕ) → p < count z → c < z .side → (m : ℕ → Mark) (σ : ℕ → Val) → Tiles (z .tiles) (z .side) σ → Rows (z .tiles) (z .side) σ
+      → Long (z .tiles) (z .side) σ
+      → Tiles (z .tiles) (z .side) (perform (S z) p c m σ .cells) × Rows (z .tiles) (z .side) (perform (S z) p c m σ .cells)
+  unfolding perform
+  performed-kept p c hp hc m σ f r l = go (eqb c 0 && spoils (S z) m p) (S z .ok p c σ) refl
+    where
+      N : ℕ
+      N = z .tiles
+
+      t : ℕ
+      t = z .side
+
+      v : Valid N (task (tasks N) p)
+      v = task-valid N p hp
+
+      on : Outcome (S z)
+      on = record { cells = S z .col p c σ; mark = cond (eqb (suc c) t) G.done G.taken }
+
+      off : Outcome (S z)
+      off = record { cells = S z .fill p (S z .col p c σ); mark = G.failed }
+
+      spoilt : Outcome (S z)
+      spoilt = record { cells = S z .fill p σ; mark = G.spoiled }
+
+      go : (b o : Bool) → S z .ok p c σ ≡ o → Tiles N t (cond b spoilt (cond o on off) .cells) × Rows N t (cond b spoilt (cond o on off) .cells)
+      go true o e = (spoiled-tiles N t (task (tasks N) p) v σ f l, filled-rows N t (task (tasks N) p) v σ r)
+      go false true e = (worked-tiles N t (task (tasks N) p) v c hc σ f r l e, worked-rows N t (task (tasks N) p) v c hc σ r)
+      go false false e = (
+        failed-tiles N t (task (tasks N) p) v c hc σ f l,
+        filled-rows N t (task (tasks N) p) v _
+            (worked-rows N t (task (tasks N) p) v c hc σ r),
+      )
+
+  pub advanced-whole : (s : Lent) → Whole z s → (w : ℕ) → w < z .workers → worker s w .busy ≡ true → Whole z (advanced (planOf z) w s)
+  unfolding advanced
+  advanced-whole s h w hw hb =
+      let N = z .tiles in
+      let t = z .side in
+      let a : AtWork z s w = h .held w hw hb in
+      let p = worker s w .task in
+      let c = worker s w .column in
+      let en = column-ends z s (h .stated) p c (a .task) in
+      let x = performed-kept p c (a .task) (a .column) (λ q. toMark (mark (marksOf s) q)) (view N t (s .buffers)) (h .tiles) (h .rows)
+      (long (s .buffers) (h .stated .sized)) in
+      let one : Single (holds p) idle (s .workers) = h .holder p (a .task) (a .mark) in
+      let mine : w ≡ one .place = unfold worker in
+      (one .alone w (subst (λ (k : ℕ). w < k) (sym (h .stated .workers)) hw) (busy-holds p (worker s w) hb refl)) in
+      stored-whole z s h (columnOf (planOf z) s p c .left) p (columnOf (planOf z) s p c .mark) w _ (a .task) hw
+      (column-suits s p c (a .column))
+      (λ j d l e. d (one .alone j (subst (λ (k : ℕ). j < k) (sym (h .stated .workers)) l) (unfold worker in e) ∙ sym mine))
+      (λ q e. sym (holds-task q (worker s w) e))
+      (en .most) (unfold advanced in advanced-stated z s (h .stated) w (a .task))
+      (subst (Rows N t) (sym (en .left .1)) (x .1)) (subst (Tiles N t) (sym (en .left .1)) (x .0))

@@ -1,0 +1,41 @@
+-- What a contract states of the system told z: demand 3, and what follows from it.
+-- Assumes nothing.
+use Prim.Native.Nat.{ℕ, _+_, _*_, _≤_}
+use mathlib.Core.Path.{_≡_}
+use mathlib.Core.Bool.{true}
+use mathlib.Core.List.{List}
+use lib.ListN.{length}
+use Rattle.model.specs.declared.Sizes.{Sizes}
+use Rattle.model.specs.declared.Answer.the-variants.{Accepted}
+use Rattle.model.specs.declared.RunAnswer.the-variants.{Finished}
+use Rattle.model.specs.Task.{tasks}
+use Rattle.model.specs.Plan.{planOf}
+use Rattle.model.specs.Loops.{outcome}
+use Rattle.model.specs.Calls.{Lent, stateOf, allFinished}
+use Rattle.model.specs.Refusal.{openCall, runAnswer, runCall}
+use Rattle.model.specs.History.{Call}
+use Rattle.model.specs.Demand.{Demand3, end, RunIs}
+
+-- two accepted openings of one matrix and one grid of tiles, with any two numbers of workers, and for each a list of calls that finishes
+-- every task
+pub record Pair (z y : Sizes) (s r : Lent) (cs ds : List Call) : Type 0 where
+  pub tiles : z .tiles ≡ y .tiles
+  pub side : z .side ≡ y .side
+  pub matrix : s .buffers .matrix ≡ r .buffers .matrix
+  pub opened : openCall z s .answer ≡ Accepted
+  pub opened' : openCall y r .answer ≡ Accepted
+  pub finished : allFinished (planOf z) (end z s cs) ≡ true
+  pub finished' : allFinished (planOf y) (end y r ds) ≡ true
+
+-- they end with the same matrix, lists, marks and outcome
+pub record Alike (z y : Sizes) (s r : Lent) (cs ds : List Call) : Type 0 where
+  pub state : stateOf (end z s cs) ≡ stateOf (end y r ds)
+  pub outcome : outcome (planOf z) (stateOf (end z s cs)) ≡ outcome (planOf y) (stateOf (end y r ds))
+
+pub record Promise (z : Sizes) : Type 0 where
+  pub any-calls : (s : Lent) (cs : List Call) → openCall z s .answer ≡ Accepted → Demand3 z s cs
+  pub runs-are-calls : (budget : ℕ) (s : Lent) → runAnswer z s ≡ Accepted → RunIs z budget s (runCall z budget s)
+  -- t + 1 calls for each task are enough to finish, after any calls
+  pub enough : (s : Lent) (cs : List Call) → openCall z s .answer ≡ Accepted → (budget : ℕ) → (z .side + 1) * length (tasks (z .tiles)) ≤ budget
+      → (n : ℕ) × (runCall z budget (end z s cs) .answer ≡ Finished n)
+  pub any-workers : (y : Sizes) (s r : Lent) (cs ds : List Call) → Pair z y s r cs ds → Alike z y s r cs ds

@@ -1,0 +1,49 @@
+-- What the kernels do on a flat matrix, each tile or row given by where it starts. Assumes nothing.
+use Prim.Native.Nat.{ℕ, _+_, _-_, _*_, _<_}
+use mathlib.Core.Path.{_≡_}
+use mathlib.Core.Bool.{Bool, true, cond}
+use mathlib.Core.List.{List, map}
+use lib.ListN.{length, getD}
+use lib.Dec.{ltb, leb}
+use lib.Ieee.{Float, nan}
+use Rattle.model.specs.Lists.{run, below, every, joined, part, withPart}
+use Rattle.model.specs.Num.{plusZero, finite, update, updateComputes, quotient}
+use Rattle.model.specs.Tile.{at, block}
+unfoldable pub use Rattle.numbers.specs.Candidates.{candidates}
+
+-- ---- exchanges and fills
+
+-- n numbers from a on exchanged with the n from b on
+unfoldable pub exchangedParts : ℕ → ℕ → ℕ → List Float → List Float
+exchangedParts a b n m = withPart a n (part b n m) (withPart b n (part a n m) m)
+
+-- a tile with +0 on the diagonal and above
+unfoldable pub upperZeroed : ℕ → List Float → List Float
+upperZeroed t a = block t t (λ r q. cond (leb r q) plusZero (at t a r q))
+
+-- ---- a column divided by the pivot: `count` numbers from `start` on, `stride` apart
+
+pub record ColumnDivided (start stride count : ℕ) (pivot : Float) (before after quotients : List Float) : Type 0 where
+  pub long : length after ≡ length before
+  pub quotient-at : (i : ℕ) → i < count → getD quotients i nan ≡ quotient (getD before (start + i * stride) nan) pivot
+  pub stored-at : (i : ℕ) → i < count → getD after (start + i * stride) nan ≡ quotient (getD before (start + i * stride) nan) pivot
+  pub other-at : (x : ℕ) → ((i : ℕ) → i < count → x ≡ start + i * stride → ⊥) → getD after x nan ≡ getD before x nan
+
+-- ---- rows updated: `rows` rows of width w, columns f to w - 1, by the multipliers l and the row u
+
+unfoldable pub updatedRows : ℕ → ℕ → ℕ → (ℕ → Float) → (ℕ → Float) → List Float → List Float
+updatedRows rows w f l u b = block rows w (λ r q. cond (ltb q f) (at w b r q) (update (at w b r q) (l r) (u q)))
+
+-- the numbers that this computes
+unfoldable pub rowsCompute : ℕ → ℕ → ℕ → (ℕ → Float) → (ℕ → Float) → List Float → List Float
+rowsCompute rows w f l u b = joined (map (λ r. joined (map (λ q. updateComputes (at w b r q) (l r) (u q)) (run f (w - f)))) (below rows))
+
+-- the rows from `start` on, updated where every number computed is finite; else stopped at some number, with nothing else changed
+pub record RowsUpdated (rows w f start : ℕ) (l u : ℕ → Float) (before after : List Float) (answer : Bool) : Type 0 where
+  pub sound : answer ≡ every finite (rowsCompute rows w f l u (part start (rows * w) before))
+  pub whole : answer ≡ true → after ≡ withPart start (rows * w) (updatedRows rows w f l u (part start (rows * w) before)) before
+  pub frame : after ≡ withPart start (rows * w) (part start (rows * w) after) before
+
+unfoldable pub Flat·open : Unit {0}
+unfolding candidates exchangedParts upperZeroed updatedRows rowsCompute
+Flat·open = tt

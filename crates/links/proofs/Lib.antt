@@ -1,0 +1,11 @@
+pub mod Rows
+pub mod Numbering
+pub mod Order
+pub mod Places
+pub mod Clashes
+pub mod Triples
+pub mod Links
+pub mod Ready
+pub mod Writers
+pub mod Spoils
+pub mod Summary

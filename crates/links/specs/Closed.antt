@@ -1,0 +1,137 @@
+-- The closed forms, for N by N tiles: a task as a triple, its number, the tasks linked to it, the latest writers of what it touches,
+-- and the tests that code makes of marks. Assumes nothing.
+use Prim.Native.Nat.{ℕ, zero, suc, _+_, _-_, _*_, _/_, _%_, _≤_, _<_}
+use mathlib.Core.Bool.{Bool, cond, not, _&&_, _||_}
+use mathlib.Core.List.{List}
+use mathlib.Core.Path.{_≡_}
+use lib.Dec.{eqb, ltb, leb}
+use Rattle.model.specs.Lists.{every}
+use Rattle.model.specs.Task.{Task, T-1, T-2, T-3, T-4, after, Place, A, list}
+use Rattle.model.specs.Links.{mark, done, waiting, finished, broken}
+
+-- ---- a task as a triple
+
+-- T-1(k) is (k,k,k), T-2(k,j) is (k,k,j), T-3(k,i) is (k,i,k), T-4(k,i,j) is (k,i,j)
+pub record Key : Type 0 where
+  pub k : ℕ
+  pub i : ℕ
+  pub j : ℕ
+
+abbrev pub key : ℕ → ℕ → ℕ → Key
+key k i j = record { k = k; i = i; j = j }
+
+-- the triples of tasks: k ≤ i < N and k ≤ j < N
+pub record In (N : ℕ) (a : Key) : Type 0 where
+  pub row : a .k ≤ a .i
+  pub column : a .k ≤ a .j
+  pub row-fits : a .i < N
+  pub column-fits : a .j < N
+
+unfoldable pub taskAt : Key → Task
+taskAt a =
+    cond (eqb (a .i) (a .k))
+    (cond (eqb (a .j) (a .k)) (T-1 (a .k)) (T-2 (a .k) (a .j)))
+    (cond (eqb (a .j) (a .k)) (T-3 (a .k) (a .i)) (T-4 (a .k) (a .i) (a .j)))
+
+unfoldable pub keyOf : Task → Key
+keyOf (T-1 k) = key k k k
+keyOf (T-2 k j) = key k k j
+keyOf (T-3 k i) = key k i k
+keyOf (T-4 k i j) = key k i j
+
+-- ---- its number
+
+-- how many tasks the stages before k have: stage k is a square of (N - k)² tasks
+unfoldable pub offset : ℕ → ℕ → ℕ
+offset N zero = 0
+offset N (suc k) = offset N k + (N - k) * (N - k)
+
+-- m² + (m - 1)² + .. + 1
+unfoldable pub squares : ℕ → ℕ
+squares zero = 0
+squares (suc m) = squares m + suc m * suc m
+
+unfoldable pub number : ℕ → Key → ℕ
+number N a = offset N (a .k) + ((a .i - a .k) * (N - a .k) + (a .j - a .k))
+
+-- the triple that stands p tasks after the start of stage k, where m = N - k stages are left
+unfoldable pub keyFrom : ℕ → ℕ → ℕ → Key
+keyFrom zero k p = key k k k
+keyFrom (suc m) k p =
+    let r : Key = keyFrom m (suc k) (p - suc m * suc m) in
+    cond (ltb p (suc m * suc m)) (key k (k + p / suc m) (k + p % suc m)) r
+
+unfoldable pub keyAt : ℕ → ℕ → Key
+keyAt N p = keyFrom N 0 p
+
+-- ---- order, clashes, links and latest writers
+
+-- the order of the numbers: by k, then i, then j
+pub data Before (a b : Key) : Type 0 where
+  by-stage : a .k < b .k → Before a b
+  by-row : a .k ≡ b .k → a .i < b .i → Before a b
+  by-column : a .k ≡ b .k → a .i ≡ b .i → a .j < b .j → Before a b
+
+-- a stands before b, and they clash
+pub data Clash (a b : Key) : Type 0 where
+  same-tile : a .k < b .k → a .i ≡ b .i → a .j ≡ b .j → Clash a b
+  upper-tile : a .k < b .k → a .i ≡ b .k → a .j ≡ b .j → Clash a b
+  left-tile : a .k < b .k → a .i ≡ b .i → a .j ≡ b .k → Clash a b
+  down : a .k ≡ b .k → a .i < b .i → a .j ≡ b .j → Clash a b
+  across : a .k ≡ b .k → a .i ≡ b .i → a .j ≡ a .k → a .j < b .j → Clash a b
+  corner : a .k ≡ b .k → a .i ≡ a .k → a .k < b .i → b .j ≡ b .k → Clash a b
+
+-- a is linked to b: the task at the same tile one stage back; the first of b's row; the one above b, below the stage's top row; and, where b
+-- is the first T-3 of its stage, each T-2 of that stage
+pub data Linked (a b : Key) : Type 0 where
+  stage-back : suc (a .k) ≡ b .k → a .i ≡ b .i → a .j ≡ b .j → Linked a b
+  row-first : a .k ≡ b .k → a .i ≡ b .i → a .j ≡ b .k → b .k < b .j → Linked a b
+  row-above : a .k ≡ b .k → suc (a .i) ≡ b .i → a .j ≡ b .j → b .k < a .i → Linked a b
+  each-T-2 : a .k ≡ b .k → a .i ≡ b .k → b .i ≡ suc (b .k) → b .j ≡ b .k → b .k < a .j → Linked a b
+
+-- b touches x, and a is the latest task before b that writes x
+pub data Last (a b : Key) (x : Place) : Type 0 where
+  last-own : x ≡ A (b .i) (b .j) → suc (a .k) ≡ b .k → a .i ≡ b .i → a .j ≡ b .j → Last a b x
+  last-upper : x ≡ A (b .k) (b .j) → a .k ≡ b .k → suc (a .i) ≡ b .i → a .j ≡ b .j → Last a b x
+  last-left : x ≡ A (b .i) (b .k) → a .k ≡ b .k → a .i ≡ b .i → a .j ≡ b .k → b .k < b .j → Last a b x
+  last-list : x ≡ list (b .i) (b .k) → a .k ≡ b .k → a .i ≡ b .i → a .j ≡ b .k → b .k < b .j → Last a b x
+
+-- ---- the tests that code makes of the marks ms
+
+module _ (N : ℕ) (ms : List ℕ) where
+  unfoldable pub markAt : Key → ℕ
+  markAt a = mark ms (number N a)
+
+  -- the mark of the task at the same tile one stage back, of the first of the row, and of the one above: done where there is none
+  unfoldable pub backMark : Key → ℕ
+  backMark b = cond (eqb (b .k) 0) done (markAt (key (b .k - 1) (b .i) (b .j)))
+
+  unfoldable pub leftMark : Key → ℕ
+  leftMark b = cond (eqb (b .j) (b .k)) done (markAt (key (b .k) (b .i) (b .k)))
+
+  -- rows up to top count as having none above
+  unfoldable pub aboveMark : ℕ → Key → ℕ
+  aboveMark top b = cond (leb (b .i) top) done (markAt (key (b .k) (b .i - 1) (b .j)))
+
+  -- every T-2 of stage k is finished
+  unfoldable pub T-2s-finished : ℕ → Bool
+  T-2s-finished k = every (λ j. finished (markAt (key k k j))) (after N k)
+
+  -- the neighbours that are linked to b are finished
+  unfoldable pub neighboursFinished : Key → Bool
+  neighboursFinished b = finished (backMark b) && finished (leftMark b) && finished (aboveMark (b .k + 1) b)
+
+  -- every task linked to b is finished: the first T-3 of a stage asks for the T-2 too
+  unfoldable pub linksFinished : Key → Bool
+  linksFinished b = neighboursFinished b && (not (eqb (b .i) (b .k + 1) && eqb (b .j) (b .k)) || T-2s-finished (b .k))
+
+  unfoldable pub readyAt : Key → Bool
+  readyAt b = eqb (markAt b) waiting && linksFinished b
+
+  -- some latest writer of what b touches is failed or spoiled
+  unfoldable pub spoilsAt : Key → Bool
+  spoilsAt b = broken (backMark b) || broken (aboveMark (b .k) b) || broken (leftMark b)
+
+unfoldable pub Closed·open : Unit {0}
+unfolding taskAt keyOf offset squares number keyFrom keyAt markAt backMark leftMark aboveMark T-2s-finished neighboursFinished linksFinished readyAt spoilsAt
+Closed·open = tt

@@ -1,0 +1,97 @@
+// The tasks in number order, one after the other, as triples: T-1(k) is (k,k,k), T-2(k,j) is (k,k,j), T-3(k,i) is (k,i,k), T-4(k,i,j) is (k,i,j).
+// Task 0 is (0,0,0).
+ghost use mathlib.Core.Path.{_≡_};
+ghost use Prim.Native.Nat.{_+_, _≤_, _<_};
+ghost use lib.ListN.{length};
+ghost use Rattle.model.specs.Task.{tasks};
+ghost use Rattle.model.specs.Calls.{recordOf};
+ghost use Rattle.links.specs.Closed.{key, In, taskAt, number};
+use model::TaskRecord;
+
+pub struct Triple {
+    pub k: u8,
+    pub i: u8,
+    pub j: u8,
+}
+
+// How many tasks there are.
+pub fn task_count(n: usize) -> usize
+    requires { ⌜ n ≤ 16 ⌝ }
+    ensures { λ r. ⌜ r ≡ length (tasks n) ⌝ }
+{
+    n * (n + 1) * (2 * n + 1) / 6
+}
+
+// The triple of task 0.
+pub fn first() -> Triple
+    ensures { λ r. ⌜ r ≡ record { k = 0; i = 0; j = 0 } ⌝ }
+{
+    Triple { k: 0, i: 0, j: 0 }
+}
+
+// The triple of the next task; past the last task it is the triple (n,n,n).
+pub fn next(n: u8, a: Triple) -> Triple
+    requires { ⌜ (n ≤ 16) × In n (key (a .k) (a .i) (a .j)) ⌝ }
+    ensures { λ r. ⌜ number n (key (r .k) (r .i) (r .j)) ≡ number n (key (a .k) (a .i) (a .j)) + 1 ⌝ }
+    ensures { λ r. ⌜ (number n (key (a .k) (a .i) (a .j)) + 1 < length (tasks n) → In n (key (r .k) (r .i) (r .j))) ⌝ }
+{
+    if a.j + 1 < n {
+        return Triple {
+            k: a.k,
+            i: a.i,
+            j: a.j + 1,
+        };
+    }
+    if a.i + 1 < n {
+        return Triple {
+            k: a.k,
+            i: a.i + 1,
+            j: a.k,
+        };
+    }
+    Triple {
+        k: a.k + 1,
+        i: a.k + 1,
+        j: a.k + 1,
+    }
+}
+
+// The record of a waiting task.
+pub fn record_of(a: Triple) -> TaskRecord
+    ensures { λ r. ⌜ r ≡ recordOf (taskAt (key (a .k) (a .i) (a .j))) ⌝ }
+{
+    if a.i == a.k {
+        if a.j == a.k {
+            return TaskRecord {
+                kind: 1,
+                k: a.k,
+                i: 0,
+                j: 0,
+                mark: 0,
+            };
+        }
+        return TaskRecord {
+            kind: 2,
+            k: a.k,
+            i: 0,
+            j: a.j,
+            mark: 0,
+        };
+    }
+    if a.j == a.k {
+        return TaskRecord {
+            kind: 3,
+            k: a.k,
+            i: a.i,
+            j: 0,
+            mark: 0,
+        };
+    }
+    TaskRecord {
+        kind: 4,
+        k: a.k,
+        i: a.i,
+        j: a.j,
+        mark: 0,
+    }
+}

@@ -1,0 +1,3 @@
+// Single numbers, and the pivot search.
+pub mod number;
+pub mod search;

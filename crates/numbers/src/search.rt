@@ -1,0 +1,30 @@
+// The pivot search.
+ghost use mathlib.Core.Path.{_≡_};
+ghost use Prim.Native.Nat.{_+_, _*_, _<_, _≤_};
+ghost use lib.ListN.{length};
+ghost use Rattle.model.specs.Column.{search};
+ghost use Rattle.numbers.specs.Candidates.{candidates};
+use crate::number::magnitude_of;
+use model::Pivot;
+
+// The candidate of largest magnitude, the first on a tie, among the number at first and count numbers from rest on, stride apart.
+pub fn search_pivot(m: &[f64], first: usize, rest: usize, stride: usize, count: usize) -> Pivot
+    requires { ⌜ (first < length (now m)) × (stride ≤ 16) × (count ≤ 16) × (rest + count * stride < length (now m) + stride) × (length (now m) ≤ 65536) ⌝ }
+    ensures { λ r. ⌜ r ≡ search (candidates (now (m .entry)) first rest stride count) ⌝ }
+{
+    let mut place = 0;
+    let mut best = magnitude_of(m[first]);
+    let mut i = 0;
+    while i < count {
+        let x = magnitude_of(m[rest + i * stride]);
+        if best < x {
+            place = i + 1;
+            best = x;
+        }
+        i += 1;
+    }
+    Pivot {
+        place,
+        magnitude: best,
+    }
+}

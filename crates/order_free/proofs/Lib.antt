@@ -1,0 +1,10 @@
+pub mod Tests
+pub mod Graph
+pub mod Loops
+pub mod Column
+pub mod Invariant
+pub mod Calls
+pub mod Progress
+pub mod Count
+pub mod OrderFree
+pub mod Views

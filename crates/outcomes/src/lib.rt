@@ -1,0 +1,37 @@
+// The outcome of a system.
+ghost use mathlib.Core.Path.{_≡_};
+ghost use Rattle.model.specs.Refusal.{outcomeCall};
+ghost use Rattle.records.specs.Records.{lent};
+use crate::found::first_unfinished;
+use crate::found::outcome_of;
+use checks::elements::Lowest;
+use checks::sizes::bad_lengths;
+use checks::sizes::bad_sizes;
+use model::OutcomeAnswer;
+use model::Sizes;
+use model::Worker;
+
+pub mod found;
+
+// The outcome once every task is finished, and before that the lowest unfinished task. Nothing is changed.
+pub fn outcome(
+    z: Sizes,
+    matrix: &[f64],
+    lists: &[u8],
+    records: &[[u8; 5]],
+    workers: [Worker; 32],
+) -> OutcomeAnswer
+    ensures { λ r. ⌜ r ≡ outcomeCall z (lent (now (matrix .entry)) (now (lists .entry)) (now (records .entry)) workers (z .workers)) ⌝ }
+{
+    if bad_sizes(z) {
+        return OutcomeAnswer::OutcomeRefused(1, 0);
+    }
+    if bad_lengths(z, matrix, lists, records) {
+        return OutcomeAnswer::OutcomeRefused(2, 0);
+    }
+    let task = first_unfinished(records);
+    match task {
+        Lowest::At(p) => OutcomeAnswer::Unfinished(p),
+        Lowest::None => OutcomeAnswer::Ended(outcome_of(z, matrix, records)),
+    }
+}

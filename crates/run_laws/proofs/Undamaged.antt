@@ -1,0 +1,160 @@
+-- What a state that passes refusal 4 has: the numbering's records, tasks held as their marks say, and list entries within their limits.
+-- Assumes nothing.
+use Prim.Native.Nat.{ℕ, zero, suc, _+_, _*_, _/_, _%_, _≤_, _<_}
+use mathlib.Core.Bool.{Bool, true, false, not, _&&_, _||_}
+use mathlib.Core.Path.{_≡_, refl}
+use mathlib.Core.List.{List, [], _∷_}
+use native.Mathlib.Omega.{arith}
+use lib.Dec.{eqb, leb, ltb}
+use lib.ListN.{length, getD, List·getD-map}
+use borrow.Author.Tests.{eqb-true, eq-eqb, leb-true, ltb-true, ltb-false, not-false}
+use Rattle.model.specs.declared.TaskRecord.{TaskRecord}
+use Rattle.model.specs.declared.Worker.{Worker}
+use Rattle.model.specs.Lists.{below, some, keep}
+use Rattle.model.specs.Plan.{Plan}
+use Rattle.model.specs.Task.{Task, kindOf, kOf, iOf, jOf}
+use Rattle.model.specs.Links.{task, mark, taken}
+use Rattle.model.specs.Calls.{Lent, marksOf, recordOf, worker, idle}
+use Rattle.model.specs.Refusal.{holds, badRecord, badHold, badWorker, entryLimit, badEntry, damaged}
+use Rattle.laws.proofs.Tests.{never, false-if, and-left, and-right, some-run-intro}
+use Rattle.laws.proofs.Blocks.{in-block, row-of, column-of}
+
+-- the record r is task a's, and its mark is one of the five
+pub record Due (a : Task) (r : TaskRecord) : Type 0 where
+  pub kind-is : r .kind ≡ kindOf a
+  pub k-is : r .k ≡ kOf a
+  pub i-is : r .i ≡ iOf a
+  pub j-is : r .j ≡ jOf a
+  pub mark-most : r .mark ≤ 4
+
+-- what the worker h holds: a task that exists and is marked taken, and a column of it
+pub record Held (z : Plan) (s : Lent) (h : Worker) : Type 0 where
+  pub exists : h .task < length (z .tasks)
+  pub is-taken : mark (marksOf s) (h .task) ≡ taken
+  pub column-fits : h .column < z .t
+
+-- ---- tests that failed
+
+pub or-false-left : (a b : Bool) → (a || b) ≡ false → a ≡ false
+or-false-left true b e = never refl e
+or-false-left false b e = refl
+
+pub or-false-right : (a b : Bool) → (a || b) ≡ false → b ≡ false
+or-false-right true b e = never refl e
+or-false-right false b e = e
+
+pub and-true-not : (a b : Bool) → a ≡ true → (a && not b) ≡ false → b ≡ true
+and-true-not true true h e = refl
+and-true-not true false h e = never refl e
+and-true-not false b h e = never h refl
+
+pub none-some : (f : ℕ → Bool) (n p : ℕ) → some f (below n) ≡ false → p < n → f p ≡ false
+unfolding below
+none-some f n p e h = false-if (f p) (λ q. never (some-run-intro f 0 n p (omega arith) (omega arith) q) e)
+
+module _ {A : Type 0} where
+  none-at : (f : A → Bool) (xs : List A) (d : A) (i : ℕ) → some f xs ≡ false → i < length xs → f (getD xs i d) ≡ false
+  unfolding some
+  none-at f [] d i e h = absurd (omega arith)
+  none-at f (x ∷ xs) d zero e h = or-false-left (f x) (some f xs) e
+  none-at f (x ∷ xs) d (suc i) e h = none-at f xs d i (or-false-right (f x) (some f xs) e) (omega arith)
+
+  -- what is read within a list does not depend on what is read past its end
+  pub getD-any : (xs : List A) (i : ℕ) (d e : A) → i < length xs → getD xs i d ≡ getD xs i e
+  getD-any [] i d e h = absurd (omega arith)
+  getD-any (x ∷ xs) zero d e h = refl
+  getD-any (x ∷ xs) (suc i) d e h = getD-any xs i d e (omega arith)
+
+module _ (z : Plan) (s : Lent) (fine : damaged z s ≡ false) where
+  abbrev bad-records : Bool
+  bad-records = some (badRecord z s) (below (length (z .tasks)))
+
+  abbrev bad-holds : Bool
+  bad-holds = some (badHold z s) (below (length (z .tasks)))
+
+  abbrev bad-workers : Bool
+  bad-workers = some (badWorker z s) (s .workers)
+
+  abbrev bad-entries : Bool
+  bad-entries = some (badEntry z s) (below (z .N * z .N * z .t))
+
+  three : (bad-records || bad-holds || bad-workers) ≡ false
+  unfolding damaged
+  three = or-false-left (bad-records || bad-holds || bad-workers) bad-entries fine
+
+  two : (bad-records || bad-holds) ≡ false
+  two = or-false-left (bad-records || bad-holds) bad-workers three
+
+  -- ---- records
+
+  due-of : (a : Task) (r : TaskRecord)
+      → not (eqb (r .kind) (kindOf a) && eqb (r .k) (kOf a) && eqb (r .i) (iOf a) && eqb (r .j) (jOf a) && leb (r .mark) 4) ≡ false → Due a r
+  due-of a r e =
+      let e₅ = not-false (eqb (r .kind) (kindOf a) && eqb (r .k) (kOf a) && eqb (r .i) (iOf a) && eqb (r .j) (jOf a) && leb (r .mark) 4) e in
+      let e₄ = and-left (eqb (r .kind) (kindOf a) && eqb (r .k) (kOf a) && eqb (r .i) (iOf a) && eqb (r .j) (jOf a)) (leb (r .mark) 4) e₅ in
+      let e₃ = and-left (eqb (r .kind) (kindOf a) && eqb (r .k) (kOf a) && eqb (r .i) (iOf a)) (eqb (r .j) (jOf a)) e₄ in
+      let e₂ = and-left (eqb (r .kind) (kindOf a) && eqb (r .k) (kOf a)) (eqb (r .i) (iOf a)) e₃ in
+      record {
+        kind-is = eqb-true (r .kind) (kindOf a) (and-left (eqb (r .kind) (kindOf a)) (eqb (r .k) (kOf a)) e₂);
+        k-is = eqb-true (r .k) (kOf a) (and-right (eqb (r .kind) (kindOf a)) (eqb (r .k) (kOf a)) e₂);
+        i-is = eqb-true (r .i) (iOf a) (and-right (eqb (r .kind) (kindOf a) && eqb (r .k) (kOf a)) (eqb (r .i) (iOf a)) e₃);
+        j-is = eqb-true (r .j) (jOf a) (and-right (eqb (r .kind) (kindOf a) && eqb (r .k) (kOf a) && eqb (r .i) (iOf a)) (eqb (r .j) (jOf a)) e₄);
+        mark-most = leb-true (r .mark) 4 (and-right (eqb (r .kind) (kindOf a) && eqb (r .k) (kOf a) && eqb (r .i) (iOf a) && eqb (r .j) (jOf a)) (leb (r .mark) 4) e₅);
+      }
+
+  pub due : (p : ℕ) → p < length (z .tasks) → Due (task (z .tasks) p) (getD (s .records) p (recordOf (task (z .tasks) p)))
+  unfolding badRecord
+  due p h =
+      due-of (task (z .tasks) p) (getD (s .records) p (recordOf (task (z .tasks) p)))
+      (none-some (badRecord z s) (length (z .tasks)) p (or-false-left bad-records bad-holds two) h)
+
+  -- the same, whatever is read past the end of the records
+  pub due-any : length (s .records) ≡ length (z .tasks) → (p : ℕ) (d : TaskRecord) → p < length (z .tasks) → Due (task (z .tasks) p) (getD (s .records) p d)
+  due-any long p d h = rw (getD-any (s .records) p d (recordOf (task (z .tasks) p)) (omega arith)) (due p h)
+
+  -- the mark that a record holds
+  mark-in : (p : ℕ) → mark (marksOf s) p ≡ getD (s .records) p (recordOf (task (z .tasks) p)) .mark
+  unfolding mark marksOf recordOf
+  mark-in p = List·getD-map (λ (r : TaskRecord). r .mark) (s .records) p (recordOf (task (z .tasks) p))
+
+  pub marks-small : (p : ℕ) → p < length (z .tasks) → mark (marksOf s) p ≤ 4
+  marks-small p h = rw (mark-in p) (due p h .mark-most)
+
+  -- ---- holds
+
+  -- a taken task is held by one worker
+  pub one-holder : (p : ℕ) → p < length (z .tasks) → mark (marksOf s) p ≡ taken → eqb (length (keep (holds p) (s .workers))) 1 ≡ true
+  unfolding badHold
+  one-holder p h m =
+      and-true-not (eqb (mark (marksOf s) p) taken) (eqb (length (keep (holds p) (s .workers))) 1) (eq-eqb (mark (marksOf s) p) taken m)
+      (none-some (badHold z s) (length (z .tasks)) p (or-false-right bad-records bad-holds two) h)
+
+  -- a busy worker holds what it may
+  held-of : (h : Worker) → h .busy ≡ true → badWorker z s h ≡ false → Held z s h
+  unfolding badWorker
+  held-of h b e =
+      let x = ltb (h .task) (length (z .tasks)) in
+      let y = eqb (mark (marksOf s) (h .task)) taken in
+      let c = ltb (h .column) (z .t) in
+      let all = and-true-not (h .busy) (x && y && c) b e in
+      let both = and-left (x && y) c all in
+      record {
+        exists = ltb-true (h .task) (length (z .tasks)) (and-left x y both);
+        is-taken = eqb-true (mark (marksOf s) (h .task)) taken (and-right x y both);
+        column-fits = ltb-true (h .column) (z .t) (and-right (x && y) c all);
+      }
+
+  pub held : (w : ℕ) → w < length (s .workers) → worker s w .busy ≡ true → Held z s (worker s w)
+  unfolding worker
+  held w h b = held-of (getD (s .workers) w idle) b (none-at (badWorker z s) (s .workers) idle w (or-false-right (bad-records || bad-holds) bad-workers three) h)
+
+  -- ---- list entries
+
+  -- entry x of list (i,j)
+  pub entry-fits : (i j x : ℕ) → i < z .N → j < z .N → x < z .t → getD (s .buffers .lists) ((i * z .N + j) * z .t + x) 0 ≤ entryLimit z i j
+  unfolding damaged badEntry
+  entry-fits i j x hi hj hx =
+      let at : (i * z .N + j) * z .t + x < z .N * z .N * z .t = in-block (z .N * z .N) (z .t) (i * z .N + j) x (in-block (z .N) (z .N) i j hi hj) hx in
+      let e = none-some (badEntry z s) (z .N * z .N * z .t) ((i * z .N + j) * z .t + x) (or-false-right (bad-records || bad-holds || bad-workers) bad-entries fine) at in
+      let f = ltb-false (entryLimit z (((i * z .N + j) * z .t + x) / z .t / z .N) (((i * z .N + j) * z .t + x) / z .t % z .N)) (getD (s .buffers .lists) ((i * z .N + j) * z .t + x) 0) e in
+      rw (row-of (z .t) (i * z .N + j) x hx, row-of (z .N) i j hj, column-of (z .N) i j hj) at f

@@ -1,0 +1,30 @@
+-- The refusals that takes, columns, runs and solves share, and what is lent where none of them holds. Assumes nothing.
+use Prim.Native.Nat.{ℕ}
+use mathlib.Core.Path.{_≡_}
+use mathlib.Core.Bool.{false}
+use mathlib.Core.List.{List}
+use lib.Ieee.{Float}
+use Rattle.model.specs.declared.Sizes.{Sizes}
+use Rattle.model.specs.declared.Worker.{Worker}
+use Rattle.model.specs.declared.Answer.{Answer}
+use Rattle.model.specs.declared.Answer.the-variants.{Accepted}
+use Rattle.model.specs.Plan.{planOf}
+use Rattle.model.specs.Calls.{Lent}
+use Rattle.model.specs.Refusal.{refuse, _otherwise_, badSizes, badLengths, damaged}
+use Rattle.records.specs.Records.{lent}
+use Rattle.checks.specs.Checks.{Sized, MatrixFits, ListsFit, RecordsFit}
+
+unfoldable pub stateAnswer : Sizes → Lent → Answer
+stateAnswer z s =
+    refuse 1 0 (badSizes z)
+    otherwise refuse 2 0 (badLengths (planOf z) (z .workers) s)
+    otherwise refuse 4 0 (damaged (planOf z) s)
+    otherwise Accepted
+
+-- sizes in their ranges, lengths as stated, and nothing damaged
+pub record Sound (z : Sizes) (m : List Float) (l : List ℕ) (r : List (List ℕ)) (ws : List Worker) : Type 0 where
+  pub sizes : Sized z
+  pub matrix-fits : MatrixFits z m
+  pub lists-fit : ListsFit z l
+  pub records-fit : RecordsFit z r
+  pub undamaged : damaged (planOf z) (lent m l r ws (z .workers)) ≡ false

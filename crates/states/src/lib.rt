@@ -1,0 +1,32 @@
+// Refusals 1, 2 and 4 but for elements: what takes, columns, runs and solves look at first.
+ghost use mathlib.Core.Path.{_≡_};
+ghost use Rattle.records.specs.Records.{lent};
+ghost use Rattle.states.specs.States.{stateAnswer};
+use checks::sizes::bad_lengths;
+use checks::sizes::bad_sizes;
+use damage::damaged;
+use model::Answer;
+use model::Sizes;
+use model::Worker;
+
+// The first of these refusals that holds of what is lent.
+pub fn state_answer(
+    z: Sizes,
+    matrix: &[f64],
+    lists: &[u8],
+    records: &[[u8; 5]],
+    workers: [Worker; 32],
+) -> Answer
+    ensures { λ r. ⌜ r ≡ stateAnswer z (lent (now (matrix .entry)) (now (lists .entry)) (now (records .entry)) workers (z .workers)) ⌝ }
+{
+    if bad_sizes(z) {
+        return Answer::Refused(1, 0);
+    }
+    if bad_lengths(z, matrix, lists, records) {
+        return Answer::Refused(2, 0);
+    }
+    if damaged(z, lists, records, workers) {
+        return Answer::Refused(4, 0);
+    }
+    Answer::Accepted
+}

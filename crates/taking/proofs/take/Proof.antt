@@ -1,0 +1,96 @@
+-- A refusal leaves everything; else the record and the worker are as the definition has them. Assumes nothing.
+use mathlib.Core.Path.{_≡_, refl}
+use native.Mathlib.Omega.{arith}
+use borrow.Author.Needs.{needs}
+use borrow.Author.Tests.{not-true, not-false}
+use lib.ListN.{length}
+use Rattle.numbering.proofs.Laws.{few-tasks}
+use Rattle.taking.proofs.Laws.{refused, accepts-then, taken-by, others-kept}
+use Rattle.taking.proofs.take.Statement.{statement}
+use Rattle.taking.proofs.take.Tie as tie
+
+take-answer-requires : tie.Need-take-answer-requires
+take-answer-requires c κs = search needs
+
+accepted-requires : tie.Need-accepted-requires
+accepted-requires c κs = search needs
+
+same-length : tie.Need-same-length
+same-length c = search needs
+
+returns : tie.Need-returns
+returns c =
+    let d = c .before .before .before .before .before .before in
+    (refused (d .args .z) _ _ _ (d .args .workers) _ _ _ (c .before .before .take-answer .ensures) _ (c .before .accepted .ensures) (not-true _ (c .if1 .taken)), refl)
+
+set-mark-requires : tie.Need-set-mark-requires
+set-mark-requires c κs =
+    let d = c .before .before .before .before .before .before .before in
+    let slots : length (d .args .workers) ≡ 32 = search needs in
+    let a = accepts-then (d .args .z) _ _ _ (d .args .workers) _ _ _ (c .before .before .before .take-answer .ensures) _ (c .before .before .accepted .ensures) (not-false _ (c .before .if1 .left)) slots in
+    omega (arith, a .task-exists, a .state .records-fit)
+
+mul-h : tie.Need-mul-h
+mul-h c =
+    let d = c .before .before .before .before .before .before .before .before .before in
+    let slots : length (d .args .workers) ≡ 32 = search needs in
+    let a = accepts-then (d .args .z) _ _ _ (d .args .workers) _ _ _ (c .before .before .before .before .before .take-answer .ensures) _ (c .before .before .before .before .accepted .ensures) (not-false _ (c .before .before .before .if1 .left)) slots in
+    omega (arith, a .worker-exists, a .state .sizes)
+
+array-copy-out-h : tie.Need-array-copy-out-h
+array-copy-out-h c =
+    let d = c .before .before .before .before .before .before .before .before .before in
+    let slots : length (d .args .workers) ≡ 32 = search needs in
+    let a = accepts-then (d .args .z) _ _ _ (d .args .workers) _ _ _ (c .before .before .before .before .before .take-answer .ensures) _ (c .before .before .before .before .accepted .ensures) (not-false _ (c .before .before .before .if1 .left)) slots in
+    omega (arith, a .worker-exists, a .state .sizes)
+
+cast-take : tie.Need-cast-take
+cast-take c =
+    let d = c .before .before .before .before .before .before .before .before .before .before in
+    let slots : length (d .args .workers) ≡ 32 = search needs in
+    let a = accepts-then (d .args .z) _ _ _ (d .args .workers) _ _ _ (c .before .before .before .before .before .before .take-answer .ensures) _ (c .before .before .before .before .before .accepted .ensures) (not-false _ (c .before .before .before .before .if1 .left)) slots in
+    omega (arith, a .task-exists, few-tasks _ (a .state .sizes .few-tiles))
+
+take-requires : tie.Need-take-requires
+take-requires c κs = search needs
+
+mul-left : tie.Need-mul-left
+mul-left c =
+    let d = c .before .before .before .before .before .before .before .before .before .before .before in
+    let slots : length (d .args .workers) ≡ 32 = search needs in
+    let a = accepts-then (d .args .z) _ _ _ (d .args .workers) _ _ _ (c .before .before .before .before .before .before .before .take-answer .ensures) _ (c .before .before .before .before .before .before .accepted .ensures) (not-false _ (c .before .before .before .before .before .if1 .left)) slots in
+    omega (arith, a .worker-exists, a .state .sizes)
+
+array-set-from-left : tie.Need-array-set-from-left
+array-set-from-left c =
+    let d = c .before .before .before .before .before .before .before .before .before .before .before in
+    let slots : length (d .args .workers) ≡ 32 = search needs in
+    let a = accepts-then (d .args .z) _ _ _ (d .args .workers) _ _ _ (c .before .before .before .before .before .before .before .take-answer .ensures) _ (c .before .before .before .before .before .before .accepted .ensures) (not-false _ (c .before .before .before .before .before .if1 .left)) slots in
+    omega (arith, a .worker-exists, a .state .sizes)
+
+same-length-2 : tie.Need-same-length-2
+same-length-2 c = search needs
+
+returns-2 : tie.Need-returns-2
+returns-2 c =
+    let d = c .before .before .before .before .before .before .before .before .before .before .before in
+    let slots : length (d .args .workers) ≡ 32 = search needs in
+    (taken-by (d .args .z) _ _ _ (d .args .workers) _ _ _ (c .before .before .before .before .before .before .before .take-answer .ensures) _ (c .before .before .before .before .before .before .accepted .ensures) (not-false _ (c .before .before .before .before .before .if1 .left)) slots _ _ (c .before .before .before .set-mark .ensures .0) (c .take .ensures), others-kept (d .args .z) _ _ _ (d .args .workers) _ _ _ (c .before .before .before .before .before .before .before .take-answer .ensures) _ (c .before .before .before .before .before .before .accepted .ensures) (not-false _ (c .before .before .before .before .before .if1 .left)) slots _)
+
+pub take-spec : {M : Type 1} → statement M
+take-spec =
+    tie.close
+    (tie.spec
+    take-answer-requires
+    accepted-requires
+    same-length
+    returns
+    set-mark-requires
+    mul-h
+    array-copy-out-h
+    cast-take
+    take-requires
+    mul-left
+    array-set-from-left
+    same-length-2
+    returns-2)

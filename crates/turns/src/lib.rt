@@ -1,0 +1,73 @@
+// The turns of a run, once what is lent passed the refusals.
+ghost use mathlib.Core.Path.{_≡_};
+ghost use lib.ListN.{drop};
+ghost use Rattle.model.specs.declared.Answer.the-variants.{Accepted};
+ghost use Rattle.model.specs.Plan.{planOf};
+ghost use Rattle.model.specs.Calls.{wholeRun};
+ghost use Rattle.model.specs.Refusal.{runAnswer};
+ghost use Rattle.records.specs.Records.{lent};
+
+use advancing::advance;
+use next::after;
+use next::answer_after;
+use next::lowest_ready;
+use next::next_busy;
+use next::search_from;
+use next::take_task;
+use model::RunAnswer;
+use model::RunReply;
+use model::Sizes;
+use model::Worker;
+
+// Workers take turns until every task is finished or the budget is spent. Below `from` no task is ready, so a search begins there.
+pub fn take_turns(
+    z: Sizes,
+    matrix: &mut [f64],
+    lists: &mut [u8],
+    records: &mut [[u8; 5]],
+    workers: [Worker; 32],
+    budget: u64,
+) -> RunReply
+    requires { ⌜ runAnswer z (lent (now matrix) (now lists) (now records) workers (z .workers)) ≡ Accepted ⌝ }
+    ensures { λ r. ⌜ record {
+            answer = r .answer;
+            left = lent (now (matrix .exit)) (now (lists .exit)) (now (records .exit)) (r .workers) (z .workers);
+        } ≡ wholeRun (planOf z) (z .workers) budget (lent (now (matrix .entry)) (now (lists .entry)) (now (records .entry)) workers (z .workers)) ⌝ }
+    ensures { λ r. ⌜ drop (z .workers) (r .workers) ≡ drop (z .workers) workers ⌝ }
+{
+    let mut left = workers;
+    let mut n = 0;
+    let mut w = 0;
+    let mut from = 0;
+    while n < budget {
+        let h = left[w];
+        if h.busy {
+            let g = advance(z, matrix, lists, records, h);
+            left[w] = g;
+            from = search_from(from, g.busy, h.task as usize);
+            n += 1;
+            w = after(z.workers, w);
+            continue;
+        }
+        from = lowest_ready(z.tiles, records, from);
+        if from < records.len() {
+            left[w] = take_task(records, from, h);
+            from += 1;
+            n += 1;
+            w = after(z.workers, w);
+            continue;
+        }
+        let v = next_busy(left, z.workers, w);
+        if v == z.workers {
+            return RunReply {
+                answer: RunAnswer::Finished(n),
+                workers: left,
+            };
+        }
+        w = v;
+    }
+    RunReply {
+        answer: answer_after(records, n),
+        workers: left,
+    }
+}
