@@ -1,104 +1,19 @@
 // A busy worker does the next column of the task it holds.
 ghost use mathlib.Core.Path.{_≡_};
-ghost use mathlib.Core.Bool.{cond, _&&_};
-ghost use mathlib.Core.List.{List};
+ghost use mathlib.Core.Bool.{cond};
 ghost use Prim.Native.Nat.{suc, _<_};
-ghost use lib.Dec.{eqb};
 ghost use lib.ListN.{drop};
-ghost use Rattle.model.specs.declared.Worker.{Worker as SomeWorker};
-ghost use Rattle.model.specs.Task.{tasks};
 ghost use Rattle.model.specs.Plan.{planOf};
-ghost use Rattle.model.specs.Links.{finished, spoils};
-ghost use Rattle.model.specs.Buffer.{markOf, columnEnds};
-ghost use Rattle.model.specs.Calls.{idle, holding, columnOf, advanced};
-ghost use Rattle.graph.specs.Graph.{Recorded};
-ghost use Rattle.columns.specs.Workable.{Workable};
-ghost use Rattle.records.specs.Records.{marksFrom, lent};
-ghost use Rattle.checks.specs.Checks.{taskFrom};
-ghost use Rattle.advancing.specs.Advancing.{ColumnDue, Advanced, Working};
-use columns::apply::apply_column;
-use columns::couple::couple_column;
-use columns::factor::factor_column;
-use columns::pair::pair_column;
-use filling::fill_task;
+ghost use Rattle.model.specs.Links.{finished};
+ghost use Rattle.model.specs.Calls.{idle, holding, advanced};
+ghost use Rattle.records.specs.Records.{lent};
+ghost use Rattle.task_columns.specs.Due.{ColumnDue};
+ghost use Rattle.advancing.specs.Advancing.{Advanced, Working};
 use graph::is_finished;
-use graph::is_spoiled;
-use model::ColumnEnd;
 use model::Sizes;
-use model::TaskRecord;
 use model::Worker;
-use records::record_at;
 use records::set_mark;
-
-// The mark that a column's end gives its task.
-fn mark_after(end: ColumnEnd) -> u8
-    ensures { λ r. ⌜ r ≡ markOf end ⌝ }
-{
-    match end {
-        ColumnEnd::GoesOn => 1,
-        ColumnEnd::Done => 2,
-        ColumnEnd::Failed => 3,
-    }
-}
-
-// Works column c of a task that is not spoiled, and tells how it ends.
-fn work_column(
-    z: Sizes,
-    matrix: &mut [f64],
-    lists: &mut [u8],
-    task: TaskRecord,
-    c: usize,
-) -> ColumnEnd
-    requires { ⌜ Workable z (taskFrom task) c (now matrix) (now lists) ⌝ }
-    ensures { λ r. ⌜ record { left = record { matrix = now (matrix .exit); lists = now (lists .exit) }; mark = markOf r }
-        ≡ columnEnds (planOf z) (taskFrom task) c (record { matrix = now (matrix .entry); lists = now (lists .entry) }) ⌝ }
-{
-    let k = task.k as usize;
-    let i = task.i as usize;
-    let j = task.j as usize;
-    if task.kind == 1 {
-        return factor_column(z, matrix, lists, k, c);
-    }
-    if task.kind == 2 {
-        return apply_column(z, matrix, lists, k, j, c);
-    }
-    if task.kind == 3 {
-        return couple_column(z, matrix, lists, k, i, c);
-    }
-    pair_column(z, matrix, lists, k, i, j, c)
-}
-
-// Whether task p, called for at column c, is spoiled: that is seen at its first column.
-fn spoiled_at(z: Sizes, records: &[[u8; 5]], p: usize, c: usize) -> bool
-    requires { ⌜ Recorded (z .tiles) (now records) p ⌝ }
-    ensures { λ r. ⌜ r ≡ (eqb c 0 && spoils (tasks (z .tiles)) (marksFrom (now (records .entry))) p) ⌝ }
-{
-    if c != 0 {
-        return false;
-    }
-    is_spoiled(z.tiles, records, p)
-}
-
-// Works column c of task p, or fills what it writes where it is spoiled, and tells its mark.
-fn work_task(
-    z: Sizes,
-    matrix: &mut [f64],
-    lists: &mut [u8],
-    records: &[[u8; 5]],
-    p: usize,
-    c: usize,
-) -> u8
-    requires { ⌜ ColumnDue z p c (now matrix) (now lists) (now records) ⌝ }
-    ensures { λ r. ⌜ ((slots : List SomeWorker) → record { left = record { matrix = now (matrix .exit); lists = now (lists .exit) }; mark = r }
-        ≡ columnOf (planOf z) (lent (now (matrix .entry)) (now (lists .entry)) (now (records .entry)) slots (z .workers)) p c) ⌝ }
-{
-    let task = record_at(records, p);
-    if spoiled_at(z, records, p, c) {
-        fill_task(z, matrix, lists, task);
-        return 4;
-    }
-    mark_after(work_column(z, matrix, lists, task, c))
-}
+use task_columns::work_task;
 
 // The worker after a column that left its task with this mark.
 fn moved_on(h: Worker, mark: u8) -> Worker

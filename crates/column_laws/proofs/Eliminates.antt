@@ -1,9 +1,9 @@
 -- A column divided by the pivot, then the rows updated right of it: the pivot row is eliminated from the rows. Assumes nothing.
 use mathlib.Core.Path.{_≡_, refl, sym, _∙_, ap}
-use mathlib.Core.Logic.{_⊎_, inl, inr, ⊎-elim}
-use mathlib.Core.Bool.{Bool, true, false, cond, _&&_}
-use mathlib.Core.List.{List, _∷_, map}
-use Prim.Native.Nat.{ℕ, zero, suc, _+_, _-_, _*_, _<_, _≤_, compare}
+use mathlib.Core.Logic.{_⊎_, ⊎-elim}
+use mathlib.Core.Bool.{Bool, true, false, cond}
+use mathlib.Core.List.{List, map}
+use Prim.Native.Nat.{ℕ, suc, _+_, _-_, _*_, _<_, _≤_}
 use native.Mathlib.Nat.{zero-add}
 use native.Mathlib.Numerals.{add-one}
 use native.Mathlib.Omega.{arith}
@@ -14,8 +14,8 @@ use lib.Ieee.{Float, nan}
 use borrow.Author.Tests.{eqb-true, eqb-false, eq-eqb, ne-eqb, lt-ltb, le-ltb}
 use Rattle.model.specs.Lists.{run, below, every, joined, part, withPart}
 use Rattle.model.specs.Num.{finite, update, updateComputes, quotient}
-use Rattle.model.specs.Tile.{at, block, allFinite}
-use Rattle.model.specs.Column.{beyond, sides, eliminated, eliminationComputes}
+use Rattle.model.specs.Tile.{at, allFinite}
+use Rattle.model.specs.Column.{beyond, eliminated, eliminationComputes}
 use Rattle.kernel.specs.Flat.{ColumnDivided, RowsUpdated, updatedRows, rowsCompute}
 use Rattle.laws.proofs.Tests.{Order, less, equal, more, order, lt-or-le}
 use Rattle.laws.proofs.Blocks.{block-cong, in-block, column-same}

@@ -6,27 +6,27 @@ use Prim.Native.Nat.{ℕ, suc, _+_, _-_, _*_, _<_, _≤_}
 use native.Mathlib.Nat.{zero-add}
 use native.Mathlib.Omega.{arith}
 use lib.Dec.{eqb, leb}
-use lib.ListN.{length, getD, set, replicate, length-replicate, length-set}
+use lib.ListN.{length, getD, set, replicate, length-replicate}
 use lib.Ieee.{Float, nan}
 use borrow.Author.Tests.{leb-false}
 use Rattle.model.specs.declared.Pivot.{Pivot}
-use Rattle.model.specs.Lists.{below, every, joined, part, withPart}
+use Rattle.model.specs.Lists.{below, every, part, withPart}
 use Rattle.model.specs.Num.{finite, plusZero, isZero, update}
-use Rattle.model.specs.Tile.{at, zeros, block}
-use Rattle.model.specs.Column.{rowComputes, beyond, applyStart, factorPivot, couplePivot}
+use Rattle.model.specs.Tile.{at, zeros}
+use Rattle.model.specs.Column.{beyond, applyStart, factorPivot, couplePivot}
 use Rattle.model.specs.Task.{Task, T-1, T-2, T-3, T-4}
 use Rattle.model.specs.Links.{taken, done, failed}
 use Rattle.model.specs.Plan.{Plan, plan}
-use Rattle.model.specs.Buffer.{Buffers, Ended, tile, putTile, rows, putRows, tileOf, rowsOf, withTile, withRows, worked, computed, sound, fillTile, fillRows, upperFilled, fillUpper, filled, columnEnds}
+use Rattle.model.specs.Buffer.{Buffers, tile, putTile, putRows, tileOf, withTile, withRows, worked, sound, fillTile, fillRows, upperFilled, fillUpper, filled, columnEnds}
 use Rattle.kernel.specs.Flat.{upperZeroed}
 use Rattle.laws.proofs.Parts.{Apart, Fits, length-put, part-put, put-put}
-use Rattle.laws.proofs.Blocks.{length-block, block-cong}
-use Rattle.column_laws.specs.Steps.{tileStart, listStart, RowsApplied, applied, appliedComputes, RowsPaired, paired, pairedComputes, upperAt, lowerAt, withTwo, TileFactored, factored, factoredComputes, exchangedAt, TilesCoupled, eliminatedRows, eliminatedComputes}
+use Rattle.laws.proofs.Blocks.{block-cong}
+use Rattle.column_laws.specs.Steps.{tileStart, listStart, RowsApplied, applied, appliedComputes, RowsPaired, paired, pairedComputes, upperAt, lowerAt, withTwo, TileFactored, factored, exchangedAt, TilesCoupled, eliminatedRows}
 use Rattle.column_laws.proofs.Nested.{length-part}
 use Rattle.column_laws.proofs.Computes.{every-joined}
 use Rattle.column_laws.proofs.Updates.{at-part}
 use Rattle.column_laws.proofs.Two.{put-upper, put-lower}
-use Rattle.column_laws.proofs.Pairs.{length-upper, length-lower, length-paired, length-eliminated, length-factored, length-applied}
+use Rattle.column_laws.proofs.Pairs.{length-upper, length-paired, length-eliminated, length-factored, length-applied}
 use Rattle.column_laws.proofs.Permutes.{length-start}
 use Rattle.column_laws.proofs.Worked.{pair-worked, pair-computed, apply-worked, apply-computed, factor-worked, factor-skipped, factor-computed, factor-none, couple-worked, couple-skipped, couple-computed, couple-none}
 
@@ -57,7 +57,7 @@ module _ (N t : ℕ) (m : List Float) (l : List ℕ) where
   pub couple-filled : (k i : ℕ) → filled (plan N t) (T-3 k i) (record { matrix = m; lists = l })
       ≡ record {
         matrix = withPart (tileStart N t k k) (t * t) (upperZeroed t (part (tileStart N t k k) (t * t) (withPart (tileStart N t i k) (t * t) (zeros (t * t)) m)))
-          (withPart (tileStart N t i k) (t * t) (zeros (t * t)) m);
+            (withPart (tileStart N t i k) (t * t) (zeros (t * t)) m);
         lists = withPart (listStart N t i k) t (replicate t 0) l;
       }
   unfolding plan filled fillUpper upperFilled fillTile fillRows withTile withRows putTile putRows tileOf tile upperZeroed
@@ -185,10 +185,10 @@ module _ (N t k j c a b : ℕ) (m : List Float) (l : List ℕ) (ha : a ≡ tileS
       let n = t * t in
       let here : a + n ≤ length mid = rw (ap length x ∙ length-put n nan a m _ start-fits) room in
       let stopped : withPart a n (zeros n) after ≡ withPart a n (zeros n) m =
-        ap (withPart a n (zeros n)) (p .frame)
-        ∙ put-put n nan a mid (part a n after) (record { whole = length-part a n after (rw long here); room = here }) (zeros n) ∙ put-mid (zeros n) in
+      ap (withPart a n (zeros n)) (p .frame)
+      ∙ put-put n nan a mid (part a n after) (record { whole = length-part a n after (rw long here); room = here }) (zeros n) ∙ put-mid (zeros n) in
       let whole = put-put n nan a m (applied t t c (λ r. at t (part (tileStart N t k k) n m) r c) (applyStart t t c (part b t l) (part a n m)))
-        (record { whole = length-applied t t c _ _; room = room }) (zeros n) in
+      (record { whole = length-applied t t c _ _; room = room }) (zeros n) in
       ends-failed (plan N t) (T-2 k j) c (record { matrix = m; lists = l }) (record { matrix = last; lists = l })
       (rw (apply-worked N t c m l k j, apply-filled N t, ← ha, ← hb) (ap (λ (y : List Float). record { matrix = y; lists = l }) (q ∙ stopped ∙ sym whole)))
       (sym apply-sound ∙ h)
@@ -239,7 +239,7 @@ module _ (N t k c a b : ℕ) (ha : a ≡ tileStart N t k k) (hb : b ≡ listStar
     factor-fails last l″ h q q′ =
         let n = t * t in
         let stopped : withPart a n (zeros n) after ≡ withPart a n (zeros n) m =
-          ap (withPart a n (zeros n)) (p .frame) ∙ put-put n nan a m (part a n after) (record { whole = length-part a n after (rw (p .long) room); room = room }) (zeros n) in
+        ap (withPart a n (zeros n)) (p .frame) ∙ put-put n nan a m (part a n after) (record { whole = length-part a n after (rw (p .long) room); room = room }) (zeros n) in
         let whole = put-put n nan a m (factored t c (exchangedAt t c y a m)) (record { whole = length-factored t c _; room = room }) (zeros n) in
         ends-failed (plan N t) (T-1 k) c (record { matrix = m; lists = l }) (record { matrix = last; lists = l″ })
         (rw (worked-is, factor-filled N t, ← ha, ← hb, ← q′) (ap (λ (x : List Float). record { matrix = x; lists = l″ }) (q ∙ stopped ∙ sym whole)))

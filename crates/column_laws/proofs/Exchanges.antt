@@ -1,18 +1,15 @@
 -- An exchange of runs of the flat matrix is an exchange of rows of its tiles. Assumes nothing.
 use mathlib.Core.Path.{_≡_, refl, sym, _∙_, ap}
-use mathlib.Core.Logic.{_⊎_, inl, inr, ⊎-elim}
+use mathlib.Core.Logic.{_⊎_, inl, inr}
 use mathlib.Core.List.{List}
 use Prim.Native.Nat.{ℕ, suc, _+_, _*_, _<_, _≤_}
-use native.Mathlib.Nat.{mul-le-mul-right}
 use native.Mathlib.Omega.{arith}
 use lib.ListN.{length}
 use lib.Ieee.{Float, nan}
 use borrow.Rule.Slice.PartMut.{put-same}
 use Rattle.model.specs.Lists.{part, withPart}
 use Rattle.model.specs.Tile.{exchanged}
-use Rattle.model.specs.Column.{upperExchanged, lowerExchanged}
 use Rattle.kernel.specs.Flat.{exchangedParts}
-use Rattle.laws.proofs.Blocks.{length-block}
 use Rattle.laws.proofs.Parts.{Apart, Fits, length-put, part-put, put-put, part-other}
 use Rattle.column_laws.specs.Steps.{upperAt, lowerAt, withTwo, exchangedAt}
 use Rattle.column_laws.proofs.Nested.{length-part, part-in, put-in}
@@ -32,11 +29,16 @@ module _ (t w a x y : ℕ) (hx : x < t) (hy : y < t) (m : List Float) (room : a 
       let whole : length tile ≡ t * w = length-part a (t * w) m room in
       let q : List Float = withPart (y * w) w (part (x * w) w tile) tile in
       let long : length q ≡ t * w = length-put w nan (y * w) tile (part (x * w) w tile)
-        (record { whole = length-part (x * w) w tile (rw whole (row-room t w x hx)); room = rw whole (row-room t w y hy) }) ∙ whole in
+      (record { whole = length-part (x * w) w tile (rw whole (row-room t w x hx)); room = rw whole (row-room t w y hy) }) ∙ whole in
       let fits : Fits (t * w) a m q = record { whole = long; room = room } in
-      rw (px, py, put-in a (t * w) m room (y * w) w (row-room t w y hy) (part (x * w) w tile),
+      rw (
+        px,
+        py,
+        put-in a (t * w) m room (y * w) w (row-room t w y hy) (part (x * w) w tile),
         put-in a (t * w) (withPart a (t * w) q m) (rw (length-put (t * w) nan a m q fits) room) (x * w) w (row-room t w x hx) (part (y * w) w tile),
-        part-put (t * w) nan a m q fits, put-put (t * w) nan a m q fits)
+        part-put (t * w) nan a m q fits,
+        put-put (t * w) nan a m q fits,
+      )
       (ap (λ (b : List Float). withPart a (t * w) b m) (exchange-rows t w x y hx hy tile whole))
 
 pub exchange-at : (t a c y : ℕ) (m mid : List Float) → c < t → y < t → a + t * t ≤ length m → mid ≡ exchangedParts (a + c * t) (a + y * t) t m
@@ -68,9 +70,13 @@ module _ (t w u d c : ℕ) (hc : c < t) (m : List Float) (ru : u + t * w ≤ len
         let b : List Float = withPart (y * w + f) n (part (c * w + f) n upper) lower in
         let long : length b ≡ t * w = length-put-run t w y f n (y * w + f) hy refl ends lower hd (part (c * w + f) n upper) (length-run t w c f n (c * w + f) hc refl ends upper hu) in
         let fits : Fits (t * w) d m b = record { whole = long; room = rd } in
-        rw (part-in u (t * w) m ru (c * w + f) n rc nan, part-in d (t * w) m rd (y * w + f) n ry nan, put-in d (t * w) m rd (y * w + f) n ry (part (c * w + f) n upper),
+        rw (
+          part-in u (t * w) m ru (c * w + f) n rc nan,
+          part-in d (t * w) m rd (y * w + f) n ry nan,
+          put-in d (t * w) m rd (y * w + f) n ry (part (c * w + f) n upper),
           put-in u (t * w) (withPart d (t * w) b m) (rw (length-put (t * w) nan d m b fits) ru) (c * w + f) n rc (part (y * w + f) n lower),
-          part-other (t * w) nan d u m b fits ru (turned (t * w) u d apart))
+          part-other (t * w) nan d u m b fits ru (turned (t * w) u d apart),
+        )
         (rw (upper-row t w c y f n hc hy ends upper lower hu hd, lower-row t w c y f n hc hy ends upper lower hu hd))
 
     -- entry e names row y

@@ -1,13 +1,13 @@
 -- Finite lists and blocks, element by element. Assumes nothing.
 use mathlib.Core.Path.{_≡_, refl, sym, _∙_, ap}
-use mathlib.Core.Bool.{Bool, true, false, _&&_}
+use mathlib.Core.Bool.{true}
 use mathlib.Core.List.{List, [], _∷_}
 use Prim.Native.Nat.{ℕ, zero, suc, _+_, _-_, _*_, _/_, _%_, _<_, _≤_}
 use native.Mathlib.Nat.{not-suc-le-zero, le-of-suc-le-suc, div-add-mod'}
 use native.Mathlib.Omega.{arith}
 use lib.ListN.{length, getD}
 use lib.Ieee.{Float, nan}
-use Rattle.model.specs.Lists.{every, part, withPart}
+use Rattle.model.specs.Lists.{every, part}
 use Rattle.model.specs.Num.{finite}
 use Rattle.model.specs.Tile.{at, block, allFinite}
 use Rattle.laws.proofs.Tests.{and-left, and-right, and-intro}

@@ -1,15 +1,13 @@
 -- A part of a part, and what stands in a row of a tile that is a part of the matrix. Assumes nothing.
-use mathlib.Core.Path.{_≡_, refl, sym, _∙_, ap}
+use mathlib.Core.Path.{_≡_, sym, _∙_}
 use mathlib.Core.List.{List, _++_, append-assoc}
-use Prim.Native.Nat.{ℕ, _+_, _-_, _*_, _<_, _≤_}
+use Prim.Native.Nat.{ℕ, _+_, _<_, _≤_}
 use native.Mathlib.Nat.{add-assoc}
 use native.Mathlib.Omega.{arith}
 use lib.ListN.{length, getD, take, drop, length-take, length-drop, take-append-drop}
-use lib.Seq.{getD-drop, getD-take, take-take, drop-drop, take-add, drop-append-le, ext-getD, length-take-le}
-use lib.Ieee.{Float, nan}
+use lib.Seq.{getD-drop, getD-take, take-take, drop-drop, take-add, drop-append-le, ext-getD}
 use Rattle.model.specs.Lists.{part, withPart}
 use Rattle.model.specs.Tile.{at}
-use Rattle.laws.proofs.Parts.{Fits, length-put, part-put, put-put}
 
 module _ {A : Type 0} (a n : ℕ) (m : List A) (room : a + n ≤ length m) where
   pub length-part : length (part a n m) ≡ n

@@ -1,19 +1,18 @@
 -- From an exchange and an update of rows to a whole step on two blocks or one tile: T-4, T-3 and T-1. Assumes nothing.
-use mathlib.Core.Path.{_≡_, refl, sym, _∙_, ap}
-use mathlib.Core.Logic.{_⊎_, inl, inr}
+use mathlib.Core.Path.{_≡_, refl, _∙_, ap}
 use mathlib.Core.Bool.{Bool, true, false, cond, _&&_}
-use mathlib.Core.List.{List, _∷_, map}
-use Prim.Native.Nat.{ℕ, zero, suc, pred, _+_, _-_, _*_, _<_, _≤_}
+use mathlib.Core.List.{List, map}
+use Prim.Native.Nat.{ℕ, suc, pred, _+_, _-_, _*_, _<_, _≤_}
 use native.Mathlib.Nat.{zero-add, sub-zero}
 use native.Mathlib.Omega.{arith}
 use lib.Dec.{eqb, ltb, leb}
 use lib.ListN.{length, getD}
 use lib.Ieee.{Float, nan}
-use borrow.Author.Tests.{eqb-true, le-ltb, ltb-true, leb-false}
+use borrow.Author.Tests.{le-ltb, ltb-true, leb-false}
 use Rattle.model.specs.Lists.{run, below, every, joined, part, withPart}
-use Rattle.model.specs.Num.{finite, update, updateComputes, quotient}
+use Rattle.model.specs.Num.{finite, updateComputes, quotient}
 use Rattle.model.specs.Tile.{at, block, swapped, exchanged, allFinite}
-use Rattle.model.specs.Column.{beyond, sides, eliminated, eliminationComputes, rowComputes, upperExchanged, lowerExchanged}
+use Rattle.model.specs.Column.{beyond, eliminated, eliminationComputes, rowComputes, upperExchanged, lowerExchanged}
 use Rattle.kernel.specs.Flat.{RowsUpdated, updatedRows, rowsCompute}
 use Rattle.laws.proofs.Tests.{and-left}
 use Rattle.laws.proofs.Blocks.{length-block, block-cong}
@@ -280,5 +279,5 @@ module _ (t c k y a s top : ℕ) (ends : suc c + k ≡ t) (m : List Float) (room
     sound = r .sound ∙ factored-sound;
     whole = λ h. r .whole h ∙ factored-whole;
     frame = frame-rows t t c k a s mid mid-room ends start after (part s (k * t) after)
-      (length-part s (k * t) after (rw long (rows-room t t c k a s mid mid-room ends start))) (r .frame) ∙ put-tile (part a (t * t) after);
+        (length-part s (k * t) after (rw long (rows-room t t c k a s mid mid-room ends start))) (r .frame) ∙ put-tile (part a (t * t) after);
   }

@@ -34,7 +34,7 @@ rows-exchangeable w a x y = go (order x y)
 
 -- ---- lengths, and finite blocks
 
-length-exchanged : (t w x y : ℕ) (b : List Float) → length (exchanged t w x y b) ≡ t * w
+pub length-exchanged : (t w x y : ℕ) (b : List Float) → length (exchanged t w x y b) ≡ t * w
 unfolding exchanged
 length-exchanged t w x y b = length-block t w _
 
@@ -125,7 +125,7 @@ module _ (t w a p : ℕ) (l : List ℕ) (before : List Float) (room : a + t * w 
         let more : t - c ≡ suc (t - suc c) = omega arith in
         let entry : getD (part p t l) c 0 ≡ y = get-part p t l lists 0 c hc ∙ sym e in
         let next : permuted t w (part p t l) (part a n before) ≡ inTurn (λ x. exchanged t w x (getD (part p t l) x 0)) (run (suc c) (t - suc c)) b′ =
-          sym (s .left) ∙ rw (more, ← entry) in
+        sym (s .left) ∙ rw (more, ← entry) in
         record {
           within = omega arith;
           long = ap length put ∙ length-put n nan a present b′ fits ∙ s .long;

@@ -2,14 +2,14 @@
 -- by the pivot are finite, of magnitude at most 1. Assumes nothing.
 use mathlib.Core.Path.{_≡_, refl, sym, _∙_, ap}
 use mathlib.Core.Bool.{Bool, true, false, cond, _&&_}
-use mathlib.Core.List.{List, [], _∷_, map}
+use mathlib.Core.List.{List, map}
 use Prim.Native.Nat.{ℕ, zero, suc, pred, _+_, _-_, _*_, _<_, _≤_}
-use native.Mathlib.Nat.{add-zero, add-suc, suc-add, zero-add, not-suc-le-zero, le-of-suc-le-suc}
+use native.Mathlib.Nat.{add-zero, add-suc, suc-add, zero-add, le-of-suc-le-suc}
 use native.Mathlib.Omega.{arith}
 use lib.Dec.{eqb, ltb, leb}
 use lib.ListN.{length, getD}
 use lib.Ieee.{Float, nan}
-use borrow.Author.Tests.{eqb-true, eqb-false, ltb-true, ltb-false, eq-eqb, ne-eqb, le-leb, lt-ltb}
+use borrow.Author.Tests.{ltb-true, ltb-false, eq-eqb, ne-eqb, le-leb}
 use Rattle.model.specs.declared.Pivot.{Pivot}
 use Rattle.model.specs.Lists.{run, below, table, part}
 use Rattle.model.specs.Num.{finite, isZero, quotient}
@@ -19,7 +19,7 @@ use Rattle.kernel.specs.Flat.{candidates}
 use Rattle.laws.proofs.Blocks.{length-table, getD-table, at-block}
 use Rattle.float_laws.proofs.Rounding.{within}
 use Rattle.float_laws.proofs.Quotient.{within-finite}
-use Rattle.float_laws.proofs.Search.{Largest, search-finds, search-finds-at, multiplier-at-most-one}
+use Rattle.float_laws.proofs.Search.{Largest, search-finds-at, multiplier-at-most-one}
 use Rattle.column_laws.specs.Steps.{upperAt, lowerAt, exchangedAt}
 use Rattle.column_laws.proofs.Nested.{length-part}
 use Rattle.column_laws.proofs.Finite.{finite-at}
@@ -48,10 +48,10 @@ module _ (t c a : ℕ) (hc : c < t) (m : List Float) (room : a + t * t ≤ lengt
       let n : t - c ≡ suc k = omega arith in
       let top : getD m first nan ≡ at t (part a (t * t) m) c c = rw ef (sym (at-part t t a m c c room hc hc)) in
       let others : map (λ i. getD m (rest + i * t) nan) (run 0 k) ≡ map (λ r. at t (part a (t * t) m) r c) (run (suc c) k) =
-        map-run (λ i. getD m (rest + i * t) nan) (λ r. at t (part a (t * t) m) r c) 0 (suc c) k
-        (λ i h.
-        let e : rest + i * t ≡ a + ((suc c + i) * t + c) = omega arith in
-        rw (zero-add i, e) (sym (at-part t t a m (suc c + i) c room (omega arith) hc))) in
+      map-run (λ i. getD m (rest + i * t) nan) (λ r. at t (part a (t * t) m) r c) 0 (suc c) k
+      (λ i h.
+      let e : rest + i * t ≡ a + ((suc c + i) * t + c) = omega arith in
+      rw (zero-add i, e) (sym (at-part t t a m (suc c + i) c room (omega arith) hc))) in
       rw (n, top, others)
 
   module _ (f : allFinite (part a (t * t) m) ≡ true) where
@@ -111,10 +111,10 @@ module _ (t c u d : ℕ) (hc : c < t) (m : List Float) (ru : u + t * t ≤ lengt
   couple-search first rest ef er =
       let top : getD m first nan ≡ at t (part u (t * t) m) c c = rw ef (sym (at-part t t u m c c ru hc hc)) in
       let others : map (λ i. getD m (rest + i * t) nan) (run 0 t) ≡ map (λ r. at t (part d (t * t) m) r c) (run 0 t) =
-        map-run (λ i. getD m (rest + i * t) nan) (λ r. at t (part d (t * t) m) r c) 0 0 t
-        (λ i h.
-        let e : rest + i * t ≡ d + (i * t + c) = omega arith in
-        rw (zero-add i, e) (sym (at-part t t d m i c rd h hc))) in
+      map-run (λ i. getD m (rest + i * t) nan) (λ r. at t (part d (t * t) m) r c) 0 0 t
+      (λ i h.
+      let e : rest + i * t ≡ d + (i * t + c) = omega arith in
+      rw (zero-add i, e) (sym (at-part t t d m i c rd h hc))) in
       rw (top, others)
 
   module _ (fu : allFinite (part u (t * t) m) ≡ true) (fd : allFinite (part d (t * t) m) ≡ true) where
@@ -165,8 +165,12 @@ module _ (t c u d : ℕ) (hc : c < t) (m : List Float) (ru : u + t * t ≤ lengt
         let (i, l, low) = lower-by e r h (eqb (suc r) e) refl in
         let up = upper-by e (rw p couple-place) (ltb 0 e) refl ∙ ap entrant p in
         let q = multiplier-at-most-one entrant (suc t) (couplePivot t c (part u (t * t) m) (part d (t * t) m)) couple-largest entrant-finite nz i l in
-        rw (at-block t t (λ r q. cond (eqb (suc r) e && leb c q) (at t (part u (t * t) m) c q) (at t (part d (t * t) m) r q)) r c h hc,
-          at-block t t (λ r q. cond (ltb 0 e && eqb r c && leb c q) (at t (part d (t * t) m) (pred e) q) (at t (part u (t * t) m) r q)) c c hc hc, low, up)
+        rw (
+          at-block t t (λ r q. cond (eqb (suc r) e && leb c q) (at t (part u (t * t) m) c q) (at t (part d (t * t) m) r q)) r c h hc,
+          at-block t t (λ r q. cond (ltb 0 e && eqb r c && leb c q) (at t (part d (t * t) m) (pred e) q) (at t (part u (t * t) m) r q)) c c hc hc,
+          low,
+          up,
+        )
         q
 
     -- by the pivot that the code found

@@ -1,7 +1,6 @@
 -- Where tiles and row lists stand: in the slice, and apart from each other. Assumes nothing.
-use mathlib.Core.Path.{_≡_}
-use mathlib.Core.Logic.{inl}
-use Prim.Native.Nat.{ℕ, suc, _+_, _*_, _<_, _≤_}
+use mathlib.Core.Logic.{inl, inr}
+use Prim.Native.Nat.{ℕ, _+_, _*_, _<_, _≤_}
 use native.Mathlib.Nat.{mul-le-mul-right, mul-le-mul}
 use native.Mathlib.Omega.{arith}
 use Rattle.laws.proofs.Blocks.{in-block}
@@ -18,12 +17,16 @@ place-room N s i j hi hj = slot-room (N * N) s (i * N + j) (in-block N N i j hi 
 pub place-below : (N i j : ℕ) → N ≤ 16 → i < N → j < N → i * N + j < 256
 place-below N i j h hi hj = omega (arith, in-block N N i j hi hj, mul-le-mul-right N h)
 
+-- two slots share nothing
+pub slots-apart : (s p q : ℕ) → p < q → Apart s (p * s) (q * s)
+slots-apart s p q h = inl (slot-room q s p h)
+
+pub slots-apart-back : (s p q : ℕ) → q < p → Apart s (p * s) (q * s)
+slots-apart-back s p q h = inr (slot-room p s q h)
+
 -- of two tiles the one in the upper row stands before the other
 pub rows-apart : (N s k i j : ℕ) → j < N → k < i → Apart s ((k * N + j) * s) ((i * N + j) * s)
-rows-apart N s k i j hj h = inl (slot-room′ (k * N + j) (i * N + j) (omega (arith, mul-le-mul-right N h)))
-  where
-    slot-room′ : (p q : ℕ) → p < q → p * s + s ≤ q * s
-    slot-room′ p q l = omega (arith, mul-le-mul-right s l)
+rows-apart N s k i j hj h = slots-apart s (k * N + j) (i * N + j) (omega (arith, mul-le-mul-right N h))
 
 -- ---- bounds: every start, and all the numbers of a system, are few
 

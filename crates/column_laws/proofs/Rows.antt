@@ -1,21 +1,21 @@
 -- Rows of a tile as parts of its list: rows put in place, exchanged within a tile and between two tiles. Assumes nothing.
-use mathlib.Core.Path.{_≡_, refl, sym, _∙_, ap, subst}
-use mathlib.Core.Logic.{_⊎_, inl, inr, ⊎-elim}
+use mathlib.Core.Path.{_≡_, refl, sym, _∙_, ap}
+use mathlib.Core.Logic.{⊎-elim}
 use mathlib.Core.Bool.{Bool, true, false, cond, _&&_}
 use mathlib.Core.List.{List}
-use Prim.Native.Nat.{ℕ, zero, suc, pred, _+_, _-_, _*_, _<_, _≤_}
+use Prim.Native.Nat.{ℕ, suc, pred, _+_, _-_, _*_, _<_, _≤_}
 use native.Mathlib.Nat.{add-zero, mul-le-mul-right}
 use native.Mathlib.Omega.{arith}
 use lib.Dec.{eqb, ltb, leb, leb·zero, eqb·suc-suc, eqb·suc-zero}
 use lib.ListN.{length, getD}
 use lib.Ieee.{Float, nan}
-use borrow.Author.Tests.{eqb-true, eqb-false, leb-true, leb-false, ltb-true, ltb-false, eq-eqb, ne-eqb, le-leb, lt-leb, lt-ltb}
+use borrow.Author.Tests.{eqb-true, eqb-false, leb-true, leb-false, lt-ltb}
 use Rattle.model.specs.Lists.{part, withPart}
-use Rattle.model.specs.Tile.{at, block, swapped, exchanged}
+use Rattle.model.specs.Tile.{at, swapped, exchanged}
 use Rattle.model.specs.Column.{upperExchanged, lowerExchanged}
 use Rattle.kernel.specs.Flat.{exchangedParts}
 use Rattle.laws.proofs.Tests.{lt-or-le}
-use Rattle.laws.proofs.Blocks.{length-block, block-unique, block-at, block-cong, at-block, in-block}
+use Rattle.laws.proofs.Blocks.{block-unique, block-at, block-cong}
 use Rattle.laws.proofs.Parts.{Fits, length-put, get-in, get-before, get-after}
 use Rattle.column_laws.proofs.Nested.{length-part, get-part}
 

@@ -1,28 +1,23 @@
 -- Rows of the flat matrix updated, or a pivot row eliminated from them: what that makes of the tile that they stand in. Assumes nothing.
 use mathlib.Core.Path.{_≡_, refl, sym, _∙_, ap}
-use mathlib.Core.Logic.{_⊎_, inl, inr, ⊎-elim}
-use mathlib.Core.Bool.{Bool, true, false, cond, _&&_}
-use mathlib.Core.List.{List, _∷_, map}
-use Prim.Native.Nat.{ℕ, zero, suc, _+_, _-_, _*_, _<_, _≤_, compare, Ordering, Ordering·lt, Ordering·eq, Ordering·gt}
+use mathlib.Core.Bool.{Bool, true, false, cond}
+use mathlib.Core.List.{List, map}
+use Prim.Native.Nat.{ℕ, suc, _+_, _-_, _*_, _<_, _≤_, compare, Ordering, Ordering·lt, Ordering·eq, Ordering·gt}
 use native.Mathlib.Nat.{zero-add, sub-zero, mul-le-mul-right}
-use native.Mathlib.Numerals.{add-one}
 use native.Mathlib.Omega.{arith}
-use lib.Dec.{eqb, ltb, leb, isLe, isEq}
+use lib.Dec.{ltb, leb, isLe, isEq}
 use lib.ListN.{length, getD}
-use lib.Seq.{ext-getD}
 use lib.Ieee.{Float, nan}
-use borrow.Author.Tests.{eqb-true, eqb-false, leb-true, leb-false, ltb-true, ltb-false, eq-eqb, ne-eqb, le-leb, lt-leb, lt-ltb, le-ltb}
+use borrow.Author.Tests.{eqb-true, eqb-false, leb-true, leb-false, le-ltb}
 use Rattle.model.specs.Lists.{run, below, every, joined, part, withPart}
-use Rattle.model.specs.Num.{finite, update, updateComputes, quotient}
+use Rattle.model.specs.Num.{finite, update, updateComputes}
 use Rattle.model.specs.Tile.{at, block}
-use Rattle.model.specs.Column.{beyond, sides, eliminated, eliminationComputes, rowComputes}
-use Rattle.kernel.specs.Flat.{ColumnDivided, RowsUpdated, updatedRows, rowsCompute}
-use Rattle.laws.proofs.Tests.{Order, less, equal, more, order, never}
-use Rattle.laws.proofs.Blocks.{length-block, block-unique, block-cong, at-block, in-block, column-same}
-use Rattle.laws.proofs.Parts.{Fits, length-put, get-in, get-before, get-after, part-put, put-put}
-use Rattle.column_laws.specs.Steps.{RowsApplied, applied, appliedComputes, RowsEliminated, eliminatedRows, eliminatedComputes}
-use Rattle.column_laws.proofs.Nested.{length-part, get-part, part-in, put-in}
-use Rattle.column_laws.proofs.Rows.{row-room}
+use Rattle.model.specs.Column.{beyond, rowComputes}
+use Rattle.kernel.specs.Flat.{RowsUpdated, updatedRows, rowsCompute}
+use Rattle.laws.proofs.Blocks.{length-block, block-unique, block-cong, at-block, in-block}
+use Rattle.laws.proofs.Parts.{Fits, length-put, get-in, get-before, part-put}
+use Rattle.column_laws.specs.Steps.{RowsApplied, applied, appliedComputes}
+use Rattle.column_laws.proofs.Nested.{length-part, get-part, put-in}
 use Rattle.column_laws.proofs.Computes.{every-joined}
 
 -- ---- comparisons
@@ -185,5 +180,5 @@ module _ (t w c k a s top : ℕ) (m : List Float) (room : a + t * w ≤ length m
     sound = r .sound ∙ applied-sound;
     whole = λ e. r .whole e ∙ applied-whole;
     frame = frame-rows t w c k a s m room ends start after (part s (k * w) after)
-      (length-part s (k * w) after (rw long (rows-room t w c k a s m room ends start))) (r .frame);
+        (length-part s (k * w) after (rw long (rows-room t w c k a s m room ends start))) (r .frame);
   }

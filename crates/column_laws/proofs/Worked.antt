@@ -1,18 +1,18 @@
 -- What a worked column of each task makes of the lent slices, and what it computes, by where the tiles and lists start. Assumes nothing.
-use mathlib.Core.Path.{_≡_, refl, sym, _∙_, ap}
+use mathlib.Core.Path.{_≡_, refl}
 use mathlib.Core.Bool.{true, false}
 use mathlib.Core.List.{List, []}
 use Prim.Native.Nat.{ℕ, _+_, _*_, _<_, _≤_}
 use lib.ListN.{length, getD, set}
 use lib.Ieee.{Float}
 use borrow.Rule.Slice.PartMut.{put-same, set-mid-at}
-use Rattle.model.specs.Lists.{below, part, withPart}
+use Rattle.model.specs.Lists.{part, withPart}
 use Rattle.model.specs.Num.{isZero}
 use Rattle.model.specs.Tile.{at}
 use Rattle.model.specs.Column.{factorPivot, factorExchanged, factorColumn, factorComputes, applyStart, applyColumn, applyComputes, couplePivot, coupleColumn, coupleComputes, pairExchanged, pairColumn, pairComputes}
-use Rattle.model.specs.Task.{Task, T-1, T-2, T-3, T-4}
+use Rattle.model.specs.Task.{T-1, T-2, T-3, T-4}
 use Rattle.model.specs.Plan.{plan}
-use Rattle.model.specs.Buffer.{Buffers, tile, putTile, rows, putRows, tileOf, rowsOf, withTile, withRows, factorInput, coupleInput, pairInput, worked, computed}
+use Rattle.model.specs.Buffer.{tile, putTile, rows, putRows, tileOf, rowsOf, withTile, withRows, factorInput, coupleInput, pairInput, worked, computed}
 use Rattle.column_laws.specs.Steps.{tileStart, listStart, applied, appliedComputes, paired, pairedComputes, upperAt, lowerAt, withTwo, eliminatedRows, eliminatedComputes, factored, factoredComputes, exchangedAt}
 use Rattle.column_laws.proofs.Nested.{length-part, get-part}
 
@@ -74,7 +74,7 @@ module _ (N t c : ℕ) (m : List Float) (l : List ℕ) where
         → worked (plan N t) (T-3 k i) c (record { matrix = m; lists = l })
         ≡ record {
           matrix = withTwo (t * t) (tileStart N t k k) (tileStart N t i k) (upperAt t t c c e (tileStart N t k k) (tileStart N t i k) m)
-            (eliminatedRows t t c (at t (upperAt t t c c e (tileStart N t k k) (tileStart N t i k) m) c) (lowerAt t t c c e (tileStart N t k k) (tileStart N t i k) m)) m;
+              (eliminatedRows t t c (at t (upperAt t t c c e (tileStart N t k k) (tileStart N t i k) m) c) (lowerAt t t c c e (tileStart N t k k) (tileStart N t i k) m)) m;
           lists = set l (listStart N t i k + c) e;
         }
     unfolding plan worked withTile withRows coupleInput tileOf rowsOf tile putTile rows putRows coupleColumn withTwo upperAt lowerAt eliminatedRows
@@ -108,7 +108,7 @@ module _ (N t c : ℕ) (m : List Float) (l : List ℕ) where
         → worked (plan N t) (T-4 k i j) c (record { matrix = m; lists = l })
         ≡ record {
           matrix = withTwo (t * t) (tileStart N t k j) (tileStart N t i j) (upperAt t t 0 c e (tileStart N t k j) (tileStart N t i j) m)
-            (paired t t c (λ r. at t (part (tileStart N t i k) (t * t) m) r c) (upperAt t t 0 c e (tileStart N t k j) (tileStart N t i j) m) (lowerAt t t 0 c e (tileStart N t k j) (tileStart N t i j) m)) m;
+              (paired t t c (λ r. at t (part (tileStart N t i k) (t * t) m) r c) (upperAt t t 0 c e (tileStart N t k j) (tileStart N t i j) m) (lowerAt t t 0 c e (tileStart N t k j) (tileStart N t i j) m)) m;
           lists = l;
         }
     unfolding plan worked withTile pairInput tileOf rowsOf tile putTile rows pairColumn pairExchanged paired upperAt lowerAt withTwo

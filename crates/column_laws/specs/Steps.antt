@@ -1,6 +1,6 @@
 -- What one column does to blocks of a flat slice, each block given by where it starts: what the columns' inner functions promise.
 -- The multipliers l are handed over apart, so that a right side in a slice of its own is worked like a tile. Assumes nothing.
-use Prim.Native.Nat.{ℕ, suc, _+_, _*_}
+use Prim.Native.Nat.{ℕ, _+_, _*_}
 use mathlib.Core.Path.{_≡_}
 use mathlib.Core.Bool.{Bool, true, cond}
 use mathlib.Core.List.{List, map}

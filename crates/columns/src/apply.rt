@@ -3,19 +3,26 @@ ghost use mathlib.Core.Path.{_≡_};
 ghost use Rattle.model.specs.Task.{T-2};
 ghost use Rattle.model.specs.Plan.{planOf};
 ghost use Rattle.model.specs.Buffer.{markOf, columnEnds};
-ghost use Rattle.columns.specs.Workable.{Workable};
-use crate::place::ended;
-use crate::place::list_start;
-use crate::place::tile_start;
-use crate::steps::apply_rows;
-use crate::steps::start_block;
+ghost use Rattle.column_laws.specs.Workable.{Workable};
+use blocks::steps::apply_rows;
+use blocks::steps::start_block;
 use kernel::fill::fill_numbers;
 use kernel::rows::read_column;
 use model::ColumnEnd;
 use model::Sizes;
+use places::place::ended;
+use places::place::list_start;
+use places::place::tile_start;
 
 // Works column c of T-2(k,j).
-pub fn apply_column(z: Sizes, matrix: &mut [f64], lists: &[u8], k: usize, j: usize, c: usize) -> ColumnEnd
+pub fn apply_column(
+    z: Sizes,
+    matrix: &mut [f64],
+    lists: &[u8],
+    k: usize,
+    j: usize,
+    c: usize,
+) -> ColumnEnd
     requires { ⌜ Workable z (T-2 k j) c (now matrix) (now lists) ⌝ }
     ensures { λ r. ⌜ record { left = record { matrix = now (matrix .exit); lists = now (lists .entry) }; mark = markOf r }
         ≡ columnEnds (planOf z) (T-2 k j) c (record { matrix = now (matrix .entry); lists = now (lists .entry) }) ⌝ }

@@ -3,19 +3,27 @@ ghost use mathlib.Core.Path.{_≡_};
 ghost use Rattle.model.specs.Task.{T-4};
 ghost use Rattle.model.specs.Plan.{planOf};
 ghost use Rattle.model.specs.Buffer.{markOf, columnEnds};
-ghost use Rattle.columns.specs.Workable.{Workable};
-use crate::place::ended;
-use crate::place::list_start;
-use crate::place::tile_start;
-use crate::place::wide;
-use crate::steps::pair_rows;
+ghost use Rattle.column_laws.specs.Workable.{Workable};
+use blocks::steps::pair_rows;
 use kernel::fill::fill_numbers;
 use kernel::rows::read_column;
 use model::ColumnEnd;
 use model::Sizes;
+use places::place::ended;
+use places::place::list_start;
+use places::place::tile_start;
+use places::place::wide;
 
 // Works column c of T-4(k,i,j).
-pub fn pair_column(z: Sizes, matrix: &mut [f64], lists: &[u8], k: usize, i: usize, j: usize, c: usize) -> ColumnEnd
+pub fn pair_column(
+    z: Sizes,
+    matrix: &mut [f64],
+    lists: &[u8],
+    k: usize,
+    i: usize,
+    j: usize,
+    c: usize,
+) -> ColumnEnd
     requires { ⌜ Workable z (T-4 k i j) c (now matrix) (now lists) ⌝ }
     ensures { λ r. ⌜ record { left = record { matrix = now (matrix .exit); lists = now (lists .entry) }; mark = markOf r }
         ≡ columnEnds (planOf z) (T-4 k i j) c (record { matrix = now (matrix .entry); lists = now (lists .entry) }) ⌝ }

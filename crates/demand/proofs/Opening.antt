@@ -11,7 +11,7 @@ use Rattle.model.specs.declared.Answer.the-variants.{Accepted, Refused}
 use Rattle.model.specs.Tile.{allFinite}
 use Rattle.model.specs.Plan.{planOf}
 use Rattle.model.specs.Calls.{Lent, opened}
-use Rattle.model.specs.Refusal.{replied, badSizes, badLengths, firstNotFinite, openCall}
+use Rattle.model.specs.Refusal.{replied, badSizes, badLengths, firstNotFinite, openAnswer, openCall}
 use Rattle.demand.proofs.Whole.{Whole, opened-whole}
 use Rattle.demand.proofs.Checks.{passed, lengths, accepted-new}
 
@@ -27,7 +27,7 @@ pub record Opened (z : Sizes) (s : Lent) : Type 0 where
   pub left : openCall z s .left ≡ opened (planOf z) (z .workers) (s .buffers .matrix)
 
 pub opened-by : (z : Sizes) (s : Lent) → openCall z s .answer ≡ Accepted → Opened z s
-unfolding openCall
+unfolding openCall openAnswer
 opened-by z s e =
     let m = s .buffers .matrix in
     let new = opened (planOf z) (z .workers) m in

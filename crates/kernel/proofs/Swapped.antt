@@ -11,7 +11,7 @@ use Rattle.model.specs.Lists.{part, withPart}
 use Rattle.laws.proofs.Tests.{same-or-not, lt-or-le}
 use Rattle.laws.proofs.Parts.{Apart, Fits, length-put, get-in, get-before, get-after}
 use Rattle.kernel.specs.Flat.{exchangedParts}
-use Rattle.kernel.proofs.Stores.{Outside, stored-is, getD-part, part-fits}
+use Rattle.fills.proofs.Stores.{Outside, stored-is, getD-part, part-fits}
 
 -- the first k numbers of the two parts are exchanged
 pub record Swapped (a b k : ℕ) (before after : List Float) : Type 0 where

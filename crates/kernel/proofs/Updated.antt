@@ -15,11 +15,10 @@ use Rattle.model.specs.Lists.{run, below, every, joined, part}
 use Rattle.model.specs.Num.{finite, update, updateComputes}
 use Rattle.model.specs.Tile.{at, block, allFinite}
 use Rattle.laws.proofs.Tests.{and-left, and-right, false-if, never, lt-or-le, every-run-intro, every-run-elim}
-use Rattle.laws.proofs.Blocks.{getD-table, length-block, row-of, column-of, in-block, row-below, column-below}
-use Rattle.numbers.proofs.Ends.{row-end}
+use Rattle.laws.proofs.Blocks.{getD-table, length-block, row-of, column-of, in-block, row-below, column-below, row-end}
 use Rattle.float_laws.proofs.Finite.{computed-shows}
 use Rattle.kernel.specs.Flat.{updatedRows, rowsCompute, RowsUpdated}
-use Rattle.kernel.proofs.Stores.{Outside, Stored, stored-none, stored-more, stored-join, stored-is, stored-frame, getD-part, part-fits}
+use Rattle.fills.proofs.Stores.{Outside, Stored, stored-none, stored-more, stored-join, stored-is, stored-frame, getD-part, part-fits}
 
 -- ---- one row, which starts at s, by the multiplier x and the row at top
 

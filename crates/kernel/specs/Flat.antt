@@ -4,22 +4,19 @@ use mathlib.Core.Path.{_≡_}
 use mathlib.Core.Bool.{Bool, true, cond}
 use mathlib.Core.List.{List, map}
 use lib.ListN.{length, getD}
-use lib.Dec.{ltb, leb}
+use lib.Dec.{ltb}
 use lib.Ieee.{Float, nan}
 use Rattle.model.specs.Lists.{run, below, every, joined, part, withPart}
-use Rattle.model.specs.Num.{plusZero, finite, update, updateComputes, quotient}
+use Rattle.model.specs.Num.{finite, update, updateComputes, quotient}
 use Rattle.model.specs.Tile.{at, block}
 unfoldable pub use Rattle.numbers.specs.Candidates.{candidates}
+unfoldable pub use Rattle.fills.specs.Zeroed.{upperZeroed}
 
--- ---- exchanges and fills
+-- ---- exchanges
 
 -- n numbers from a on exchanged with the n from b on
 unfoldable pub exchangedParts : ℕ → ℕ → ℕ → List Float → List Float
 exchangedParts a b n m = withPart a n (part b n m) (withPart b n (part a n m) m)
-
--- a tile with +0 on the diagonal and above
-unfoldable pub upperZeroed : ℕ → List Float → List Float
-upperZeroed t a = block t t (λ r q. cond (leb r q) plusZero (at t a r q))
 
 -- ---- a column divided by the pivot: `count` numbers from `start` on, `stride` apart
 

@@ -127,12 +127,15 @@ module _ (z : Plan) where
 -- ---- the calls
 
 module _ (z : Sizes) where
-  unfoldable pub openCall : Lent → Reply
-  openCall s = replied (
+  unfoldable pub openAnswer : Lent → Answer
+  openAnswer s =
       refuse 1 0 (badSizes z)
       otherwise refuse 2 0 (badLengths (planOf z) (z .workers) s)
       otherwise refuse 3 (firstNotFinite (s .buffers .matrix)) (not (allFinite (s .buffers .matrix)))
-      otherwise Accepted) s (opened (planOf z) (z .workers) (s .buffers .matrix))
+      otherwise Accepted
+
+  unfoldable pub openCall : Lent → Reply
+  openCall s = replied (openAnswer s) s (opened (planOf z) (z .workers) (s .buffers .matrix))
 
   unfoldable pub takeAnswer : ℕ → ℕ → Lent → Answer
   takeAnswer w p s =
@@ -179,5 +182,5 @@ module _ (z : Sizes) where
       otherwise Accepted) (outcomeFound s)
 
 unfoldable pub Refusal·open : Unit {0}
-unfolding Calls·open refuse replied runReplied outcomeReplied inside badSizes firstNotFinite noWorker badLengths badRecord holds badHold badWorker entryLimit badEntry damaged badTiles unfinished openCall takeAnswer takeCall columnAnswer columnCall runAnswer runCall outcomeFound outcomeCall
+unfolding Calls·open refuse replied runReplied outcomeReplied inside badSizes firstNotFinite noWorker badLengths badRecord holds badHold badWorker entryLimit badEntry damaged badTiles unfinished openAnswer openCall takeAnswer takeCall columnAnswer columnCall runAnswer runCall outcomeFound outcomeCall
 Refusal·open = tt

@@ -40,7 +40,8 @@ use Rattle.demand.proofs.Answers.{run-whole, run-accepted}
 use Rattle.demand.proofs.Choices.{or-false}
 use Rattle.demand.proofs.Checks.{passed}
 use Rattle.next.specs.Next.{Passed, LowestReady, NextBusy, busy-after, all-idle}
-use Rattle.advancing.specs.Advancing.{ColumnDue, Advanced}
+use Rattle.task_columns.specs.Due.{ColumnDue}
+use Rattle.advancing.specs.Advancing.{Advanced}
 use Rattle.advancing.proofs.Laws.{due, state-after}
 use Rattle.next.proofs.Rounds.{round}
 use Rattle.next.proofs.Steps.{takes, works, passes, over, finishes, ends}

@@ -7,10 +7,10 @@ use native.Mathlib.Omega.{arith}
 use lib.ListN.{length, getD, set, length-set}
 use lib.Seq.{getD-set-same, getD-set-other}
 use lib.Ieee.{Float, nan}
+use Rattle.laws.proofs.Blocks.{row-end}
 use Rattle.model.specs.Num.{quotient}
 use Rattle.laws.proofs.Tests.{lt-or-le}
 use Rattle.kernel.specs.Flat.{ColumnDivided}
-use Rattle.numbers.proofs.Ends.{row-end}
 use Rattle.kernel.proofs.rows.divide_column.Statement.{statement}
 use Rattle.kernel.proofs.rows.divide_column.Tie as tie
 

@@ -7,7 +7,7 @@ use lib.ListN.{length, getD, set, length-set}
 use lib.Seq.{getD-set-same, getD-set-other}
 use lib.Ieee.{Float, nan}
 use borrow.Author.Count.{below-more}
-use Rattle.numbers.proofs.Ends.{row-end}
+use Rattle.laws.proofs.Blocks.{row-end}
 use Rattle.kernel.proofs.rows.read_column.Statement.{statement}
 use Rattle.kernel.proofs.rows.read_column.Tie as tie
 

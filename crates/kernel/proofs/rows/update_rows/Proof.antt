@@ -6,8 +6,8 @@ use native.Mathlib.Omega.{arith}
 use lib.ListN.{getD}
 use lib.Ieee.{nan}
 use borrow.Author.Tests.{not-true, not-false}
+use Rattle.laws.proofs.Blocks.{row-end}
 use Rattle.model.specs.Num.{finite}
-use Rattle.numbers.proofs.Ends.{row-end}
 use Rattle.kernel.proofs.Updated.{ColumnsDone, RowsDone, columns-none, columns-more, rows-none, rows-more, rows-all, rows-stop, top-kept, top-beside}
 use Rattle.kernel.proofs.rows.update_rows.Statement.{statement}
 use Rattle.kernel.proofs.rows.update_rows.Tie as tie

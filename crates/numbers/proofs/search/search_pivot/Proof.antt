@@ -10,13 +10,13 @@ use native.Mathlib.Omega.{arith}
 use denote.Ref.{now}
 use lib.ListN.{getD}
 use lib.Ieee.{Float, nan, lt}
+use Rattle.laws.proofs.Blocks.{row-end}
 use Rattle.model.specs.declared.Pivot.{Pivot}
 use Rattle.model.specs.Lists.{run, below, table}
 use Rattle.model.specs.Num.{magnitude, exceeds}
 use Rattle.model.specs.Column.{better, searchFrom, search}
 use Rattle.float_laws.proofs.Finite.{magnitude-twice}
 use Rattle.numbers.specs.Candidates.{candidates}
-use Rattle.numbers.proofs.Ends.{row-end}
 use Rattle.numbers.proofs.search.search_pivot.Statement.{statement}
 use Rattle.numbers.proofs.search.search_pivot.Tie as tie
 

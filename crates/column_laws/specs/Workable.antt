@@ -1,0 +1,24 @@
+-- What a column needs of its caller: refusals 1, 2 and 4 and the numbering give it to the calls. Assumes nothing.
+use Prim.Native.Nat.{ℕ, _*_, _<_, _≤_}
+use mathlib.Core.Path.{_≡_}
+use mathlib.Core.Bool.{true}
+use mathlib.Core.List.{List}
+use lib.ListN.{length}
+use lib.Ieee.{Float}
+use Rattle.model.specs.declared.Sizes.{Sizes}
+use Rattle.model.specs.Task.{Task}
+use Rattle.model.specs.Plan.{planOf}
+use Rattle.model.specs.Buffer.{finiteTiles}
+use Rattle.column_laws.specs.Placed.{Placed, EntriesFit}
+
+pub record Workable (z : Sizes) (a : Task) (c : ℕ) (m : List Float) (l : List ℕ) : Type 0 where
+  pub tiles-some : 1 ≤ z .tiles
+  pub tiles-most : z .tiles ≤ 16
+  pub side-some : 1 ≤ z .side
+  pub side-most : z .side ≤ 16
+  pub matrix-long : length m ≡ z .tiles * z .side * (z .tiles * z .side)
+  pub lists-long : length l ≡ z .tiles * z .tiles * z .side
+  pub placed : Placed (z .tiles) a
+  pub column : c < z .side
+  pub entries : EntriesFit (z .tiles) (z .side) a l
+  pub tiles-finite : finiteTiles (planOf z) a (record { matrix = m; lists = l }) ≡ true

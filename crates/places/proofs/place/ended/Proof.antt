@@ -1,0 +1,20 @@
+-- `place::ended` meets its contract: the two ways through its test. Assumes nothing.
+use borrow.Author.Needs.{needs}
+use Prim.Native.Nat.{suc}
+use mathlib.Core.Path.{_≡_}
+use native.Mathlib.Omega.{arith}
+use borrow.Author.Tests.{eq-eqb, ne-eqb}
+use Rattle.places.proofs.place.ended.Statement.{statement}
+use Rattle.places.proofs.place.ended.Tie as tie
+
+add-if1 : tie.Need-add-if1
+add-if1 c = search needs
+
+returns : tie.Need-returns
+returns c = let h : suc (c .before .args .c) ≡ c .before .args .t = omega arith in rw (eq-eqb _ _ h)
+
+returns-2 : tie.Need-returns-2
+returns-2 c = rw (ne-eqb (suc (c .before .args .c)) (c .before .args .t) (λ e. omega arith))
+
+pub ended-spec : {M : Type 1} → statement M
+ended-spec = tie.close (tie.spec add-if1 returns returns-2)

@@ -1,0 +1,11 @@
+pub mod Numbers
+pub mod Lines
+pub mod Grid
+pub mod Fields
+pub mod Checks
+pub mod Ends
+pub mod Orders
+pub mod Tiles
+pub mod Systems
+pub mod Rows
+pub mod Results

@@ -1,0 +1,46 @@
+-- The rows of tiles and lists as the loops write them, and the length of a text; writing the one line 05. Assumes nothing.
+use Prim.Native.Nat.{ℕ, zero, suc, _+_, _*_}
+use mathlib.Core.List.{List, _++_, map}
+use lib.ListN.{length}
+use lib.Dec.{ltb}
+use lib.Ieee.{Float}
+use Rattle.model.specs.declared.Answer.the-variants.{Accepted}
+use Rattle.model.specs.Lists.{below, joined, part}
+use Rattle.model.specs.Refusal.{refuse, _otherwise_}
+use Rattle.model.specs.Text.{hex, bits, line, refusalFrame, Writing, writing}
+
+-- row i of tiles, s numbers each
+unfoldable pub tileRow : ℕ → ℕ → List Float → ℕ → List ℕ
+tileRow N s m i = joined (map (λ j. line (hex 2 2 ++ hex 2 i ++ hex 2 j ++ joined (map bits (part ((i * N + j) * s) s m)))) (below N))
+
+unfoldable pub tileRows : ℕ → ℕ → List Float → List ℕ
+tileRows N s m = joined (map (tileRow N s m) (below N))
+
+-- row i of the lists with I ≥ J, t entries each
+unfoldable pub listRow : ℕ → ℕ → List ℕ → ℕ → List ℕ
+listRow N t l i = joined (map (λ j. line (hex 2 3 ++ hex 2 i ++ hex 2 j ++ joined (map (hex 2) (part ((i * N + j) * t) t l)))) (below (i + 1)))
+
+unfoldable pub listRows : ℕ → ℕ → List ℕ → List ℕ
+listRows N t l = joined (map (listRow N t l) (below N))
+
+-- 1 + 2 + .. + n
+unfoldable pub triangle : ℕ → ℕ
+triangle zero = 0
+triangle (suc n) = triangle n + suc n
+
+-- how many bytes the text of a system has, and of a result
+unfoldable pub systemLength : ℕ → ℕ → ℕ
+systemLength N t = 7 + N * (N * (7 + t * t * 16))
+
+unfoldable pub resultLength : ℕ → ℕ → ℕ
+resultLength N t = systemLength N t + triangle N * (7 + t * 2) + 9
+
+-- writing a refusal: 15 where the text is too short for its line
+unfoldable pub writeRefusal : ℕ → ℕ → List ℕ → Writing
+writeRefusal n x text =
+    let new = refusalFrame n x in
+    writing (refuse 15 0 (ltb (length text) (length new)) otherwise Accepted) new text
+
+unfoldable pub Write·open : Unit {0}
+unfolding tileRow tileRows listRow listRows triangle systemLength resultLength writeRefusal
+Write·open = tt
