@@ -9,9 +9,9 @@ ghost use Rattle.model.specs.Buffer.{tile, finiteTiles};
 ghost use Rattle.model.specs.Refusal.{firstNotFinite};
 ghost use Rattle.checks.specs.declared.elements.Lowest.the-variants.{None, At};
 ghost use Rattle.checks.specs.Checks.{Sized, MatrixFits, Inside, taskFrom};
-use numbers::number::is_finite;
 use model::Sizes;
 use model::TaskRecord;
+use numbers::number::is_finite;
 
 // The lowest offset of a number that isn't finite, where there is one.
 pub enum Lowest {

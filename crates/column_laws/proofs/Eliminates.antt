@@ -23,7 +23,7 @@ use Rattle.laws.proofs.Parts.{Fits, length-put, get-in, get-before, get-after, 
 use Rattle.column_laws.specs.Steps.{RowsEliminated, eliminatedRows, eliminatedComputes}
 use Rattle.column_laws.proofs.Nested.{length-part, get-part}
 use Rattle.column_laws.proofs.Computes.{every-joined}
-use Rattle.column_laws.proofs.Finite.{finite-at, finite-rows}
+use Rattle.laws.proofs.Finite.{finite-at, finite-rows}
 use Rattle.column_laws.proofs.Updates.{compare-less, compare-equal, compare-more, at-part, row-finite}
 
 module _ (k t c s top : ℕ) (hc : c < t) (m : List Float) (room : s + k * t ≤ length m) (apart : (top + t ≤ s) ⊎ (s + k * t ≤ top))

@@ -86,19 +86,19 @@ module _ (t w c : ℕ) (l l′ : ℕ → Float) where
   applied-at c′ r q b h hr true e = refl
   applied-at c′ r q b h hr false e = rw (h r (leb-false r c′ e) hr)
 
-  applied-same : ((r : ℕ) → c < r → r < t → l r ≡ l′ r) → (b : List Float) → applied t w c l b ≡ applied t w c l′ b
+  pub applied-same : ((r : ℕ) → c < r → r < t → l r ≡ l′ r) → (b : List Float) → applied t w c l b ≡ applied t w c l′ b
   unfolding applied
   applied-same h b = block-cong t w _ _ (λ r q hr hq. applied-at c r q b h hr (leb r c) refl)
 
-  applied-finite : ((r : ℕ) → c < r → r < t → l r ≡ l′ r) → (b : List Float) → every finite (appliedComputes t w c l b) ≡ every finite (appliedComputes t w c l′ b)
+  pub applied-finite : ((r : ℕ) → c < r → r < t → l r ≡ l′ r) → (b : List Float) → every finite (appliedComputes t w c l b) ≡ every finite (appliedComputes t w c l′ b)
   unfolding appliedComputes beyond
   applied-finite h b = every-joined finite _ _ (suc c) (suc c) (t - suc c) (λ r hr. rw (h (suc c + r) (omega arith) (omega arith)))
 
-  paired-same : ((r : ℕ) → r < t → l r ≡ l′ r) → (u d : List Float) → paired t w c l u d ≡ paired t w c l′ u d
+  pub paired-same : ((r : ℕ) → r < t → l r ≡ l′ r) → (u d : List Float) → paired t w c l u d ≡ paired t w c l′ u d
   unfolding paired
   paired-same h u d = block-cong t w _ _ (λ r q hr hq. rw (h r hr))
 
-  paired-finite : ((r : ℕ) → r < t → l r ≡ l′ r) → (u d : List Float) → every finite (pairedComputes t w c l u d) ≡ every finite (pairedComputes t w c l′ u d)
+  pub paired-finite : ((r : ℕ) → r < t → l r ≡ l′ r) → (u d : List Float) → every finite (pairedComputes t w c l u d) ≡ every finite (pairedComputes t w c l′ u d)
   unfolding pairedComputes below
   paired-finite h u d = every-joined finite _ _ 0 0 t (λ r hr. rw (zero-add r, h r hr))
 

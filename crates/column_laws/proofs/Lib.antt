@@ -13,6 +13,5 @@ pub mod Places
 pub mod Worked
 pub mod Ends
 pub mod Touched
-pub mod Kept
 pub mod Sound
 pub mod Ready

@@ -20,7 +20,8 @@ use Rattle.laws.proofs.Parts.{Apart, Fits, length-put, part-put, put-put}
 use Rattle.column_laws.specs.Steps.{applied, RowsPaired, paired, pairedComputes, upperAt, lowerAt, withTwo, RowsEliminated, eliminatedRows, eliminatedComputes, TileFactored, factored, factoredComputes, exchangedAt, TilesCoupled}
 use Rattle.column_laws.proofs.Nested.{length-part}
 use Rattle.column_laws.proofs.Computes.{every-joined}
-use Rattle.column_laws.proofs.Finite.{finite-at, finite-block, finite-part}
+use Rattle.laws.proofs.Finite.{finite-at, finite-block}
+use Rattle.column_laws.proofs.Finite.{finite-part}
 use Rattle.column_laws.proofs.Updates.{get-row, at-rows, put-rows, frame-rows, rows-room, row-finite}
 use Rattle.column_laws.proofs.Two.{length-two, upper-two, lower-two, put-lower}
 

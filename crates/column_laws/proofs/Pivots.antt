@@ -22,7 +22,7 @@ use Rattle.float_laws.proofs.Quotient.{within-finite}
 use Rattle.float_laws.proofs.Search.{Largest, search-finds-at, multiplier-at-most-one}
 use Rattle.column_laws.specs.Steps.{upperAt, lowerAt, exchangedAt}
 use Rattle.column_laws.proofs.Nested.{length-part}
-use Rattle.column_laws.proofs.Finite.{finite-at}
+use Rattle.laws.proofs.Finite.{finite-at}
 use Rattle.column_laws.proofs.Updates.{at-part}
 
 module _ {A : Type 0} where

@@ -1,5 +1,5 @@
 -- Where tiles and row lists stand: in the slice, and apart from each other. Assumes nothing.
-use mathlib.Core.Logic.{inl, inr}
+use mathlib.Core.Logic.{inl}
 use Prim.Native.Nat.{ℕ, _+_, _*_, _<_, _≤_}
 use native.Mathlib.Nat.{mul-le-mul-right, mul-le-mul}
 use native.Mathlib.Omega.{arith}
@@ -20,9 +20,6 @@ place-below N i j h hi hj = omega (arith, in-block N N i j hi hj, mul-le-mul-rig
 -- two slots share nothing
 pub slots-apart : (s p q : ℕ) → p < q → Apart s (p * s) (q * s)
 slots-apart s p q h = inl (slot-room q s p h)
-
-pub slots-apart-back : (s p q : ℕ) → q < p → Apart s (p * s) (q * s)
-slots-apart-back s p q h = inr (slot-room p s q h)
 
 -- of two tiles the one in the upper row stands before the other
 pub rows-apart : (N s k i j : ℕ) → j < N → k < i → Apart s ((k * N + j) * s) ((i * N + j) * s)

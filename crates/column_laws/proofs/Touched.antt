@@ -1,5 +1,5 @@
 -- The tiles that a task touches are finite, one by one. Assumes nothing.
-use mathlib.Core.Path.{_≡_, refl}
+use mathlib.Core.Path.{_≡_}
 use mathlib.Core.Bool.{Bool, true}
 use mathlib.Core.List.{List, _∷_}
 use Prim.Native.Nat.{ℕ, _*_}
@@ -54,28 +54,3 @@ module _ (N t : ℕ) (m : List Float) (l : List ℕ) where
       let p = rest fine (list i k) _ (rest fine (A i k) _ h) in
       let q = rest fine (A k j) _ p in
       (tile-fine i k (first fine (A i k) _ h), tile-fine k j (first fine (A k j) _ p), tile-fine i j (first fine (A i j) _ q))
-
-  -- and back
-  fine-tile : (i j : ℕ) → FiniteAt i j → fine (A i j) ≡ true
-  unfolding fine plan finiteIn isList tileOf tile
-  fine-tile i j h = h
-
-  fine-list : (i j : ℕ) → fine (list i j) ≡ true
-  unfolding fine finiteIn isList
-  fine-list i j = refl
-
-  pub touched-factor : (k : ℕ) → FiniteAt k k → finiteTiles (plan N t) (T-1 k) (record { matrix = m; lists = l }) ≡ true
-  unfolding finiteTiles touches reads writes fine every
-  touched-factor k h = rw (fine-tile k k h, fine-list k k)
-
-  pub touched-apply : (k j : ℕ) → FiniteAt k k → FiniteAt k j → finiteTiles (plan N t) (T-2 k j) (record { matrix = m; lists = l }) ≡ true
-  unfolding finiteTiles touches reads writes fine every
-  touched-apply k j h g = rw (fine-tile k k h, fine-list k k, fine-tile k j g)
-
-  pub touched-couple : (k i : ℕ) → FiniteAt k k → FiniteAt i k → finiteTiles (plan N t) (T-3 k i) (record { matrix = m; lists = l }) ≡ true
-  unfolding finiteTiles touches reads writes fine every
-  touched-couple k i h g = rw (fine-tile k k h, fine-tile i k g, fine-list i k)
-
-  pub touched-pair : (k i j : ℕ) → FiniteAt i k → FiniteAt k j → FiniteAt i j → finiteTiles (plan N t) (T-4 k i j) (record { matrix = m; lists = l }) ≡ true
-  unfolding finiteTiles touches reads writes fine every
-  touched-pair k i j h g e = rw (fine-tile i k h, fine-list i k, fine-tile k j g, fine-tile i j e)

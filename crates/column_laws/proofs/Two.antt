@@ -4,17 +4,11 @@ use mathlib.Core.List.{List}
 use Prim.Native.Nat.{ℕ, _+_, _≤_}
 use lib.ListN.{length}
 use lib.Ieee.{Float, nan}
-use borrow.Rule.Slice.PartMut.{put-same}
 use Rattle.model.specs.Lists.{part, withPart}
 use Rattle.laws.proofs.Parts.{Apart, Fits, length-put, part-put, put-put, part-other, put-comm}
 use Rattle.column_laws.specs.Steps.{withTwo}
 
 module _ (n u d : ℕ) (m : List Float) (apart : Apart n u d) (ru : u + n ≤ length m) (rd : d + n ≤ length m) where
-  -- the slice is made of its own blocks
-  pub own-two : withTwo n u d (part u n m) (part d n m) m ≡ m
-  unfolding withTwo
-  own-two = rw (put-same d n m) (put-same u n m)
-
   module _ (x y : List Float) (hx : length x ≡ n) (hy : length y ≡ n) where
     fits-lower : Fits n d m y
     fits-lower = record { whole = hy; room = rd }

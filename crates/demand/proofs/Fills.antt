@@ -21,7 +21,8 @@ use Rattle.demand.proofs.Elements.{getD-same}
 use Rattle.demand.proofs.Places.{cell-lt}
 use Rattle.demand.proofs.Valid.{Valid, v₁, v₂, v₃, v₄}
 use Rattle.demand.proofs.Entries.{AtMost}
-use Rattle.demand.proofs.Finite.{block-finite, finite-at, chosen}
+use Rattle.laws.proofs.Finite.{finite-block}
+use Rattle.demand.proofs.Finite.{finite-at, chosen}
 use Rattle.demand.proofs.Written.{upper-kept}
 use Rattle.demand.proofs.Kept.{put-keeps, Rows, rows-tile, rows-rows, Tiles, Long}
 
@@ -101,7 +102,7 @@ module _ (N t : ℕ) where
   upper-finite : (k i : ℕ) → k < N → (σ : ℕ → Val) → Under (σ (tileAt N k k))
       → allFinite (upperFilled (plan N t) (putZeros N t i k σ (tileAt N k k) .floats)) ≡ true
   unfolding upperFilled plan finite
-  upper-finite k i hk σ h = block-finite t t _ (λ r q hr hq. chosen (leb r q) plusZero _ (λ e. refl) (λ e. under r q hr hq (leb-false r q e)))
+  upper-finite k i hk σ h = finite-block t t _ (λ r q hr hq. chosen (leb r q) plusZero _ (λ e. refl) (λ e. under r q hr hq (leb-false r q e)))
     where
       under : Under (putZeros N t i k σ (tileAt N k k))
       under = put-keeps Under _ (tileAt N i k) (tileAt N k k) (tileVal (zeros (t * t))) (λ q. under-zeros)

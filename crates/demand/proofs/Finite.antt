@@ -1,43 +1,35 @@
 -- Finite numbers of a block: kept by exchanges, and by updates and eliminations whose computed numbers are finite.
 -- Assumes nothing.
-use Prim.Native.Nat.{ℕ, zero, suc, pred, _+_, _-_, _*_, _/_, _%_, _≤_, _<_, compare, Ordering, Ordering·lt, Ordering·eq, Ordering·gt}
+use Prim.Native.Nat.{ℕ, zero, suc, pred, _+_, _-_, _*_, _≤_, _<_, compare, Ordering, Ordering·lt, Ordering·eq, Ordering·gt}
 use mathlib.Core.Bool.{Bool, true, false, not, cond, _&&_}
 use mathlib.Core.Path.{_≡_, refl, sym, subst}
-use mathlib.Core.List.{List, [], _∷_}
+use mathlib.Core.List.{List}
 use native.Mathlib.Omega.{arith}
 use lib.Dec.{T, eqb, leb, ltb, isLe, nleb→lt}
-use lib.Ieee.{Float, nan}
+use lib.Ieee.{Float}
 use lib.ListN.{length, getD}
 use borrow.Author.Tests.{ltb-true}
 use Rattle.model.specs.Lists.{run, below, every, inTurn}
-use Rattle.model.specs.Num.{isZero, finite, quotient, product, difference, update, updateComputes}
+use Rattle.model.specs.Num.{finite, quotient, update, updateComputes}
 use Rattle.model.specs.Tile.{at, block, swapped, exchanged, allFinite}
-use Rattle.model.specs.Column.{beyond, sides, eliminated, eliminationComputes, rowComputes, permuted, upperExchanged, lowerExchanged}
+use Rattle.model.specs.Column.{beyond, sides, eliminated, eliminationComputes, permuted, upperExchanged, lowerExchanged}
 use Rattle.laws.proofs.Tests.{and-left, and-right}
-use Rattle.laws.proofs.Blocks.{length-table, getD-table, length-block, at-block, block-at, in-block, row-below, column-below}
-use Rattle.demand.proofs.Elements.{every-at, at-every, every-joined}
+use Rattle.laws.proofs.Blocks.{length-block, at-block}
+use Rattle.laws.proofs.Every.{every-of-joined}
+use Rattle.laws.proofs.Finite.{finite-rows, update-finite, finite-at as element-finite}
 
 -- ---- blocks
-
-pub block-finite : (t w : ℕ) (f : ℕ → ℕ → Float) → ((r q : ℕ) → r < t → q < w → finite (f r q) ≡ true) → allFinite (block t w f) ≡ true
-unfolding allFinite block
-block-finite t w f h =
-    let g : ℕ → Float = λ x. f (x / w) (x % w) in
-    at-every finite (block t w f) nan (λ i l.
-    let m : i < t * w = subst (λ (k : ℕ). i < k) (length-table (t * w) g) l in
-    subst (λ (x : Float). finite x ≡ true) (sym (getD-table (t * w) g i nan m)) (h (i / w) (i % w) (row-below t w i m) (column-below t w i m)))
 
 -- the numbers of t rows of width w are finite
 abbrev pub Finite : ℕ → ℕ → List Float → Type 0
 Finite t w a = (r q : ℕ) → r < t → q < w → finite (at w a r q) ≡ true
 
 pub finite-at : (t w : ℕ) (a : List Float) → length a ≡ t * w → allFinite a ≡ true → Finite t w a
-unfolding allFinite at
-finite-at t w a l e r q hr hq = every-at finite a nan (r * w + q) e (subst (λ (k : ℕ). r * w + q < k) (sym l) (in-block t w r q hr hq))
+finite-at t w a l e r q hr hq = element-finite t w a r q e l hr hq
 
 -- and all numbers of a list that is as long
 pub whole : {t w : ℕ} (a : List Float) → length a ≡ t * w → Finite t w a → allFinite a ≡ true
-whole {t} {w} a l f = subst (λ (x : List Float). allFinite x ≡ true) (sym (block-at t w a l)) (block-finite t w (at w a) f)
+whole {t} {w} a l f = finite-rows t w a l f
 
 at-finite : (t w : ℕ) (f : ℕ → ℕ → Float) → ((r q : ℕ) → r < t → q < w → finite (f r q) ≡ true) → Finite t w (block t w f)
 at-finite t w f h r q hr hq = subst (λ (x : Float). finite x ≡ true) (sym (at-block t w f r q hr hq)) (h r q hr hq)
@@ -50,19 +42,6 @@ chosen false x y f g = g refl
 
 -- ---- one number
 
-update-finite : (x m y : Float) → finite x ≡ true → every finite (updateComputes x m y) ≡ true → finite (update x m y) ≡ true
-unfolding update updateComputes every
-update-finite x m y hx e = go (isZero m) e
-  where
-    go : (b : Bool) → every finite (cond b [] (product m y ∷ difference x (product m y) ∷ [])) ≡ true → finite (cond b x (difference x (product m y))) ≡ true
-    go true e = hx
-    go false e = and-left (finite (difference x (product m y))) true (and-right (finite (product m y)) (finite (difference x (product m y)) && true) e)
-
-pub row-finite : (w : ℕ) (m : Float) (u x : ℕ → Float) (q : ℕ) → q < w → finite (x q) ≡ true → every finite (rowComputes w m u x) ≡ true
-    → finite (update (x q) m (u q)) ≡ true
-unfolding rowComputes below
-row-finite w m u x q h f e = update-finite (x q) m (u q) f (every-joined finite (λ q. updateComputes (x q) m (u q)) 0 w q (omega arith) (omega arith) e)
-
 -- left of c the number is the old one, in c the quotient, right of c an update
 pub eliminated-finite : (t c : ℕ) (u x : ℕ → Float) (q : ℕ) → q < t → finite (x q) ≡ true → every finite (eliminationComputes t c u x) ≡ true
     → finite (eliminated c u x q) ≡ true
@@ -73,7 +52,7 @@ eliminated-finite t c u x q h f e = go (compare q c) (nleb→lt q c)
     m = quotient (x c) (u c)
 
     right : c < q → every finite (updateComputes (x q) m (u q)) ≡ true
-    right l = every-joined finite (λ q. updateComputes (x q) m (u q)) (suc c) (t - suc c) q (omega arith) (omega arith) (and-right (finite m) _ e)
+    right l = every-of-joined finite (λ q. updateComputes (x q) m (u q)) (suc c) (t - suc c) q (omega arith) (omega arith) (and-right (finite m) _ e)
 
     go : (o : Ordering) → (T (not (isLe o)) → c < q) → finite (sides o (x q) m (update (x q) m (u q))) ≡ true
     go Ordering·lt l = f

@@ -25,7 +25,8 @@ use Rattle.laws.proofs.Tests.{and-intro, lt-or-le}
 use Rattle.laws.proofs.Blocks.{in-block, row-of, column-of, row-below, column-below}
 use Rattle.demand.specs.Cells.{Val, view, tileAt, listAt}
 use Rattle.demand.proofs.Members.{Each, more}
-use Rattle.demand.proofs.Elements.{every-at, at-every, part-get}
+use Rattle.laws.proofs.Every.{every-at, at-every}
+use Rattle.demand.proofs.Elements.{part-get}
 use Rattle.demand.proofs.Valid.{task-valid}
 use Rattle.demand.proofs.Places.{cell-lt, Proper, is-tile, is-list, proper-touches}
 use Rattle.demand.proofs.View.{Sized, view-tile, view-list, tile-cell, rows-cell, length-tile, length-rows}

@@ -22,7 +22,7 @@ use Rattle.model.specs.History.{turnTask}
 use Rattle.order_free.proofs.Progress.{Least, least}
 use Rattle.laws.proofs.Tests.{true-or-false, never, and-intro, or-left, or-right, lt-or-le, every-keep, every-run-intro}
 use Rattle.demand.proofs.Members.{Member, some-elim, some-intro, first-kept, kept-some, some-kept, member-run, run-member, map-member, member-map, member-index, index-member}
-use Rattle.demand.proofs.Elements.{not-every}
+use Rattle.laws.proofs.Every.{not-every}
 use Rattle.demand.proofs.Single.{Single}
 use Rattle.demand.proofs.Stores.{holds-busy}
 use Rattle.demand.proofs.Machine.{count, length-marks}

@@ -25,7 +25,7 @@ use Rattle.order_free.specs.Machine.{after}
 use Rattle.order_free.specs.Theorem as T
 use Rattle.order_free.proofs.OrderFree.{order-free}
 use Rattle.demand.specs.Cells.{Val, view}
-use Rattle.demand.proofs.Elements.{every-at}
+use Rattle.laws.proofs.Every.{every-at}
 use Rattle.demand.proofs.Instance.{system-laws}
 use Rattle.demand.proofs.View.{same-buffers}
 use Rattle.demand.proofs.Marks.{toMark, finished-is, finished-most, mark-same}

@@ -24,7 +24,8 @@ use Rattle.model.specs.Calls.{Lent, marksOf, recordOf, idle, worker, opened}
 use Rattle.model.specs.Refusal.{inside, badSizes, holds}
 use Rattle.laws.proofs.Tests.{never, and-left, and-right}
 use Rattle.demand.specs.Cells.{view, listAt}
-use Rattle.demand.proofs.Elements.{every-take, every-drop, getD-same}
+use Rattle.laws.proofs.Every.{every-take, every-drop}
+use Rattle.demand.proofs.Elements.{getD-same}
 use Rattle.demand.proofs.Single.{Single}
 use Rattle.demand.proofs.View.{tile-cell, rows-cell}
 use Rattle.demand.proofs.Kept.{Tiles, Rows}

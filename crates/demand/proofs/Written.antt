@@ -15,10 +15,11 @@ use Rattle.model.specs.Num.{isZero, finite, update}
 use Rattle.model.specs.Tile.{at, exchanged, allFinite}
 use Rattle.model.specs.Column.{Factored, Coupled, Paired, beyond, eliminated, eliminationComputes, rowComputes, factorPivot, factorExchanged, factorColumn, factorComputes, permuted, applyStart, applyColumn, applyComputes, couplePivot, upperExchanged, lowerExchanged, coupleColumn, coupleComputes, pairExchanged, pairColumn, pairComputes}
 use Rattle.laws.proofs.Blocks.{at-block}
-use Rattle.demand.proofs.Elements.{every-joined}
+use Rattle.laws.proofs.Every.{every-of-joined}
 use Rattle.demand.proofs.Choices.{either, both}
 use Rattle.demand.proofs.Entries.{factor-place, couple-place, AtMost}
-use Rattle.demand.proofs.Finite.{block-finite, Finite, finite-at, whole, length-upper, chosen, row-finite, eliminated-finite, exchanged-finite, upper-finite, lower-finite, permuted-finite}
+use Rattle.laws.proofs.Finite.{finite-block, row-finite}
+use Rattle.demand.proofs.Finite.{Finite, finite-at, whole, length-upper, chosen, eliminated-finite, exchanged-finite, upper-finite, lower-finite, permuted-finite}
 
 module _ (t c : ℕ) (hc : c < t) where
   -- ---- T-1
@@ -28,7 +29,7 @@ module _ (t c : ℕ) (hc : c < t) where
   unfolding factorColumn factorComputes factorExchanged beyond
   factor-finite s n f =
       both (λ (l : List Float) (x : Factored). every finite l ≡ true → allFinite (x .tile) ≡ true) (isZero (factorPivot t c (s .tile) .magnitude)) _ _ _ _
-      (λ e. f) (λ e. block-finite t t _ (λ r q hr hq. row e r q hr hq (leb r c) refl))
+      (λ e. f) (λ e. finite-block t t _ (λ r q hr hq. row e r q hr hq (leb r c) refl))
     where
       b : List Float
       b = exchanged t t c (c + factorPivot t c (s .tile) .place) (s .tile)
@@ -42,7 +43,7 @@ module _ (t c : ℕ) (hc : c < t) where
       row e r q hr hq false l =
           let k : c < r = leb-false r c l in
           eliminated-finite t c (at t b c) (at t b r) q hq (old r q hr hq)
-          (every-joined finite (λ r. eliminationComputes t c (at t b c) (at t b r)) (suc c) (t - suc c) r (omega arith) (omega arith) e)
+          (every-of-joined finite (λ r. eliminationComputes t c (at t b c) (at t b r)) (suc c) (t - suc c) r (omega arith) (omega arith) e)
 
   -- ---- T-2
 
@@ -57,11 +58,11 @@ module _ (t c : ℕ) (hc : c < t) where
   pub apply-finite : (w : ℕ) (l : List Float) (p : List ℕ) (a : List Float) → AtMost (t - 1) p → length a ≡ t * w → allFinite a ≡ true
       → every finite (applyComputes t w c l p a) ≡ true → allFinite (applyColumn t w c l p a) ≡ true
   unfolding applyColumn applyComputes beyond
-  apply-finite w l p a h n f e = block-finite t w _ (λ r q hr hq.
+  apply-finite w l p a h n f e = finite-block t w _ (λ r q hr hq.
       chosen (leb r c) (at w b r q) (update (at w b r q) (at t l r c) (at w b c q)) (λ m. old r q hr hq)
       (λ m. let k : c < r = leb-false r c m in
       row-finite w (at t l r c) (at w b c) (at w b r) q hq (old r q hr hq)
-      (every-joined finite (λ r. rowComputes w (at t l r c) (at w b c) (at w b r)) (suc c) (t - suc c) r (omega arith) (omega arith) e)))
+      (every-of-joined finite (λ r. rowComputes w (at t l r c) (at w b c) (at w b r)) (suc c) (t - suc c) r (omega arith) (omega arith) e)))
     where
       b : List Float
       b = applyStart t w c p a
@@ -97,8 +98,8 @@ module _ (t c : ℕ) (hc : c < t) where
         (λ m. (fu, fd))
         (λ m. (
           whole u (length-upper t t c c e (s .upper) (s .lower)) old-upper,
-          block-finite t t _ (λ r q hr hq. eliminated-finite t c (at t u c) (at t d r) q hq (old-lower r q hr hq)
-              (every-joined finite (λ r. eliminationComputes t c (at t u c) (at t d r)) 0 t r (omega arith) (omega arith) m)),
+          finite-block t t _ (λ r q hr hq. eliminated-finite t c (at t u c) (at t d r) q hq (old-lower r q hr hq)
+              (every-of-joined finite (λ r. eliminationComputes t c (at t u c) (at t d r)) 0 t r (omega arith) (omega arith) m)),
         ))
 
   -- an exchange begins at column c, so below the diagonal the upper tile stays
@@ -124,9 +125,9 @@ module _ (t c : ℕ) (hc : c < t) where
   unfolding pairColumn pairComputes pairExchanged below
   pair-finite w l p s h nu nd fu fd e = (
     whole u (length-upper t w 0 c (getD p c 0) (s .upper) (s .lower)) (upper-finite t w 0 c (getD p c 0) (s .upper) (s .lower) h old-u old-d),
-    block-finite t w _ (λ r q hr hq. row-finite w (at t l r c) (at w u c) (at w d r) q hq
+    finite-block t w _ (λ r q hr hq. row-finite w (at t l r c) (at w u c) (at w d r) q hq
         (lower-finite t w 0 c (getD p c 0) (s .upper) (s .lower) hc old-u old-d r q hr hq)
-        (every-joined finite (λ r. rowComputes w (at t l r c) (at w u c) (at w d r)) 0 t r (omega arith) (omega arith) e)),
+        (every-of-joined finite (λ r. rowComputes w (at t l r c) (at w u c) (at w d r)) 0 t r (omega arith) (omega arith) e)),
   )
     where
       u : List Float

@@ -6,13 +6,13 @@ ghost use Rattle.model.specs.Tile.{zeros};
 ghost use Rattle.model.specs.Plan.{planOf};
 ghost use Rattle.model.specs.Buffer.{tile, putTile, putRows, upperFilled, filled};
 ghost use Rattle.checks.specs.Checks.{Sized, MatrixFits, ListsFit, Inside, taskFrom};
-use places::place::list_start;
-use places::place::tile_start;
 use kernel::fill::fill_entries;
 use kernel::fill::fill_numbers;
 use kernel::fill::fill_upper;
 use model::Sizes;
 use model::TaskRecord;
+use places::place::list_start;
+use places::place::tile_start;
 
 // Fills tile (i,j).
 fn fill_tile(z: Sizes, matrix: &mut [f64], i: usize, j: usize)

@@ -1,4 +1,4 @@
--- What fits and what is finite under the operations. A product that isn't finite shows in the difference, so that one test after an update is enough.
+-- What is finite under the operations. A product that isn't finite shows in the difference, so that one test after an update is enough.
 -- Assumes nothing.
 use mathlib.Core.Path.{_≡_, refl, sym, ap, ap₂, _∙_}
 use Prim.Native.Nat.{ℕ, zero, suc, _*_, _<_}
@@ -8,40 +8,12 @@ use mathlib.Core.List.{[], _∷_}
 use mathlib.Core.Bool.{Bool, true, false, _&&_, _||_, Bool·beq, cond}
 use lib.IntN.{ℤ}
 use lib.Dec.{eqb}
-use lib.Ieee.{Float, nan, inf, fin, binary64, up, down, unlike, round, add, sub, mul, div, neg, eq, fits}
-use lib.Ieee.Fits.{sub-fits, mul-fits, div-fits, up-pos}
+use lib.Ieee.{Float, nan, inf, fin, binary64, up, down, unlike, round, add, sub, mul, div, neg, eq}
+use lib.Ieee.Fits.{up-pos}
 use Rattle.model.specs.Lists.{every}
 use Rattle.model.specs.Num.{finite, isZero, magnitude, update, updateComputes, quotient}
 use borrow.Author.Tests.{ne-eqb}
 use Rattle.laws.proofs.Tests.{never, false-if}
-use Rattle.float_laws.proofs.Tests.{T→true}
-
--- ---- results are numbers of binary64. Nothing is asked of the operands, but where one can come back as it is
-
-pub difference-fits : (x y : Float) → fits binary64 (sub binary64 x y) ≡ true
-difference-fits x y = T→true (fits binary64 (sub binary64 x y)) (sub-fits binary64 x y)
-
-pub product-fits : (x y : Float) → fits binary64 (mul binary64 x y) ≡ true
-product-fits x y = T→true (fits binary64 (mul binary64 x y)) (mul-fits binary64 x y)
-
-pub quotient-fits : (x y : Float) → fits binary64 (quotient x y) ≡ true
-unfolding quotient
-quotient-fits x y = T→true (fits binary64 (div binary64 x y)) (div-fits binary64 x y)
-
-pub update-fits : (x m y : Float) → fits binary64 x ≡ true → fits binary64 (update x m y) ≡ true
-unfolding update
-update-fits x m y h = go (isZero m)
-  where
-    go : (b : Bool) → fits binary64 (cond b x (sub binary64 x (mul binary64 m y))) ≡ true
-    go true = h
-    go false = difference-fits x (mul binary64 m y)
-
-pub magnitude-fits : (x : Float) → fits binary64 (magnitude x) ≡ fits binary64 x
-unfolding magnitude fits
-magnitude-fits nan = refl
-magnitude-fits (inf s) = refl
-magnitude-fits (fin s zero e) = refl
-magnitude-fits (fin s (suc m) e) = refl
 
 -- ---- finite, whatever the sign
 
@@ -50,12 +22,6 @@ unfolding finite neg
 finite-neg nan = refl
 finite-neg (inf s) = refl
 finite-neg (fin s m e) = refl
-
-pub finite-magnitude : (x : Float) → finite (magnitude x) ≡ finite x
-unfolding finite magnitude
-finite-magnitude nan = refl
-finite-magnitude (inf s) = refl
-finite-magnitude (fin s m e) = refl
 
 pub magnitude-twice : (x : Float) → magnitude (magnitude x) ≡ magnitude x
 unfolding magnitude
@@ -96,16 +62,6 @@ difference-of-finite x p h = let r = sum-of-finite x (neg p) h in (r .0, sym (fi
 pub difference-shows : (x p : Float) → finite p ≡ false → finite (sub binary64 x p) ≡ false
 difference-shows x p h = false-if (finite (sub binary64 x p)) (λ e. never (difference-of-finite x p e .1) h)
 
-pub product-of-finite : (x y : Float) → finite (mul binary64 x y) ≡ true → (finite x ≡ true) × (finite y ≡ true)
-unfolding finite mul
-product-of-finite nan y h = never h refl
-product-of-finite (inf s) nan h = never h refl
-product-of-finite (inf s) (inf t) h = never h refl
-product-of-finite (inf s) (fin t n d) h = never h (not-from-zero-times-infinity (eqb n 0) (unlike s t))
-product-of-finite (fin s m e) nan h = never h refl
-product-of-finite (fin s m e) (inf t) h = never h (not-from-zero-times-infinity (eqb m 0) (unlike s t))
-product-of-finite (fin s m e) (fin t n d) h = (refl, refl)
-
 -- ---- zeros
 
 -- ±m * 2 ^ e is a zero where m is 0
@@ -142,12 +98,6 @@ pub nonzero-digits : (s : Bool) (m : ℕ) (e : ℤ) → isZero (fin s m e) ≡ f
 nonzero-digits s zero e h = never (zero-is-zero s e) h
 nonzero-digits s (suc m) e h = zero-lt-suc m
 
-pub zero-is-finite : (x : Float) → isZero x ≡ true → finite x ≡ true
-unfolding isZero eq finite
-zero-is-finite nan h = never h refl
-zero-is-finite (inf s) h = never h refl
-zero-is-finite (fin s m e) h = refl
-
 pub zero-magnitude : (x : Float) → isZero (magnitude x) ≡ isZero x
 unfolding magnitude
 zero-magnitude nan = refl
@@ -159,18 +109,6 @@ zero-magnitude (fin s m e) = zero-test false m e ∙ sym (zero-test s m e)
 and-true : (b : Bool) → (b && true) ≡ b
 and-true true = refl
 and-true false = refl
-
-pub update-by-zero : (x m y : Float) → isZero m ≡ true → update x m y ≡ x
-unfolding update
-update-by-zero x m y h = ap (λ (b : Bool). cond b x (sub binary64 x (mul binary64 m y))) h
-
-pub update-otherwise : (x m y : Float) → isZero m ≡ false → update x m y ≡ sub binary64 x (mul binary64 m y)
-unfolding update
-update-otherwise x m y h = ap (λ (b : Bool). cond b x (sub binary64 x (mul binary64 m y))) h
-
--- a product that isn't finite is seen in the update
-pub update-shows : (x m y : Float) → isZero m ≡ false → finite (mul binary64 m y) ≡ false → finite (update x m y) ≡ false
-update-shows x m y z h = ap finite (update-otherwise x m y z) ∙ difference-shows x (mul binary64 m y) h
 
 -- of a finite x, every number that the update computes is finite just where the updated number is
 pub computed-shows : (x m y : Float) → finite x ≡ true → every finite (updateComputes x m y) ≡ finite (update x m y)

@@ -32,8 +32,6 @@ false-exceeds s t m n e d h = ltb-false (n * up d * down e) (m * up e * down d) 
 pub true-exceeds : (s t : Bool) (m n : ℕ) (e d : ℤ) → exceeds (fin s m e) (fin t n d) ≡ true → n * up d * down e < m * up e * down d
 true-exceeds s t m n e d h = ltb-true (n * up d * down e) (m * up e * down d) (sym (exceeds-is s t m n e d) ∙ h)
 
--- ---- signs don't count
-
 -- ---- a strict order
 
 pub exceeds-irreflexive : (x : Float) → exceeds x x ≡ false
@@ -84,9 +82,6 @@ not-exceeding (fin s m e) (fin t n d) (fin u l c) f h k =
 pub exceeds-further : (x y z : Float) → finite z ≡ true → exceeds x y ≡ true → exceeds z y ≡ false → exceeds x z ≡ true
 exceeds-further x y z f h k = true-if (exceeds x z) (λ e. never h (not-exceeding x z y f e k))
 
-pub exceeds-transitive : (x y z : Float) → exceeds x y ≡ true → exceeds y z ≡ true → exceeds x z ≡ true
-exceeds-transitive x y z h k = exceeds-further x y z (exceeded-finite y z k) h (exceeds-asymmetric y z k)
-
 -- ---- the largest so far: p is kept, or x takes its place where it exceeds p
 
 -- what didn't exceed p doesn't exceed x either
@@ -96,8 +91,6 @@ largest-replaced r p x h k = not-exceeding r p x (exceeded-finite x p h) k (exce
 -- and x exceeds all of those before it: the first one wins a tie
 pub largest-is-first : (r p x : Float) → finite r ≡ true → exceeds x p ≡ true → exceeds r p ≡ false → exceeds x r ≡ true
 largest-is-first r p x f h k = exceeds-further x p r f h k
-
--- ---- a tie
 
 -- ---- zeros are the least
 
@@ -117,7 +110,5 @@ not-exceeding-zero (fin s (suc m) e) (fin t zero d) f z h =
 
     above : (a b : ℕ) → 0 < a → b ≡ 0 → a ≤ b → ⊥
     above a b p q r = omega arith
-
--- ---- a bound on the larger bounds the smaller
 
 -- ---- a bound as a comparison with the power of two, as code may test it

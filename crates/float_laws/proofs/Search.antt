@@ -13,9 +13,9 @@ use Rattle.model.specs.Num.{finite, isZero, magnitude, exceeds, quotient}
 use Rattle.model.specs.declared.Pivot.{Pivot}
 use Rattle.model.specs.Column.{better, searchFrom, search}
 use Rattle.float_laws.proofs.Finite.{magnitude-twice, zero-magnitude}
-use Rattle.float_laws.proofs.Order.{exceeds-irreflexive, largest-replaced, largest-is-first, not-exceeding-zero}
+use Rattle.float_laws.proofs.Order.{exceeds-irreflexive, largest-replaced, largest-is-first}
 use Rattle.float_laws.proofs.Rounding.{within}
-use Rattle.float_laws.proofs.Quotient.{quotient-at-most-one, within-finite}
+use Rattle.float_laws.proofs.Quotient.{quotient-at-most-one}
 
 -- of the n numbers g 0, .. , g (n - 1) the one found is the largest in magnitude, and the first one of that magnitude
 pub record Largest (g : ℕ → Float) (n : ℕ) (f : Pivot) : Type 0 where
@@ -122,14 +122,7 @@ search-finds-at xs g n e h same fin =
 -- ---- what follows for a column: g are the candidates
 
 module _ (g : ℕ → Float) (n : ℕ) (f : Pivot) (l : Largest g n f) (fin : (i : ℕ) → i < n → finite (g i) ≡ true) where
-  -- the pivot is a zero: all candidates are
-  pub all-zero : isZero (f .magnitude) ≡ true → (i : ℕ) → i < n → isZero (g i) ≡ true
-  all-zero z i h = not-exceeding-zero (g i) (g (f .place)) (fin i h) (sym (zero-magnitude (g (f .place))) ∙ ap isZero (sym (l .its-magnitude)) ∙ z) (l .none-larger i h)
-
   -- it isn't: the multipliers have magnitude at most 1, and so they are finite
   pub multiplier-at-most-one : isZero (f .magnitude) ≡ false → (i : ℕ) → i < n → within (quotient (g i) (g (f .place))) 1 1 ≡ true
   multiplier-at-most-one z i h =
       quotient-at-most-one (g i) (g (f .place)) (fin i h) (fin (f .place) (l .inside)) (sym (zero-magnitude (g (f .place))) ∙ ap isZero (sym (l .its-magnitude)) ∙ z) (l .none-larger i h)
-
-  pub multiplier-finite : isZero (f .magnitude) ≡ false → (i : ℕ) → i < n → finite (quotient (g i) (g (f .place))) ≡ true
-  multiplier-finite z i h = within-finite (quotient (g i) (g (f .place))) 1 1 (multiplier-at-most-one z i h)

@@ -1,13 +1,12 @@
 // Numbers, readiness and spoiling of tasks over the lent records, by the closed forms of crate links: for one answer at most N + 2
 // marks are read. Inside, a task is a triple: T-1(k) is (k,k,k), T-2(k,j) is (k,k,j), T-3(k,i) is (k,i,k), T-4(k,i,j) is (k,i,j).
 ghost use mathlib.Core.Path.{_≡_};
-ghost use Prim.Native.Nat.{max, suc, _≤_};
+ghost use Prim.Native.Nat.{max, _≤_};
 ghost use Rattle.model.specs.Task.{tasks};
 ghost use Rattle.model.specs.Links.{finished, broken, ready, spoils};
 ghost use Rattle.links.specs.Closed.{key, markAt, backMark, leftMark, aboveMark, T-2s-finished, neighboursFinished, linksFinished, spoilsAt};
 ghost use Rattle.records.specs.Records.{marksFrom};
 ghost use Rattle.graph.specs.Graph.{Triple, Numbered, Marked, Recorded};
-
 use numbering::task_count;
 
 // The number of the task with the triple (k,i,j).

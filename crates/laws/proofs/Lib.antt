@@ -1,3 +1,5 @@
 pub mod Tests
 pub mod Blocks
 pub mod Parts
+pub mod Every
+pub mod Finite

@@ -10,7 +10,6 @@ use native.Mathlib.Nat.{zero-add, suc-add}
 use native.Mathlib.Omega.{arith}
 use lib.ListN.{length, getD, set, take, drop, List·getD-append, length-append, length-take, length-drop}
 use lib.Seq.{getD-append-add, getD-drop, getD-take, length-take-le, take-at, drop-at, ext-getD, set-append-left, take-set-lt, take-set-le, drop-set-lt, drop-set-add}
-use borrow.Rule.Slice.PartMut.{set-mid-at, put-same}
 use Rattle.model.specs.Lists.{part, withPart}
 
 -- two parts of n elements that share none
@@ -73,12 +72,6 @@ module _ {A : Type 0} (n : ℕ) where
     put-put zs =
         let e : length (take a m) ≡ a = length-take-le a m (omega (arith, f)) in
         rw (take-at (take a m) (ys ++ drop n (drop a m)) a e, drop-at (take a m) (ys ++ drop n (drop a m)) a e, drop-at ys (drop n (drop a m)) n (f .whole))
-
-    -- a store in the part is a store in the whole
-    pub set-in : (j : ℕ) (v : A) → j < n → set (withPart a n ys m) (a + j) v ≡ withPart a n (set ys j v) m
-    set-in j v h =
-        sym (set-mid-at a n j (withPart a n ys m) v (rw part-put (omega (arith, f))))
-        ∙ rw part-put (put-put (set ys j v))
 
     -- a store elsewhere
     set-before : (i : ℕ) (v : A) → i < a → set (withPart a n ys m) i v ≡ withPart a n ys (set m i v)

@@ -3,20 +3,19 @@
 use mathlib.Core.Path.{_≡_, refl}
 use mathlib.Core.List.{List, [], _∷_}
 use Prim.Native.Nat.{ℕ}
-use lib.IntN.{pos, negsuc}
+use lib.IntN.{pos}
 use lib.ListN.{length}
-use lib.Ieee.{Float, fin, binary64, ofInt, ofBits, neg}
-use mathlib.Core.Bool.{Bool, true, false}
+use lib.Ieee.{Float, binary64, ofInt, ofBits, neg}
 use Rattle.model.specs.declared.Sizes.{Sizes}
-use Rattle.model.specs.declared.Outcome.the-variants.{Good, Overflow, Singular}
+use Rattle.model.specs.declared.Outcome.the-variants.{Good, Singular}
 use Rattle.model.specs.declared.Answer.the-variants.{Refused}
 use Rattle.model.specs.Task.{tasks}
 use Rattle.model.specs.Links.{linkCount}
 use Rattle.model.specs.Plan.{plan}
-use Rattle.model.specs.Loops.{State, loops, outcome}
-use Rattle.model.specs.Calls.{Lent, RunEnd, opened}
-use Rattle.model.specs.Refusal.{Reply, openCall, runCall}
-use Rattle.model.specs.Solve.{Answers, solveCall, Solve·open}
+use Rattle.model.specs.Loops.{loops, outcome}
+use Rattle.model.specs.Calls.{Lent, opened}
+use Rattle.model.specs.Refusal.{openCall, runCall}
+use Rattle.model.specs.Solve.{solveCall, Solve·open}
 use Rattle.model.specs.Text.{bytes}
 use Rattle.model.specs.Read.{program, Read·open}
 

@@ -12,7 +12,7 @@ use Rattle.model.specs.Lists.{every, part, withPart}
 use Rattle.model.specs.Num.{plusZero, finite}
 use Rattle.model.specs.Tile.{at, block, allFinite, zeros}
 use Rattle.model.specs.Column.{Factored, Coupled, Paired, factorColumn, factorComputes, applyColumn, applyComputes, coupleColumn, coupleComputes, pairColumn, pairComputes, Column·open}
-use Rattle.model.specs.Task.{Task, T-1, T-2, T-3, T-4, Place, isList, writes, touches}
+use Rattle.model.specs.Task.{Task, T-1, T-2, T-3, T-4, Place, isList, touches}
 use Rattle.model.specs.Links.{taken, done, failed}
 use Rattle.model.specs.Plan.{Plan, Plan·open}
 

@@ -1,6 +1,6 @@
 -- What accepted calls do: opening, take, column, and a whole run. Document 01, sections "The system and its buffers" and
 -- "The outcome, and solving". Assumes nothing.
-use Prim.Native.Nat.{ℕ, zero, suc, _+_, _*_, _%_}
+use Prim.Native.Nat.{ℕ, zero, suc, _+_, _%_}
 use mathlib.Core.Bool.{Bool, true, false, cond, not, _&&_, _||_}
 use mathlib.Core.List.{List, map}
 use lib.ListN.{length, getD, set, replicate}
@@ -9,7 +9,7 @@ use lib.Ieee.{Float}
 use Rattle.model.specs.declared.TaskRecord.{TaskRecord}
 use Rattle.model.specs.declared.Worker.{Worker}
 use Rattle.model.specs.declared.RunAnswer.{RunAnswer}
-use Rattle.model.specs.declared.RunAnswer.the-variants.{Finished, Spent, RunRefused}
+use Rattle.model.specs.declared.RunAnswer.the-variants.{Finished, Spent}
 use Rattle.model.specs.Lists.{below, every, keep, firstOr}
 use Rattle.model.specs.Task.{Task, T-1, kindOf, kOf, iOf, jOf}
 use Rattle.model.specs.Plan.{Plan}

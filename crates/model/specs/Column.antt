@@ -2,8 +2,8 @@
 -- section "Columns". T-2 and T-4 work on tiles of width t and on a right side of width 1, so they take a width w.
 -- The steps' verbs: T-1 factors a tile, T-2 applies it to a block, T-3 couples two tiles, T-4 pairs two blocks.
 -- Assumes nothing.
-use Prim.Native.Nat.{ℕ, zero, suc, _+_, _-_, _*_, pred, compare, Ordering, Ordering·lt, Ordering·eq, Ordering·gt}
-use mathlib.Core.Bool.{Bool, true, false, cond, _&&_}
+use Prim.Native.Nat.{ℕ, suc, _+_, _-_, pred, compare, Ordering, Ordering·lt, Ordering·eq, Ordering·gt}
+use mathlib.Core.Bool.{true, false, cond, _&&_}
 use mathlib.Core.List.{List, [], _∷_, map}
 use lib.ListN.{getD, set}
 use lib.Dec.{eqb, ltb, leb}

@@ -1,10 +1,10 @@
 -- Which tasks wait for which, the marks, and the latest writer. Everything is over a list of tasks in number order, so it serves also where
 -- some tasks are left out. Assumes nothing.
-use Prim.Native.Nat.{ℕ, zero, suc, _+_, _-_}
-use mathlib.Core.Bool.{Bool, true, false, cond, not, _&&_, _||_}
-use mathlib.Core.List.{List, [], _∷_, _++_, map}
+use Prim.Native.Nat.{ℕ, suc, _-_}
+use mathlib.Core.Bool.{Bool, not, _&&_, _||_}
+use mathlib.Core.List.{List, map}
 use lib.ListN.{length, getD}
-use lib.Dec.{eqb, leb}
+use lib.Dec.{eqb}
 use Rattle.model.specs.Lists.{run, below, joined, some, every, keep}
 use Rattle.model.specs.Task.{Task, T-1, Place, among, writes, touches, clash, Task·open}
 

@@ -1,7 +1,7 @@
 -- The published loops, which do the tasks in number order, and the outcome. Document 01, sections "The published loops" and
 -- "The outcome, and solving". Assumes nothing.
 use Prim.Native.Nat.{ℕ, zero, suc, _*_}
-use mathlib.Core.Bool.{Bool, true, false}
+use mathlib.Core.Bool.{true, false}
 use mathlib.Core.List.{List}
 use lib.ListN.{length, set, replicate}
 use lib.Dec.{eqb}

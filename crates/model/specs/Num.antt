@@ -1,9 +1,7 @@
 -- The arithmetic: IEEE 754 binary64, nearest with ties to even (`lib.Ieee`), and what document 01 does with it.
 -- Assumes nothing.
-use Prim.Native.Nat.{ℕ, zero}
 use mathlib.Core.Bool.{Bool, true, false, cond}
 use mathlib.Core.List.{List, [], _∷_}
-use lib.Dec.{eqb}
 use lib.IntN.{pos}
 use lib.Ieee.{Float, nan, inf, fin, binary64, sub, mul, div, lt, eq}
 

@@ -1,5 +1,5 @@
 -- Reading system and result files, and the program. Document 01, section "System files", and refusals 12 to 14. Assumes nothing.
-use Prim.Native.Nat.{ℕ, zero, suc, _+_, _-_, _*_}
+use Prim.Native.Nat.{ℕ, suc, _+_, _-_, _*_}
 use mathlib.Core.Bool.{Bool, true, false, cond, not, _&&_, _||_}
 use mathlib.Core.List.{List, [], _∷_, _++_, map, reverse}
 use lib.ListN.{length, getD, take, drop, replicate}
@@ -15,7 +15,7 @@ use Rattle.model.specs.Lists.{below, every, some, joined, inTurn}
 use Rattle.model.specs.Tile.{allFinite}
 use Rattle.model.specs.Plan.{Plan, plan}
 use Rattle.model.specs.Loops.{outcome}
-use Rattle.model.specs.Calls.{Lent, RunEnd, stateOf, opened, wholeRun}
+use Rattle.model.specs.Calls.{stateOf, opened, wholeRun}
 use Rattle.model.specs.Refusal.{refuse, _otherwise_, inside}
 use Rattle.model.specs.Text.{refusalFrame, resultText, badShape, badMatrix, badLists, Text·open}
 

@@ -1,23 +1,22 @@
 -- What opening, take, column, run and outcome calls answer and leave: the refusals of document 01's table in their order, and else
 -- what an accepted call does. A refusal changes nothing. Assumes nothing.
-use Prim.Native.Nat.{ℕ, suc, _+_, _-_, _*_, _/_, _%_}
+use Prim.Native.Nat.{ℕ, _-_, _*_, _/_, _%_}
 use mathlib.Core.Bool.{Bool, true, false, cond, not, _&&_, _||_}
 use mathlib.Core.List.{List}
 use lib.ListN.{length, getD}
 use lib.Dec.{eqb, leb, ltb}
 use lib.Ieee.{Float, nan}
 use Rattle.model.specs.declared.Sizes.{Sizes}
-use Rattle.model.specs.declared.TaskRecord.{TaskRecord}
 use Rattle.model.specs.declared.Worker.{Worker}
 use Rattle.model.specs.declared.Answer.{Answer}
 use Rattle.model.specs.declared.Answer.the-variants.{Accepted, Refused}
 use Rattle.model.specs.declared.RunAnswer.the-variants.{RunRefused}
 use Rattle.model.specs.declared.OutcomeAnswer.{OutcomeAnswer}
 use Rattle.model.specs.declared.OutcomeAnswer.the-variants.{Ended as EndedWith, Unfinished, OutcomeRefused}
-use Rattle.model.specs.Lists.{below, every, some, keep, firstOr}
+use Rattle.model.specs.Lists.{below, some, keep, firstOr}
 use Rattle.model.specs.Num.{finite}
 use Rattle.model.specs.Tile.{allFinite}
-use Rattle.model.specs.Task.{Task, kindOf, kOf, iOf, jOf}
+use Rattle.model.specs.Task.{kindOf, kOf, iOf, jOf}
 use Rattle.model.specs.Plan.{Plan, planOf, order}
 use Rattle.model.specs.Links.{task, mark, taken, finished, ready}
 use Rattle.model.specs.Buffer.{finiteTiles}

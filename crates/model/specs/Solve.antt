@@ -1,7 +1,7 @@
 -- Solving: the right side passes through T-2 and T-4 as one more tile column, of width 1, in task order; then the backward rows.
 -- Document 01, section "The outcome, and solving", and refusals 8 to 11. Assumes nothing.
-use Prim.Native.Nat.{ℕ, suc, _-_, _*_}
-use mathlib.Core.Bool.{Bool, true, false, cond, not, _&&_, _||_}
+use Prim.Native.Nat.{ℕ, _-_, _*_}
+use mathlib.Core.Bool.{true, false, not, _&&_, _||_}
 use mathlib.Core.List.{List, [], _∷_, _++_, reverse}
 use lib.ListN.{length, getD, set}
 use lib.Dec.{eqb}

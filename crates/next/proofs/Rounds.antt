@@ -1,7 +1,7 @@
 -- Counting workers round, and the next busy one. Assumes nothing.
 use Prim.Native.Nat.{ℕ, suc, _+_, _-_, _*_, _%_, _≤_, _<_, min}
 use mathlib.Core.Bool.{Bool, true, false, cond}
-use mathlib.Core.Path.{_≡_, refl, sym, ap, _∙_, subst}
+use mathlib.Core.Path.{_≡_, sym, ap, _∙_, subst}
 use mathlib.Core.Logic.{_⊎_, inl, inr}
 use mathlib.Core.List.{List}
 use native.Mathlib.Nat.{add-zero, mod-eq-of-lt, mod-self, mod-add-mod, mul-add-mod-self-right, min-eq-left, min-eq-right}
@@ -10,7 +10,7 @@ use lib.ListN.{getD}
 use Rattle.laws.proofs.Tests.{lt-or-le}
 use Rattle.model.specs.declared.Worker.{Worker}
 use Rattle.model.specs.Calls.{idle}
-use Rattle.next.specs.Next.{NextBusy, busy-after, all-idle}
+use Rattle.next.specs.Next.{NextBusy, busy-after}
 
 -- ---- the worker after v
 

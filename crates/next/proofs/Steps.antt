@@ -1,20 +1,19 @@
 -- A run at what is lent s: what each turn leaves to do, and when a run is over. Assumes nothing.
-use Prim.Native.Nat.{ℕ, zero, suc, _+_, _%_, _≤_, _<_}
+use Prim.Native.Nat.{ℕ, zero, suc, _+_, _%_, _<_}
 use mathlib.Core.Bool.{Bool, true, false, cond}
 use mathlib.Core.Path.{_≡_, refl, sym, ap, _∙_, subst}
 use mathlib.Core.Logic.{_⊎_, inl, inr}
 use lib.ListN.{length}
 use Rattle.model.specs.declared.Sizes.{Sizes}
 use Rattle.model.specs.declared.RunAnswer.the-variants.{Finished, Spent}
-use Rattle.model.specs.Lists.{firstOr}
 use Rattle.model.specs.Task.{tasks}
 use Rattle.model.specs.Plan.{plan, planOf}
 use Rattle.model.specs.Links.{mark, finished, ready}
-use Rattle.model.specs.Calls.{Lent, RunEnd, marksOf, worker, took, advanced, readyTasks, allFinished, hasWork, turn, nextWorker, runFrom}
+use Rattle.model.specs.Calls.{Lent, RunEnd, marksOf, worker, took, advanced, allFinished, hasWork, turn, nextWorker, runFrom}
 use Rattle.laws.proofs.Tests.{never, false-if, true-or-false}
 use Rattle.run_laws.proofs.Pointer.{NoneReady}
 use Rattle.run_laws.proofs.NextWorker.{lowest, can-take, only-busy, busy-works, next-here, next-after}
-use Rattle.demand.proofs.Elements.{every-at}
+use Rattle.laws.proofs.Every.{every-at}
 use Rattle.demand.proofs.Machine.{count, length-marks}
 use Rattle.demand.proofs.Whole.{Whole}
 use Rattle.demand.proofs.Steps.{ready-waits}
@@ -90,6 +89,7 @@ module _ (z : Sizes) (s : Lent) (h : Whole z s) where
         stuck : Goes z s h → ⊥
         stuck (can-work w l b) = never b (quiet w l)
         stuck (can-start p l r q) = never r (none p l)
+
         go : (allFinished (planOf z) s ≡ true) ⊎ (allFinished (planOf z) s ≡ false) → allFinished (planOf z) s ≡ true
         go (inl e) = e
         go (inr e) = absurd (stuck (goes z s h e))

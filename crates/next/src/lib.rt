@@ -9,7 +9,6 @@ ghost use Rattle.model.specs.Links.{taken, finished};
 ghost use Rattle.model.specs.Calls.{holding, marked};
 ghost use Rattle.records.specs.Records.{recordsFrom, marksFrom};
 ghost use Rattle.next.specs.Next.{Passed, LowestReady, NextBusy};
-
 use checks::elements::Lowest;
 use graph::is_ready;
 use model::RunAnswer;

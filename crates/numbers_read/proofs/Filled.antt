@@ -7,7 +7,7 @@ use native.Mathlib.Numerals.{add-one}
 use native.Mathlib.Omega.{arith}
 use lib.ListN.{length, getD, set, take, drop, length-append, length-drop, drop-of-length-le, length-map}
 use lib.Seq.{drop-cons, drop-drop, set-at, take-at, drop-at, length-take-le}
-use Rattle.model.specs.Lists.{run, below, joined, part, withPart}
+use Rattle.model.specs.Lists.{run, below, joined, withPart}
 
 run-last : (a n : ℕ) → run a (suc n) ≡ run a n ++ (a + n) ∷ []
 unfolding run
@@ -59,9 +59,6 @@ module _ {A : Type 0} (g : ℕ → A) where
 
   pub written-all : (d : List A) (x : ℕ) → length d ≤ x → written d x ≡ map g (below x)
   written-all d x h = ap (λ (l : List A). map g (below x) ++ l) (drop-of-length-le d h) ∙ append-nil (map g (below x))
-
-  pub length-written : (d : List A) (x : ℕ) → x ≤ length d → length (written d x) ≡ length d
-  length-written d x h = length-append (map g (below x)) (drop x d) ∙ omega (arith, length-table x, length-drop x d)
 
 -- ---- one part at a time, all of length s
 

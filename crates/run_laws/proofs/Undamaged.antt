@@ -6,7 +6,7 @@ use mathlib.Core.Path.{_≡_, refl}
 use mathlib.Core.List.{List, [], _∷_}
 use native.Mathlib.Omega.{arith}
 use lib.Dec.{eqb, leb, ltb}
-use lib.ListN.{length, getD, List·getD-map}
+use lib.ListN.{length, getD}
 use borrow.Author.Tests.{eqb-true, eq-eqb, leb-true, ltb-true, ltb-false, not-false}
 use Rattle.model.specs.declared.TaskRecord.{TaskRecord}
 use Rattle.model.specs.declared.Worker.{Worker}
@@ -111,14 +111,6 @@ module _ (z : Plan) (s : Lent) (fine : damaged z s ≡ false) where
   -- the same, whatever is read past the end of the records
   pub due-any : length (s .records) ≡ length (z .tasks) → (p : ℕ) (d : TaskRecord) → p < length (z .tasks) → Due (task (z .tasks) p) (getD (s .records) p d)
   due-any long p d h = rw (getD-any (s .records) p d (recordOf (task (z .tasks) p)) (omega arith)) (due p h)
-
-  -- the mark that a record holds
-  mark-in : (p : ℕ) → mark (marksOf s) p ≡ getD (s .records) p (recordOf (task (z .tasks) p)) .mark
-  unfolding mark marksOf recordOf
-  mark-in p = List·getD-map (λ (r : TaskRecord). r .mark) (s .records) p (recordOf (task (z .tasks) p))
-
-  pub marks-small : (p : ℕ) → p < length (z .tasks) → mark (marksOf s) p ≤ 4
-  marks-small p h = rw (mark-in p) (due p h .mark-most)
 
   -- ---- holds
 

@@ -3,7 +3,6 @@ ghost use mathlib.Core.Path.{_≡_};
 ghost use lib.ListN.{drop};
 ghost use Rattle.model.specs.Refusal.{runAnswer, runCall};
 ghost use Rattle.records.specs.Records.{lent};
-
 use checks::elements::all_finite;
 use checks::sizes::bad_lengths;
 use checks::sizes::bad_sizes;
@@ -50,9 +49,9 @@ pub fn run(
     budget: u64,
 ) -> RunReply
     ensures { λ r. ⌜ record {
-            answer = r .answer;
-            left = lent (now (matrix .exit)) (now (lists .exit)) (now (records .exit)) (r .workers) (z .workers);
-        } ≡ runCall z budget (lent (now (matrix .entry)) (now (lists .entry)) (now (records .entry)) workers (z .workers)) ⌝ }
+      answer = r .answer;
+      left = lent (now (matrix .exit)) (now (lists .exit)) (now (records .exit)) (r .workers) (z .workers);
+    } ≡ runCall z budget (lent (now (matrix .entry)) (now (lists .entry)) (now (records .entry)) workers (z .workers)) ⌝ }
     ensures { λ r. ⌜ drop (z .workers) (r .workers) ≡ drop (z .workers) workers ⌝ }
 {
     let answer = run_answer(z, matrix, lists, records, workers);

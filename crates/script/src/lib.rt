@@ -1,6 +1,6 @@
 // For test programs: fields of fixed width in lines of hexadecimal digits, a digest, and bytes to print. Every function is total: what
 // is read past the end is 0, and what is written past the end is dropped.
-ghost use Prim.Native.Nat.{_<_, _≤_};
+ghost use Prim.Native.Nat.{_<_};
 
 // The byte k places behind at.
 pub fn byte(text: &[u8], at: usize, k: usize) -> u8 {
@@ -105,7 +105,7 @@ pub fn mixed_numbers(h: u64, m: &[f64]) -> u64 {
     r
 }
 
-fn wide(b: u8) -> u64 {
+pub fn wide(b: u8) -> u64 {
     b as u64
 }
 

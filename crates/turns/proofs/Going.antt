@@ -1,9 +1,8 @@
 -- What holds at each turn of a run's loop: what is left to do from here is the whole run. Assumes nothing.
 use Prim.Native.Nat.{ℕ, zero, suc, _+_, _-_, _*_, _%_, _≤_, _<_, min}
-use mathlib.Core.Bool.{Bool, true, false, cond, _&&_, not}
+use mathlib.Core.Bool.{Bool, true, false, cond}
 use mathlib.Core.Path.{_≡_, refl, sym, ap, _∙_, subst}
-use mathlib.Core.Logic.{_⊎_, inl, inr}
-use mathlib.Core.List.{List, [], map}
+use mathlib.Core.List.{List, map}
 use native.Mathlib.Nat.{mod-lt, min-le-left, mul-mul-mul-comm}
 use native.Mathlib.Omega.{arith}
 use lib.Ieee.{Float}
@@ -20,7 +19,7 @@ use Rattle.model.specs.Task.{tasks}
 use Rattle.model.specs.Plan.{plan, planOf}
 use Rattle.model.specs.Links.{task, mark, finished, ready}
 use Rattle.model.specs.Buffer.{Ended, finiteTiles}
-use Rattle.model.specs.Calls.{Lent, RunEnd, marksOf, withMark, marked, worker, idle, holding, took, columnOf, advanced, allFinished, runFrom, wholeRun}
+use Rattle.model.specs.Calls.{Lent, RunEnd, marksOf, withMark, marked, worker, idle, holding, took, advanced, allFinished, runFrom, wholeRun}
 use Rattle.model.specs.Refusal.{damaged, badTiles, runAnswer}
 use Rattle.laws.proofs.Tests.{never}
 use Rattle.run_laws.proofs.Pointer.{NoneReady, none-after, none-after-take, none-kept}
@@ -259,20 +258,26 @@ module _ {z : Sizes} {budget : ℕ} {s₀ : Lent} {ws₀ : List Worker} {m : Lis
         where
           p : h .task < length (marksFrom r)
           p = subst (λ (x : ℕ). h .task < x) (sym (length-marks r ∙ records-long z m l r ws (g .whole))) task-fits
+
           from-is : (x : Worker) → k ≡ x → f ≡ cond (x .busy) from (min from (suc (h .task)))
           from-is x q = e ∙ ap (λ (y : Worker). cond (y .busy) from (min from (suc (h .task)))) q
+
           go : (b : Bool) → finished (o .mark) ≡ b → k ≡ cond b idle (holding (h .task) (suc (h .column))) → (f ≤ from) × NoneReady (tasks (z .tiles)) (marksFrom r') f
           go true a q =
-              let j : f ≡ min from (suc (h .task)) = from-is idle q in
-              (subst (λ (x : ℕ). x ≤ from) (sym j) (min-le-left from (suc (h .task))), subst (NoneReady (tasks (z .tiles)) (marksFrom r')) (sym j)
-              (none-in z r r' (h .task) (o .mark) (min from (suc (h .task))) (o .records)
-              (none-after (tasks (z .tiles)) (marksFrom r) (h .task) (o .mark) from p (λ d. omega (arith, mark-bounds .0)) (g .none))))
+              let j : f ≡ min from (suc (h .task)) = from-is idle q in (
+                subst (λ (x : ℕ). x ≤ from) (sym j) (min-le-left from (suc (h .task))),
+                subst (NoneReady (tasks (z .tiles)) (marksFrom r')) (sym j)
+                    (none-in z r r' (h .task) (o .mark) (min from (suc (h .task))) (o .records)
+                    (none-after (tasks (z .tiles)) (marksFrom r) (h .task) (o .mark) from p (λ d. omega (arith, mark-bounds .0)) (g .none))),
+              )
           go false a q =
-              let j : f ≡ from = from-is (holding (h .task) (suc (h .column))) q in
-              (omega arith, subst (NoneReady (tasks (z .tiles)) (marksFrom r')) (sym j)
-              (none-in z r r' (h .task) (o .mark) from (o .records)
-              (subst (λ (x : ℕ). NoneReady (tasks (z .tiles)) (set (marksFrom r) (h .task) x) from) (sym (still-taken (o .mark) (mark-bounds .0) (mark-bounds .1) a))
-              (none-kept (tasks (z .tiles)) (marksFrom r) (h .task) p from (g .none)))))
+              let j : f ≡ from = from-is (holding (h .task) (suc (h .column))) q in (
+                omega arith,
+                subst (NoneReady (tasks (z .tiles)) (marksFrom r')) (sym j)
+                    (none-in z r r' (h .task) (o .mark) from (o .records)
+                    (subst (λ (x : ℕ). NoneReady (tasks (z .tiles)) (set (marksFrom r) (h .task) x) from) (sym (still-taken (o .mark) (mark-bounds .0) (mark-bounds .1) a))
+                    (none-kept (tasks (z .tiles)) (marksFrom r) (h .task) p from (g .none)))),
+              )
 
       pub work-goes : n < budget → (f : ℕ) → f ≡ cond (k .busy) from (min from (suc (h .task))) → (u : ℕ) → u ≡ suc w % W
           → Going z budget s₀ ws₀ m' l' r' (set ws w k) (n + 1) u f

@@ -6,18 +6,17 @@ ghost use Rattle.model.specs.Plan.{planOf};
 ghost use Rattle.model.specs.Calls.{wholeRun};
 ghost use Rattle.model.specs.Refusal.{runAnswer};
 ghost use Rattle.records.specs.Records.{lent};
-
 use advancing::advance;
+use model::RunAnswer;
+use model::RunReply;
+use model::Sizes;
+use model::Worker;
 use next::after;
 use next::answer_after;
 use next::lowest_ready;
 use next::next_busy;
 use next::search_from;
 use next::take_task;
-use model::RunAnswer;
-use model::RunReply;
-use model::Sizes;
-use model::Worker;
 
 // Workers take turns until every task is finished or the budget is spent. Below `from` no task is ready, so a search begins there.
 pub fn take_turns(
@@ -30,9 +29,9 @@ pub fn take_turns(
 ) -> RunReply
     requires { ⌜ runAnswer z (lent (now matrix) (now lists) (now records) workers (z .workers)) ≡ Accepted ⌝ }
     ensures { λ r. ⌜ record {
-            answer = r .answer;
-            left = lent (now (matrix .exit)) (now (lists .exit)) (now (records .exit)) (r .workers) (z .workers);
-        } ≡ wholeRun (planOf z) (z .workers) budget (lent (now (matrix .entry)) (now (lists .entry)) (now (records .entry)) workers (z .workers)) ⌝ }
+      answer = r .answer;
+      left = lent (now (matrix .exit)) (now (lists .exit)) (now (records .exit)) (r .workers) (z .workers);
+    } ≡ wholeRun (planOf z) (z .workers) budget (lent (now (matrix .entry)) (now (lists .entry)) (now (records .entry)) workers (z .workers)) ⌝ }
     ensures { λ r. ⌜ drop (z .workers) (r .workers) ≡ drop (z .workers) workers ⌝ }
 {
     let mut left = workers;
@@ -43,7 +42,11 @@ pub fn take_turns(
         let h = left[w];
         if h.busy {
             let g = advance(z, matrix, lists, records, h);
-            left[w] = g;
+            left[w] = Worker {
+                busy: g.busy,
+                task: g.task,
+                column: g.column,
+            };
             from = search_from(from, g.busy, h.task as usize);
             n += 1;
             w = after(z.workers, w);

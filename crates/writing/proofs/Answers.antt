@@ -45,7 +45,7 @@ module _ (new text : List ℕ) (k : ℕ) (size : length new ≡ k) where
 
 -- ---- the line 05
 
-length-refusal : (n x : ℕ) → length (refusalFrame n x) ≡ 9
+pub length-refusal : (n x : ℕ) → length (refusalFrame n x) ≡ 9
 unfolding refusalFrame line
 length-refusal n x = simp (length-append, length-hex)
 
@@ -98,7 +98,7 @@ module _ (N t : ℕ) (m : List Float) where
     unfolding outcomeFrame line
     length-outcome = simp (length-append, length-hex)
 
-    length-result : N * N * (t * t) ≤ length m → N * N * t ≤ length l → length (resultText (plan N t) (record { matrix = m; lists = l }) o) ≡ resultLength N t
+    pub length-result : N * N * (t * t) ≤ length m → N * N * t ≤ length l → length (resultText (plan N t) (record { matrix = m; lists = l }) o) ≡ resultLength N t
     unfolding resultLength
     length-result h k =
         let x = systemText (plan N t) (record { matrix = m; lists = [] }) in

@@ -3,7 +3,7 @@ use mathlib.Core.Path.{_≡_, refl, sym}
 use mathlib.Core.Logic.{_⊎_, inl, inr}
 use mathlib.Core.Bool.{Bool, true, false, not, _&&_}
 use Prim.Native.Nat.{ℕ, _+_, _*_, _/_, _≤_, _<_}
-use native.Mathlib.Nat.{mul-le-mul}
+use native.Mathlib.Nat.{mul-le-mul, mul-assoc, mul-add, mul-mul-mul-comm}
 use native.Mathlib.Omega.{arith}
 use lib.Dec.{eqb, leb, ltb}
 use borrow.Author.Tests.{eqb-true, le-leb, lt-leb, leb-true, ltb-true, ltb-false}
@@ -89,6 +89,13 @@ bounds N t h k =
       listing = mul-le-mul l2 w;
       squares = nn;
     }
+
+-- the tiles' lines of a system with n at most 48
+pub small-tiles : (N t : ℕ) → N ≤ 16 → N * t ≤ 48 → N * (N * (7 + t * t * 16)) ≤ 38656
+small-tiles N t h k =
+    let s : N * N ≤ 256 = mul-le-mul h h in
+    let n : N * t * (N * t) ≤ 2304 = mul-le-mul k k in
+    omega (arith, mul-assoc N N (7 + t * t * 16), mul-add (N * N) 7 (t * t * 16), mul-assoc (N * N) (t * t) 16, mul-mul-mul-comm N t N t)
 
 abbrev halved : ℕ → Bool
 halved n = eqb (n * (n + 1) / 2) (triangle n)

@@ -36,9 +36,10 @@ same-length-3 c = search needs
 returns : tie.Need-returns
 returns c =
     let d = c .before .before .before .before .before .before .before .before .before .before .before .before in
-    let a = c .before .before .before .before .before .advance .ensures in
-    (state-after (d .args .z) _ _ _ (d .args .t5) _ (d .pre .exists) _ refl _ _ _ _ _ (a .ends (d .args .t5)) (a .records) (a .worker),
-    others-after (d .args .z) (d .args .matrix .now) (d .args .lists .now) (d .args .records .now) _ _ (d .pre .exists) _)
+    let a = c .before .before .before .before .before .advance .ensures in (
+      state-after (d .args .z) _ _ _ (d .args .t5) _ (d .pre .exists) _ refl _ _ _ _ _ (a .ends (d .args .t5)) (a .records) (a .worker),
+      others-after (d .args .z) (d .args .matrix .now) (d .args .lists .now) (d .args .records .now) _ _ (d .pre .exists) _,
+    )
 
 pub advance-worker-spec : {M : Type 1} → statement M
 advance-worker-spec =

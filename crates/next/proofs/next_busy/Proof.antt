@@ -5,7 +5,6 @@ use mathlib.Core.Path.{_≡_, sym, subst}
 use native.Mathlib.Nat.{mod-lt}
 use native.Mathlib.Omega.{arith}
 use borrow.Author.Count.{below-more}
-use borrow.Author.Needs.{needs}
 use lib.ListN.{getD}
 use Rattle.model.specs.Calls.{idle}
 use Rattle.next.specs.Next.{all-idle}

@@ -42,9 +42,11 @@ same-length-6 c = search needs
 
 returns-2 : tie.Need-returns-2
 returns-2 c =
-    let t = c .before .before .before .before .before .take-turns in
-    (t .ensures .0 ∙ accepted _ _ _ _ (c .before .before .before .before .before .before .before .before .before .before .before .run-answer .ensures)
-    (c .before .before .before .before .before .before .before .before .before .enum-told .given .1), t .ensures .1)
+    let t = c .before .before .before .before .before .take-turns in (
+      t .ensures .0 ∙ accepted _ _ _ _ (c .before .before .before .before .before .before .before .before .before .before .before .run-answer .ensures)
+          (c .before .before .before .before .before .before .before .before .before .enum-told .given .1),
+      t .ensures .1,
+    )
 
 pub run-spec : {M : Type 1} → statement M
 run-spec =

@@ -1,11 +1,11 @@
 -- `script::float` meets its contract: the bits of a NaN are above those of the infinity. Assumes nothing.
 use mathlib.Core.Path.{_≡_, sym, ap, _∙_, subst}
-use mathlib.Core.Bool.{Bool, true, false, not}
+use mathlib.Core.Bool.{false, not}
 use Prim.Native.Nat.{ℕ, _%_, _≤_}
 use borrow.Author.Needs.{needs}
 use borrow.Author.Tests.{le-ltb}
-use lib.Dec.{T, ltb}
-use lib.Ieee.{binary64, nanBits, ones, hid, top}
+use lib.Dec.{T}
+use lib.Ieee.{binary64, nanBits}
 use lib.Ieee.Bits.{nanBits-above}
 use Rattle.script.proofs.float.Statement.{statement}
 use Rattle.script.proofs.float.Tie as tie

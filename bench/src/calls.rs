@@ -1,0 +1,180 @@
+//! A take and a column call in Rust, with the checks of refusals 1, 2, 4, 5, 6 and 7. Each answers the refusal's number, or 0.
+use crate::loops::{column, fill, number, spoiled, task_count, triple, Record, DONE, FAILED, SPOILED, TAKEN};
+use crate::plain::Shape;
+
+#[derive(Clone, Copy)]
+pub struct Worker {
+    pub busy: bool,
+    pub task: u16,
+    pub column: u8,
+}
+
+pub const IDLE: Worker = Worker { busy: false, task: 0, column: 0 };
+
+fn bad_records(n: usize, records: &[Record]) -> bool {
+    let mut p = 0;
+    for k in 0..n as u8 {
+        for i in k..n as u8 {
+            for j in k..n as u8 {
+                let due = match (i == k, j == k) {
+                    (true, true) => [1, k, 0, 0],
+                    (true, false) => [2, k, 0, j],
+                    (false, true) => [3, k, i, 0],
+                    (false, false) => [4, k, i, j],
+                };
+                let r = records[p];
+                if r[0] != due[0] || r[1] != due[1] || r[2] != due[2] || r[3] != due[3] || r[4] > 4 {
+                    return true;
+                }
+                p += 1;
+            }
+        }
+    }
+    false
+}
+
+fn bad_holds(records: &[Record], workers: &[Worker]) -> bool {
+    for p in 0..records.len() {
+        if records[p][4] == TAKEN && workers.iter().filter(|h| h.busy && h.task as usize == p).count() != 1 {
+            return true;
+        }
+    }
+    false
+}
+
+fn bad_workers(t: usize, records: &[Record], workers: &[Worker]) -> bool {
+    for h in workers {
+        if h.busy && (h.task as usize >= records.len() || records[h.task as usize][4] != TAKEN || h.column as usize >= t) {
+            return true;
+        }
+    }
+    false
+}
+
+fn bad_entries(s: &Shape, lists: &[u8]) -> bool {
+    for i in 0..s.tiles {
+        for j in 0..s.tiles {
+            let most = if i == j {
+                s.side - 1
+            } else if j < i {
+                s.side
+            } else {
+                0
+            };
+            let start = s.list(i, j);
+            for x in start..start + s.side {
+                if lists[x] as usize > most {
+                    return true;
+                }
+            }
+        }
+    }
+    false
+}
+
+/// Refusals 1, 2 and 4 but for elements.
+fn state(s: &Shape, matrix: &[f64], lists: &[u8], records: &[Record], workers: &[Worker]) -> u8 {
+    let (n, t) = (s.tiles, s.side);
+    if n < 1 || n > 16 || t < 1 || t > 16 || workers.is_empty() || workers.len() > 32 {
+        return 1;
+    }
+    if matrix.len() != n * t * n * t || lists.len() != n * n * t || records.len() != task_count(n) {
+        return 2;
+    }
+    if bad_records(n, records) || bad_holds(records, workers) || bad_workers(t, records, workers) || bad_entries(s, lists) {
+        return 4;
+    }
+    0
+}
+
+fn ready(n: usize, records: &[Record], p: usize) -> bool {
+    let finished = |p: usize| records[p][4] >= DONE;
+    if records[p][4] != 0 {
+        return false;
+    }
+    let (k, i, j) = triple(records[p]);
+    if k > 0 && !finished(number(n, k - 1, i, j)) {
+        return false;
+    }
+    if j > k && !finished(number(n, k, i, k)) {
+        return false;
+    }
+    if i > k + 1 && !finished(number(n, k, i - 1, j)) {
+        return false;
+    }
+    if i == k + 1 && j == k {
+        for x in k + 1..n {
+            if !finished(number(n, k, k, x)) {
+                return false;
+            }
+        }
+    }
+    true
+}
+
+pub fn take(s: &Shape, matrix: &[f64], lists: &[u8], records: &mut [Record], workers: &mut [Worker], w: usize, p: usize) -> u8 {
+    let refusal = state(s, matrix, lists, records, workers);
+    if refusal != 0 {
+        return refusal;
+    }
+    if w >= workers.len() || workers[w].busy {
+        return 5;
+    }
+    if p >= records.len() {
+        return 6;
+    }
+    if !ready(s.tiles, records, p) {
+        return 7;
+    }
+    records[p][4] = TAKEN;
+    workers[w] = Worker { busy: true, task: p as u16, column: 0 };
+    0
+}
+
+fn finite_tile(s: &Shape, matrix: &[f64], i: usize, j: usize) -> bool {
+    let start = s.tile(i, j);
+    matrix[start..start + s.side * s.side].iter().all(|x| x.is_finite())
+}
+
+fn finite_tiles(s: &Shape, matrix: &[f64], r: Record) -> bool {
+    let (k, i, j) = (r[1] as usize, r[2] as usize, r[3] as usize);
+    match r[0] {
+        1 => finite_tile(s, matrix, k, k),
+        2 => finite_tile(s, matrix, k, k) && finite_tile(s, matrix, k, j),
+        3 => finite_tile(s, matrix, k, k) && finite_tile(s, matrix, i, k),
+        _ => finite_tile(s, matrix, i, k) && finite_tile(s, matrix, k, j) && finite_tile(s, matrix, i, j),
+    }
+}
+
+pub fn work(s: &Shape, matrix: &mut [f64], lists: &mut [u8], records: &mut [Record], workers: &mut [Worker], w: usize) -> u8 {
+    let refusal = state(s, matrix, lists, records, workers);
+    if refusal != 0 {
+        return refusal;
+    }
+    if w >= workers.len() || !workers[w].busy {
+        return 5;
+    }
+    let h = workers[w];
+    let p = h.task as usize;
+    let r = records[p];
+    if !finite_tiles(s, matrix, r) {
+        return 4;
+    }
+    let c = h.column as usize;
+    let (k, i, j) = triple(r);
+    let mark = if c == 0 && spoiled(s.tiles, records, k, i, j) {
+        SPOILED
+    } else if !column(s, matrix, lists, r, c) {
+        FAILED
+    } else if c + 1 == s.side {
+        DONE
+    } else {
+        TAKEN
+    };
+    if mark > DONE {
+        fill(s, matrix, lists, r);
+    }
+    records[p][4] = mark;
+    workers[w] = if mark == TAKEN { Worker { busy: true, task: h.task, column: h.column + 1 } } else { IDLE };
+    0
+}

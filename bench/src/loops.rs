@@ -1,0 +1,113 @@
+//! Tasks as bytes, what a failed or spoiled one leaves, and the published loops.
+use crate::plain::{self, Shape};
+
+/// Kind, k, i, j and mark.
+pub type Record = [u8; 5];
+
+pub const TAKEN: u8 = 1;
+pub const DONE: u8 = 2;
+pub const FAILED: u8 = 3;
+pub const SPOILED: u8 = 4;
+
+pub fn task_count(n: usize) -> usize {
+    n * (n + 1) * (2 * n + 1) / 6
+}
+
+/// The number of T-1(k) as (k,k,k), T-2(k,j) as (k,k,j), T-3(k,i) as (k,i,k), T-4(k,i,j) as itself.
+pub fn number(n: usize, k: usize, i: usize, j: usize) -> usize {
+    task_count(n) - task_count(n - k) + (i - k) * (n - k) + (j - k)
+}
+
+/// The waiting records in number order.
+pub fn numbering(n: usize) -> Vec<Record> {
+    let mut out = Vec::new();
+    for k in 0..n {
+        out.push([1, k as u8, 0, 0, 0]);
+        for j in k + 1..n {
+            out.push([2, k as u8, 0, j as u8, 0]);
+        }
+        for i in k + 1..n {
+            out.push([3, k as u8, i as u8, 0, 0]);
+            for j in k + 1..n {
+                out.push([4, k as u8, i as u8, j as u8, 0]);
+            }
+        }
+    }
+    out
+}
+
+/// The triple of a record: k stands for an unused i or j.
+pub fn triple(r: Record) -> (usize, usize, usize) {
+    (r[1] as usize, r[1].max(r[2]) as usize, r[1].max(r[3]) as usize)
+}
+
+/// Whether a latest writer of what the task touches is failed or spoiled.
+pub fn spoiled(n: usize, records: &[Record], k: usize, i: usize, j: usize) -> bool {
+    let broken = |p: usize| records[p][4] >= FAILED;
+    (k > 0 && broken(number(n, k - 1, i, j))) || (i > k && broken(number(n, k, i - 1, j))) || (j > k && broken(number(n, k, i, k)))
+}
+
+/// Column c of the task. False where a computed number isn't finite.
+pub fn column(s: &Shape, m: &mut [f64], l: &mut [u8], r: Record, c: usize) -> bool {
+    let (k, i, j) = (r[1] as usize, r[2] as usize, r[3] as usize);
+    match r[0] {
+        1 => plain::factor(s, m, l, k, c),
+        2 => plain::apply(s, m, l, k, j, c),
+        3 => plain::couple(s, m, l, k, i, c),
+        _ => plain::pair(s, m, l, k, i, j, c),
+    }
+}
+
+/// Fills what the task writes with +0, and its list with 0.
+pub fn fill(s: &Shape, m: &mut [f64], l: &mut [u8], r: Record) {
+    let (k, i, j) = (r[1] as usize, r[2] as usize, r[3] as usize);
+    let t = s.side;
+    let mut tile = |a: usize, upper: bool| {
+        for x in 0..t {
+            for y in if upper { x } else { 0 }..t {
+                m[a + x * t + y] = 0.0;
+            }
+        }
+    };
+    match r[0] {
+        1 => tile(s.tile(k, k), false),
+        2 => tile(s.tile(k, j), false),
+        3 => {
+            tile(s.tile(k, k), true);
+            tile(s.tile(i, k), false);
+        }
+        _ => {
+            tile(s.tile(k, j), false);
+            tile(s.tile(i, j), false);
+        }
+    }
+    if r[0] == 1 || r[0] == 3 {
+        let row = if r[0] == 1 { k } else { i };
+        l[s.list(row, k)..s.list(row, k) + t].fill(0);
+    }
+}
+
+/// The published loops: the tasks in number order, each spoiled, failed or done.
+pub fn loops(s: &Shape, m: &mut [f64], l: &mut [u8], records: &mut [Record]) {
+    let n = s.tiles;
+    l.fill(0);
+    for p in 0..records.len() {
+        let r = records[p];
+        let (k, i, j) = triple(r);
+        let mut mark = DONE;
+        if spoiled(n, records, k, i, j) {
+            mark = SPOILED;
+        } else {
+            for c in 0..s.side {
+                if !column(s, m, l, r, c) {
+                    mark = FAILED;
+                    break;
+                }
+            }
+        }
+        if mark != DONE {
+            fill(s, m, l, r);
+        }
+        records[p][4] = mark;
+    }
+}

@@ -1,0 +1,76 @@
+-- What passes between a host and the calls: workers as three lists, answers and outcomes as numbers. Assumes nothing.
+use Prim.Native.Nat.{ℕ}
+use mathlib.Core.Bool.{Bool, false, cond}
+use mathlib.Core.List.{List}
+use lib.Dec.{eqb}
+use lib.ListN.{getD}
+use Rattle.model.specs.declared.Worker.{Worker}
+use Rattle.model.specs.declared.Answer.{Answer}
+use Rattle.model.specs.declared.Answer.the-variants.{Accepted, Refused}
+use Rattle.model.specs.declared.RunAnswer.{RunAnswer}
+use Rattle.model.specs.declared.RunAnswer.the-variants.{Finished, Spent, RunRefused}
+use Rattle.model.specs.declared.Outcome.{Outcome}
+use Rattle.model.specs.declared.Outcome.the-variants.{Good, Overflow, Singular}
+use Rattle.model.specs.declared.OutcomeAnswer.{OutcomeAnswer}
+use Rattle.model.specs.declared.OutcomeAnswer.the-variants.{Ended, Unfinished, OutcomeRefused}
+use Rattle.model.specs.declared.WriteAnswer.{WriteAnswer}
+use Rattle.model.specs.declared.WriteAnswer.the-variants.{Written, WriteRefused}
+use Rattle.model.specs.declared.ReadAnswer.{ReadAnswer}
+use Rattle.model.specs.declared.ReadAnswer.the-variants.{SystemRead, ResultRead, ReadRefused}
+use Rattle.model.specs.Lists.{table}
+use Rattle.host_values.specs.declared.Told.{Told}
+use Rattle.host_values.specs.declared.ReadTold.{ReadTold}
+
+-- worker v has place v of each list
+unfoldable pub workerIn : List Bool → List ℕ → List ℕ → ℕ → Worker
+workerIn b t c v = record { busy = getD b v false; task = getD t v 0; column = getD c v 0 }
+
+-- the 32 slots
+unfoldable pub workersIn : List Bool → List ℕ → List ℕ → List Worker
+workersIn b t c = table 32 (workerIn b t c)
+
+-- ---- answers as numbers: a refusal's number and place, 0 where there is none
+
+abbrev pub refusedTold : ℕ → ℕ → Told
+refusedTold n x = record { place = x; count = 0; number = n; kind = 0 }
+
+abbrev pub told : Answer → Told
+told Accepted = record { place = 0; count = 0; number = 0; kind = 0 }
+told (Refused n x) = refusedTold n x
+
+-- kind 1 is finished, kind 2 spent
+abbrev pub runTold : RunAnswer → Told
+runTold (Finished c) = record { place = 0; count = c; number = 0; kind = 1 }
+runTold (Spent c) = record { place = 0; count = c; number = 0; kind = 2 }
+runTold (RunRefused n x) = refusedTold n x
+
+-- kind 0 is good, 1 overflow, 2 singular, as in a file, and 3 unfinished
+abbrev pub endedTold : Outcome → Told
+endedTold Good = record { place = 0; count = 0; number = 0; kind = 0 }
+endedTold (Overflow p) = record { place = p; count = 0; number = 0; kind = 1 }
+endedTold (Singular x) = record { place = x; count = 0; number = 0; kind = 2 }
+
+abbrev pub outcomeTold : OutcomeAnswer → Told
+outcomeTold (Ended o) = endedTold o
+outcomeTold (Unfinished p) = record { place = p; count = 0; number = 0; kind = 3 }
+outcomeTold (OutcomeRefused n x) = refusedTold n x
+
+-- the count is the length written
+abbrev pub writeTold : WriteAnswer → Told
+writeTold (Written n) = record { place = 0; count = n; number = 0; kind = 0 }
+writeTold (WriteRefused n x) = refusedTold n x
+
+-- N and t, and a result's outcome: its kind, and its task or row
+abbrev pub resultTold : ℕ → ℕ → Outcome → ReadTold
+resultTold N t Good = record { place = 0; tiles = N; side = t; row = 0; number = 0; kind = 0 }
+resultTold N t (Overflow p) = record { place = 0; tiles = N; side = t; row = p; number = 0; kind = 1 }
+resultTold N t (Singular x) = record { place = 0; tiles = N; side = t; row = x; number = 0; kind = 2 }
+
+abbrev pub readTold : ReadAnswer → ReadTold
+readTold (SystemRead N t) = record { place = 0; tiles = N; side = t; row = 0; number = 0; kind = 0 }
+readTold (ResultRead N t o) = resultTold N t o
+readTold (ReadRefused n x) = record { place = x; tiles = 0; side = 0; row = 0; number = n; kind = 0 }
+
+-- the outcome that is written for a kind and a place
+unfoldable pub outcomeFrom : ℕ → ℕ → Outcome
+outcomeFrom kind place = cond (eqb kind 0) Good (cond (eqb kind 1) (Overflow place) (Singular place))

@@ -1,0 +1,72 @@
+-- `one_worker::run_alone` meets its contract. Assumes nothing.
+use borrow.Author.Needs.{needs}
+use Prim.Native.Nat.{_+_, _*_, _≤_}
+use native.Mathlib.Nat.{mul-le-mul}
+use native.Mathlib.Omega.{arith}
+use mathlib.Core.Path.{_≡_, ap}
+use Rattle.numbering.proofs.Laws.{few-tasks}
+use lib.ListN.{length}
+use Rattle.one_worker.proofs.Ends.{alone-told, published-told}
+use Rattle.one_worker.proofs.run_alone.Statement.{statement}
+use Rattle.one_worker.proofs.run_alone.Tie as tie
+
+idle-slots-requires : tie.Need-idle-slots-requires
+idle-slots-requires c κs = search needs
+
+open-requires : tie.Need-open-requires
+open-requires c κs = search needs
+
+task-count-requires : tie.Need-task-count-requires
+task-count-requires c κs = search needs
+
+add-budget : tie.Need-add-budget
+add-budget c = search needs
+
+mul-budget : tie.Need-mul-budget
+mul-budget c =
+    let p = c .before .before .before .before .before .before .before .before .before .before .before .before .pre in
+    let k : c .task-count .result ≤ 1496 = omega (arith, c .task-count .ensures, few-tasks _ (p .tiles .1)) in
+    let j : c .before .before .before .before .before .before .before .before .before .before .before .before .args .side + 1 ≤ 17 = omega (arith, p .side .1) in
+    omega (arith, mul-le-mul k j)
+
+run-requires : tie.Need-run-requires
+run-requires c κs = search needs
+
+outcome-of-requires : tie.Need-outcome-of-requires
+outcome-of-requires c κs = search needs
+
+same-length : tie.Need-same-length
+same-length c = search needs
+
+same-length-2 : tie.Need-same-length-2
+same-length-2 c = search needs
+
+same-length-3 : tie.Need-same-length-3
+same-length-3 c = search needs
+
+returns : tie.Need-returns
+returns c =
+    let d = c .before .before .before .before .before .before .before .before in
+    let e = d .before .before .before .before .before .before .before .before .before in
+    let f = e .before .before .before .before .before .before .before in
+    let b = ap (λ k. k * (f .args .side + 1)) (d .before .before .before .before .task-count .ensures) in
+    let slots : length (e .before .idle-slots .result) ≡ 32 = search needs in (
+      alone-told _ _ _ _ _ _ (f .pre) slots _ _ _ _ (e .«open» .ensures .0) _ b _ _ _ _ _ (d .run .ensures .0) _ (c .outcome-of .ensures),
+      published-told _ _ _ _ _ _ (f .pre) slots _ _ _ _ (e .«open» .ensures .0) _ b _ _ _ _ _ (d .run .ensures .0) _ (c .outcome-of .ensures),
+    )
+
+pub run-alone-spec : {M : Type 1} → statement M
+run-alone-spec =
+    tie.close
+    (tie.spec
+    idle-slots-requires
+    open-requires
+    task-count-requires
+    add-budget
+    mul-budget
+    run-requires
+    outcome-of-requires
+    same-length
+    same-length-2
+    same-length-3
+    returns)

@@ -1,0 +1,5 @@
+pub mod Stepped
+pub mod Applied
+pub mod Paired
+pub mod Turns
+pub mod Ready

@@ -1,0 +1,156 @@
+-- What a solve that passed its checks may count on, and how it ends. Assumes nothing.
+use Prim.Native.Nat.{ℕ, _+_, _*_, _≤_, _<_}
+use mathlib.Core.Bool.{true, false, not, _&&_, _||_}
+use mathlib.Core.Path.{_≡_, refl, sym, ap, _∙_}
+use mathlib.Core.List.{List}
+use mathlib.Core.Logic.{_⊎_, inl, inr, _≢_}
+use native.Mathlib.Omega.{arith}
+use lib.Dec.{eqb}
+use lib.Ieee.{Float, nan}
+use lib.ListN.{length, getD, set}
+use lib.Seq.{getD-set-same, getD-set-other}
+use borrow.Author.Tests.{eq-eqb, ne-eqb, lt-ltb, eqb-true, not-false}
+use Rattle.model.specs.declared.Sizes.{Sizes}
+use Rattle.model.specs.declared.Worker.{Worker}
+use Rattle.model.specs.declared.Answer.{Answer}
+use Rattle.model.specs.declared.Answer.the-variants.{Accepted, Refused}
+use Rattle.model.specs.declared.Outcome.{Outcome}
+use Rattle.model.specs.declared.Outcome.the-variants.{Good, Overflow, Singular}
+use Rattle.model.specs.Lists.{inTurn}
+use Rattle.model.specs.Tile.{allFinite}
+use Rattle.model.specs.Task.{tasks}
+use Rattle.model.specs.Plan.{plan, planOf, order}
+use Rattle.model.specs.Buffer.{Buffers}
+use Rattle.model.specs.Loops.{outcome}
+use Rattle.model.specs.Calls.{Lent, stateOf}
+use Rattle.model.specs.Refusal.{badSizes, badLengths, damaged, entryLimit, unfinished}
+use Rattle.model.specs.Solve.{Passed, Answers, going, pass, solved, unlessGood, answered, solveAnswer, solveCall}
+use Rattle.laws.proofs.Tests.{and-left, and-right, same-or-not}
+use Rattle.records.specs.Records.{lent}
+use Rattle.checks.specs.Checks.{Sized}
+use Rattle.checks.proofs.Laws.{sized}
+use Rattle.answers.proofs.Refusals.{passed, lengths-fit}
+use Rattle.run_laws.proofs.Undamaged.{or-false-left, or-false-right, entry-fits}
+use Rattle.right_sides.specs.declared.Progress.{Progress}
+use Rattle.right_sides.specs.declared.Progress.the-variants.{Going, Stopped}
+use Rattle.right_sides.specs.Right.{Solvable, RightSide, passedOf}
+use Rattle.right_sides.proofs.Turns.{went, halted}
+use Rattle.backward.specs.Rows.{backBelow}
+use Rattle.backward.proofs.Backs.{back-stopped}
+
+-- ---- copying
+
+pub copy-more : (from to : List Float) (i : ℕ) → i < length to → ((j : ℕ) → j < i → getD to j nan ≡ getD from j nan)
+    → (j : ℕ) → j < i + 1 → getD (set to i (getD from i nan)) j nan ≡ getD from j nan
+copy-more from to i h f j k = go (same-or-not j i)
+  where
+    go : (j ≡ i) ⊎ (j ≢ i) → getD (set to i (getD from i nan)) j nan ≡ getD from j nan
+    go (inl e) = rw e (getD-set-same to i (getD from i nan) nan h)
+    go (inr d) = getD-set-other to i j (getD from i nan) nan d ∙ f j (omega arith)
+
+-- ---- an accepted solve
+
+pub record Checked (z : Sizes) (m : List Float) (l : List ℕ) (y x : List Float) : Type 0 where
+  pub solvable : Solvable z m l
+  pub right : RightSide z y
+  pub all-finite : allFinite m ≡ true
+  pub answers-long : length x ≡ z .tiles * z .side
+
+is-good : (o : Outcome) (a : Answer) → unlessGood o a ≡ Accepted → a ≡ Accepted
+unfolding unlessGood
+is-good Good a e = e
+is-good (Overflow p) a e = let y : _≡_ {A = ℕ} 0 1 = cc in absurd (omega arith)
+is-good (Singular x) a e = let y : _≡_ {A = ℕ} 0 1 = cc in absurd (omega arith)
+
+module _ (z : Sizes) (m : List Float) (l : List ℕ) (r : List (List ℕ)) (ws : List Worker) (y x : List Float) where
+  abbrev s : Lent
+  s = lent m l r ws (z .workers)
+
+  -- list entries, where nothing is damaged
+  module _ (sizes : Sized z) (fine : damaged (planOf z) s ≡ false) where
+    diagonal-entry : (k e : ℕ) → k < z .tiles → e < z .side → getD l ((k * z .tiles + k) * z .side + e) 0 < z .side
+    unfolding lent plan entryLimit
+    diagonal-entry k e hk he =
+        let same : eqb k k ≡ true = eq-eqb k k refl in
+        let f = rw same at (entry-fits (planOf z) s fine k k e hk hk he) in
+        omega (arith, f, sizes .some-side)
+
+    lower-entry : (i k e : ℕ) → k < i → i < z .tiles → e < z .side → getD l ((i * z .tiles + k) * z .side + e) 0 ≤ z .side
+    unfolding lent plan entryLimit
+    lower-entry i k e h hi he =
+        let other : eqb i k ≡ false = ne-eqb i k (λ q. omega arith) in
+        rw (other, lt-ltb k i h) at (entry-fits (planOf z) s fine i k e hi (omega arith) he)
+
+  pub checked : solveAnswer z s y x ≡ Accepted → Checked z m l y x
+  unfolding solveAnswer lent order plan
+  checked q =
+      let bad = badLengths (planOf z) (z .workers) s in
+      let Y = eqb (length y) (order (planOf z)) in
+      let X = eqb (length x) (order (planOf z)) in
+      let a = passed 1 0 (badSizes z) _ q in
+      let b = passed 2 0 (bad || not (Y && X)) _ (a .1) in
+      let c = passed 4 0 (damaged (planOf z) s || not (allFinite (s .buffers .matrix))) _ (b .1) in
+      let d = passed 8 _ (not (eqb (length (unfinished (planOf z) s)) 0)) _ (c .1) in
+      let g = passed 3 _ (not (allFinite y)) Accepted (is-good (outcome (planOf z) (stateOf s)) _ (d .1)) in
+      let sizes = sized z (a .0) in
+      let fit = lengths-fit z m l r ws (or-false-left bad (not (Y && X)) (b .0)) in
+      let both = not-false (Y && X) (or-false-right bad (not (Y && X)) (b .0)) in
+      let fine = or-false-left (damaged (planOf z) s) (not (allFinite (s .buffers .matrix))) (c .0) in
+      record {
+        solvable = record {
+          tiles-most = sizes .few-tiles;
+          side-most = sizes .small-side;
+          matrix-long = fit .matrix-fits;
+          lists-long = fit .lists-fit;
+          diagonal-entries = diagonal-entry sizes fine;
+          lower-entries = lower-entry sizes fine;
+        };
+        right = record { long = eqb-true (length y) (z .tiles * z .side) (and-left Y X both); all-finite = not-false (allFinite y) (g .0) };
+        all-finite = not-false (allFinite m) (or-false-right (damaged (planOf z) s) (not (allFinite (s .buffers .matrix))) (c .0));
+        answers-long = eqb-true (length x) (z .tiles * z .side) (and-right Y X both);
+      }
+
+-- ---- how it ends
+
+module _ (z : Sizes) (s : Buffers) (y x : List Float) where
+  abbrev end : Passed → Answers
+  end p = answered Accepted x p
+
+  solved-is : solved (planOf z) s y ≡ backBelow (planOf z) s (z .tiles * z .side) (inTurn (pass (planOf z) s) (tasks (z .tiles)) (going y))
+  unfolding solved backBelow order plan
+  solved-is = refl
+
+  module _ (f : Progress) (mid : List Float) (e : passedOf f mid ≡ inTurn (pass (planOf z) s) (tasks (z .tiles)) (going y)) where
+    -- a number of the forward pass wasn't finite
+    pub stops-forward : (p : ℕ) → f ≡ Stopped p → _≡_ {A = Answers} (record { answer = Refused 11 p; left = x }) (answered Accepted x (solved (planOf z) s y))
+    unfolding answered
+    stops-forward p q =
+        sym (ap end (solved-is ∙ ap (backBelow (planOf z) s (z .tiles * z .side)) (sym (halted f mid _ e p q)) ∙ back-stopped (planOf z) s (z .tiles * z .side) p))
+
+    module _ (on : f ≡ Going) (b : Progress) (last : List Float) (g : passedOf b last ≡ backBelow (planOf z) s (z .tiles * z .side) (going mid)) where
+      ends : passedOf b last ≡ solved (planOf z) s y
+      ends = g ∙ ap (backBelow (planOf z) s (z .tiles * z .side)) (went f mid _ e on) ∙ sym solved-is
+
+      -- a number of a backward row wasn't finite
+      pub stops-back : (p : ℕ) → b ≡ Stopped p → _≡_ {A = Answers} (record { answer = Refused 11 p; left = x }) (answered Accepted x (solved (planOf z) s y))
+      unfolding answered
+      stops-back p q = ap end (halted b last _ ends p q)
+
+      pub all-answered : b ≡ Going → _≡_ {A = Answers} (record { answer = Accepted; left = last }) (answered Accepted x (solved (planOf z) s y))
+      unfolding answered
+      all-answered q = ap end (went b last _ ends q)
+
+-- answers that were copied
+pub answered-as : (x y : List Float) (whole : Answers) → x ≡ y → _≡_ {A = Answers} (record { answer = Accepted; left = y }) whole → _≡_ {A = Answers} (record { answer = Accepted; left = x }) whole
+answered-as x y whole e q = (λ i. record { answer = Accepted; left = e i }) ∙ q
+
+-- ---- the call
+
+module _ (z : Sizes) (s : Lent) (y x : List Float) (a : Answer) (e : a ≡ solveAnswer z s y x) where
+  pub refused : (number place : ℕ) → a ≡ Refused number place → _≡_ {A = Answers} (record { answer = Refused number place; left = x }) (solveCall z s y x)
+  unfolding solveCall answered
+  refused number place q = ap (λ (k : Answer). answered k x (solved (planOf z) (s .buffers) y)) (sym q ∙ e)
+
+  pub accepted : a ≡ Accepted → answered Accepted x (solved (planOf z) (s .buffers) y) ≡ solveCall z s y x
+  unfolding solveCall
+  accepted q = ap (λ (k : Answer). answered k x (solved (planOf z) (s .buffers) y)) (sym q ∙ e)

@@ -1,0 +1,100 @@
+// Solving: n right-hand numbers in, n answers out.
+ghost use mathlib.Core.Path.{_≡_};
+ghost use mathlib.Core.Bool.{true};
+ghost use Prim.Native.Nat.{_*_};
+ghost use lib.ListN.{length};
+ghost use Rattle.model.specs.declared.Answer.the-variants.{Accepted};
+ghost use Rattle.model.specs.Tile.{allFinite};
+ghost use Rattle.model.specs.Plan.{planOf};
+ghost use Rattle.model.specs.Solve.{answered, solved, solveCall};
+ghost use Rattle.records.specs.Records.{lent};
+ghost use Rattle.right_sides.specs.Right.{Solvable, RightSide};
+use backward::back_rows;
+use model::Answer;
+use model::Sizes;
+use model::Worker;
+use right_sides::Progress;
+use right_sides::pass;
+use solve_checks::solve_answer;
+
+// Copies all numbers of one slice to another as long.
+fn copy(from: &[f64], to: &mut [f64])
+    requires { ⌜ length (now to) ≡ length (now from) ⌝ }
+    ensures { λ _. ⌜ now (to .exit) ≡ now (from .entry) ⌝ }
+{
+    let n = from.len();
+    let mut i = 0;
+    while i < n {
+        to[i] = from[i];
+        i += 1;
+    }
+}
+
+// Solves in y, which is as long as the right side. The answers are written where all of them are computed.
+fn solve_in(
+    z: Sizes,
+    matrix: &[f64],
+    lists: &[u8],
+    right: &[f64],
+    answers: &mut [f64],
+    y: &mut [f64],
+) -> Answer
+    requires { ⌜ Solvable z (now matrix) (now lists) ⌝ }
+    requires { ⌜ RightSide z (now right) ⌝ }
+    requires { ⌜ (allFinite (now matrix) ≡ true) × (length (now answers) ≡ z .tiles * z .side) × (length (now y) ≡ z .tiles * z .side) ⌝ }
+    ensures { λ r. ⌜ record { answer = r; left = now (answers .exit) }
+        ≡ answered Accepted (now (answers .entry)) (solved (planOf z) (record { matrix = now (matrix .entry); lists = now (lists .entry) }) (now (right .entry))) ⌝ }
+{
+    copy(right, y);
+    let forward = pass(z, matrix, lists, y);
+    if let Progress::Stopped(place) = forward {
+        return Answer::Refused(11, place);
+    }
+    let back = back_rows(z, matrix, y);
+    if let Progress::Stopped(row) = back {
+        return Answer::Refused(11, row);
+    }
+    copy(y, answers);
+    Answer::Accepted
+}
+
+// Solves in the front of the work slice, which has room for the largest order.
+fn solve_with(
+    z: Sizes,
+    matrix: &[f64],
+    lists: &[u8],
+    right: &[f64],
+    answers: &mut [f64],
+    work: &mut [f64],
+) -> Answer
+    requires { ⌜ Solvable z (now matrix) (now lists) ⌝ }
+    requires { ⌜ RightSide z (now right) ⌝ }
+    requires { ⌜ (allFinite (now matrix) ≡ true) × (length (now answers) ≡ z .tiles * z .side) × (length (now work) ≡ 256) ⌝ }
+    ensures { λ r. ⌜ record { answer = r; left = now (answers .exit) }
+        ≡ answered Accepted (now (answers .entry)) (solved (planOf z) (record { matrix = now (matrix .entry); lists = now (lists .entry) }) (now (right .entry))) ⌝ }
+{
+    let n = z.tiles * z.side;
+    solve_in(z, matrix, lists, right, answers, &mut work[..n])
+}
+
+// Solves a factored system for one right side. The right side passes through the tasks as one more tile column, of width 1, then the
+// rows run from last to first. Only the answers are changed, and only where the call is accepted.
+pub fn solve(
+    z: Sizes,
+    matrix: &[f64],
+    lists: &[u8],
+    records: &[[u8; 5]],
+    workers: [Worker; 32],
+    right: &[f64],
+    answers: &mut [f64],
+) -> Answer
+    ensures { λ r. ⌜ record { answer = r; left = now (answers .exit) }
+        ≡ solveCall z (lent (now (matrix .entry)) (now (lists .entry)) (now (records .entry)) workers (z .workers)) (now (right .entry)) (now (answers .entry)) ⌝ }
+{
+    let answer = solve_answer(z, matrix, lists, records, workers, right, answers);
+    if let Answer::Refused(number, place) = answer {
+        return Answer::Refused(number, place);
+    }
+    let mut work = [0.0; 256];
+    solve_with(z, matrix, lists, right, answers, &mut work)
+}

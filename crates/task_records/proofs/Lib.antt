@@ -1,0 +1,6 @@
+pub mod Again
+pub mod Arrays
+pub mod Big
+pub mod Laws
+pub mod Shared
+pub mod Shelf

@@ -1,0 +1,15 @@
+//! Links libhost.a, which `rt staticlib host` writes below the repository's target/. SOLUMIVAF_LIB names another folder.
+
+use std::env;
+use std::path::PathBuf;
+
+fn main() {
+    println!("cargo:rerun-if-env-changed=SOLUMIVAF_LIB");
+    let folder = match env::var_os("SOLUMIVAF_LIB") {
+        Some(folder) => PathBuf::from(folder),
+        None => PathBuf::from(env::var_os("CARGO_MANIFEST_DIR").unwrap()).join("../../target/staticlib"),
+    };
+    println!("cargo:rerun-if-changed={}", folder.join("libhost.a").display());
+    println!("cargo:rustc-link-search=native={}", folder.display());
+    println!("cargo:rustc-link-lib=static=host");
+}

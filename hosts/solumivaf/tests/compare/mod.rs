@@ -1,0 +1,237 @@
+//! The library beside the reference program: the same calls and the same texts for both, and every bit compared.
+
+use reference::calls::{all_finished, is_finished};
+use reference::checks::{accept_shape, lengths_fit};
+use reference::hex::Fields;
+use reference::judge::{PROGRAM, RESULT, SYSTEM};
+use reference::read::{read_header, NO_LIMIT};
+use reference::script::{Player, COLUMN, LEND, OPENING, OUTCOME, RUN, SOLVE, TAKE};
+use reference::texts::all_texts;
+use reference::vectors::script;
+use reference::writer::Options;
+use solumivaf::{Ending, Lent, Outcome, Record, Refusal, Run, Sizes, SLOTS};
+
+/// What the reference has lent, in the library's buffers.
+pub fn lent_of(theirs: &reference::lent::Lent) -> Lent {
+    let mut ours = Lent { matrix: theirs.matrix.clone(), lists: theirs.lists.clone(), ..Lent::default() };
+    for record in &theirs.records {
+        ours.records.push(Record { kind: record.kind, k: record.k, i: record.i, j: record.j, mark: record.mark });
+    }
+    for slot in 0..SLOTS {
+        ours.workers.busy[slot] = theirs.workers[slot].busy;
+        ours.workers.task[slot] = theirs.workers[slot].task;
+        ours.workers.column[slot] = theirs.workers[slot].column;
+    }
+    ours
+}
+
+pub fn bits(numbers: &[f64]) -> Vec<u64> {
+    numbers.iter().map(|number| number.to_bits()).collect()
+}
+
+fn same_state(ours: &Lent, theirs: &reference::lent::Lent) -> bool {
+    let other = lent_of(theirs);
+    bits(&ours.matrix) == bits(&other.matrix)
+        && ours.lists == other.lists
+        && ours.records == other.records
+        && ours.workers == other.workers
+}
+
+fn theirs_of(refusal: reference::lent::Refusal) -> Refusal {
+    Refusal { number: refusal.number, place: refusal.place as usize }
+}
+
+fn outcome_of(outcome: reference::solve::Outcome) -> Outcome {
+    match outcome {
+        reference::solve::Outcome::Good => Outcome::Good,
+        reference::solve::Outcome::Overflow(task) => Outcome::Overflow(task),
+        reference::solve::Outcome::Singular(row) => Outcome::Singular(row),
+    }
+}
+
+fn their_outcome(outcome: Outcome) -> reference::solve::Outcome {
+    match outcome {
+        Outcome::Good => reference::solve::Outcome::Good,
+        Outcome::Overflow(task) => reference::solve::Outcome::Overflow(task),
+        Outcome::Singular(row) => reference::solve::Outcome::Singular(row),
+    }
+}
+
+// ---- calls
+
+/// Both players, and the calls that both have made.
+pub struct Players {
+    pub ours: Lent,
+    pub theirs: Player,
+    pub calls: usize,
+}
+
+impl Players {
+    pub fn new() -> Players {
+        Players { ours: Lent::default(), theirs: Player::new(), calls: 0 }
+    }
+
+    fn sizes(fields: &mut Fields) -> (Sizes, reference::lent::Sizes) {
+        let theirs = reference::lent::Sizes { tiles: fields.take(16), side: fields.take(16), workers: fields.take(16) };
+        (Sizes { tiles: theirs.tiles as usize, side: theirs.side as usize, workers: theirs.workers as usize }, theirs)
+    }
+
+    /// Makes the call of one line on both sides.
+    pub fn play(&mut self, line: &str) {
+        let mut fields = Fields::new(line);
+        let command = fields.take(2);
+        match command {
+            LEND => {
+                self.theirs.play(line);
+                self.ours = lent_of(&self.theirs.lent);
+                return;
+            }
+            OPENING => {
+                let (ours, theirs) = Players::sizes(&mut fields);
+                let expected = reference::calls::opening(theirs, &mut self.theirs.lent).map_err(theirs_of);
+                assert_eq!(self.ours.open(ours), expected, "opening {ours:?}");
+            }
+            TAKE => {
+                let (ours, theirs) = Players::sizes(&mut fields);
+                let (worker, task) = (fields.take(16), fields.take(16));
+                let expected = reference::calls::take(theirs, &mut self.theirs.lent, worker, task).map_err(theirs_of);
+                assert_eq!(self.ours.take(ours, worker as usize, task as usize), expected, "take {ours:?} {worker} {task}");
+            }
+            COLUMN => {
+                let (ours, theirs) = Players::sizes(&mut fields);
+                let worker = fields.take(16);
+                let expected = reference::calls::column(theirs, &mut self.theirs.lent, worker).map_err(theirs_of);
+                assert_eq!(self.ours.column(ours, worker as usize), expected, "column {ours:?} {worker}");
+            }
+            RUN => {
+                let (ours, theirs) = Players::sizes(&mut fields);
+                let budget = fields.take(16);
+                let expected = match reference::calls::run(theirs, &mut self.theirs.lent, budget) {
+                    Ok(reference::calls::Run::Finished(count)) => Ok(Run::Finished(count)),
+                    Ok(reference::calls::Run::Spent(count)) => Ok(Run::Spent(count)),
+                    Err(refusal) => Err(theirs_of(refusal)),
+                };
+                assert_eq!(self.ours.run(ours, budget), expected, "run {ours:?} {budget}");
+            }
+            SOLVE => {
+                let (ours, theirs) = Players::sizes(&mut fields);
+                let count = fields.take(8) as usize;
+                let right = fields.numbers(count);
+                let count = fields.take(8) as usize;
+                let mut answers = fields.numbers(count);
+                let mut their_answers = answers.clone();
+                let expected = reference::solve::solve(theirs, &self.theirs.lent, &right, &mut their_answers).map_err(theirs_of);
+                assert_eq!(self.ours.solve(ours, &right, &mut answers), expected, "solve {ours:?}");
+                let same = answers.iter().zip(&their_answers).all(|(a, b)| a.to_bits() == b.to_bits());
+                assert!(same, "answers differ after {line:.100}");
+            }
+            OUTCOME => {
+                let (tiles, side) = (fields.take(16), fields.take(16));
+                let sizes = Sizes { tiles: tiles as usize, side: side as usize, workers: 1 };
+                assert_eq!(self.ours.outcome(sizes), self.expected_outcome(tiles, side), "outcome {sizes:?}");
+            }
+            _ => panic!("a line of the script has no known command"),
+        }
+        self.calls += 1;
+        assert!(same_state(&self.ours, &self.theirs.lent), "what is lent differs after {line:.100}");
+    }
+
+    fn expected_outcome(&self, tiles: u64, side: u64) -> Result<Ending, Refusal> {
+        let lent = &self.theirs.lent;
+        let shape = accept_shape(tiles, side).map_err(theirs_of)?;
+        if !lengths_fit(shape, lent) {
+            return Err(Refusal { number: 2, place: 0 });
+        }
+        if !all_finished(&lent.records) {
+            let lowest = lent.records.iter().position(|record| !is_finished(record.mark));
+            return Ok(Ending::Unfinished(lowest.unwrap()));
+        }
+        let marks = reference::solve::marks(lent);
+        Ok(Ending::Ended(outcome_of(reference::solve::outcome(shape, &lent.matrix, &marks))))
+    }
+}
+
+/// Plays the script of a seed, and tells how many calls were compared.
+pub fn calls_of(seed: u64, calls: usize) -> usize {
+    let mut players = Players::new();
+    for line in script(Options { seed, calls, max_bytes: 1_500_000 }).lines() {
+        players.play(line);
+    }
+    players.calls
+}
+
+// ---- texts
+
+/// Reads every text of a seed, damaged ones too, and writes again what was read; tells how many texts there were.
+pub fn texts_of(seed: u64) -> usize {
+    let mut count = 0;
+    for line in all_texts(seed) {
+        let mut fields = Fields::new(&line);
+        let what = fields.take(2);
+        let length = fields.take(8) as usize;
+        let text = fields.bytes(length);
+        match what {
+            SYSTEM | PROGRAM => system_text(&text),
+            RESULT => result_text(&text),
+            _ => panic!("a text is a system, a result or the program's input"),
+        }
+        count += 1;
+    }
+    count
+}
+
+/// The lengths that line 1 calls for, or those of the smallest system.
+fn lengths(text: &[u8]) -> (usize, usize) {
+    match read_header(text, NO_LIMIT) {
+        Ok(shape) => (shape.matrix_length(), shape.lists_length()),
+        Err(_) => (1, 1),
+    }
+}
+
+fn system_text(text: &[u8]) {
+    let (length, _) = lengths(text);
+    for length in [length, length + 1] {
+        let (mut ours, mut theirs) = (vec![7.0; length], vec![7.0; length]);
+        let answer = solumivaf::read_system(text, &mut ours);
+        let expected = reference::read::read_system(text, &mut theirs);
+        assert_eq!(answer, expected.map(|shape| (shape.tiles, shape.side)).map_err(theirs_of), "system {}", shown(text));
+        assert_eq!(bits(&ours), bits(&theirs), "matrix of {}", shown(text));
+        if let Ok((tiles, side)) = answer {
+            for room in [text.len() + 3, text.len(), text.len() - 1] {
+                let (mut written, mut other) = (vec![b'x'; room], vec![b'x'; room]);
+                let answer = solumivaf::write_system(tiles, side, &ours, &mut written);
+                let expected = reference::write::write_system(tiles as u64, side as u64, &theirs, &mut other);
+                assert_eq!(answer, expected.map_err(theirs_of), "writing {}", shown(text));
+                assert_eq!(written, other, "writing {}", shown(text));
+            }
+        }
+    }
+}
+
+fn result_text(text: &[u8]) {
+    let (length, entries) = lengths(text);
+    for (length, entries) in [(length, entries), (length + 1, entries), (length, entries + 1)] {
+        let (mut ours, mut theirs) = (vec![7.0; length], vec![7.0; length]);
+        let (mut lists, mut their_lists) = (vec![9; entries], vec![9; entries]);
+        let answer = solumivaf::read_result(text, &mut ours, &mut lists);
+        let expected = reference::read::read_result(text, &mut theirs, &mut their_lists);
+        let expected = expected.map(|(shape, outcome)| (shape.tiles, shape.side, outcome_of(outcome))).map_err(theirs_of);
+        assert_eq!(answer, expected, "result {}", shown(text));
+        assert_eq!((bits(&ours), &lists), (bits(&theirs), &their_lists), "buffers of {}", shown(text));
+        if let Ok((tiles, side, outcome)) = answer {
+            for room in [text.len() + 3, text.len(), text.len() - 1] {
+                let (mut written, mut other) = (vec![b'x'; room], vec![b'x'; room]);
+                let answer = solumivaf::write_result(tiles, side, &ours, &lists, outcome, &mut written);
+                let (tiles, side) = (tiles as u64, side as u64);
+                let expected =
+                    reference::write::write_result(tiles, side, &theirs, &their_lists, their_outcome(outcome), &mut other);
+                assert_eq!(answer, expected.map_err(theirs_of), "writing {}", shown(text));
+                assert_eq!(written, other, "writing {}", shown(text));
+            }
+        }
+    }
+}
+
+fn shown(text: &[u8]) -> String {
+    String::from_utf8_lossy(&text[..text.len().min(200)]).into_owned()
+}

@@ -1,0 +1,39 @@
+//! Library and reference program on random call lists and texts: at least 20,000 calls, in a few seconds.
+
+mod compare;
+
+#[test]
+fn same_answers_and_states() {
+    let mut calls = 0;
+    let mut seed = 1;
+    while calls < 20_000 {
+        calls += compare::calls_of(seed, 2800);
+        seed += 1;
+    }
+}
+
+#[test]
+fn same_texts() {
+    let mut texts = 0;
+    for seed in 1..=2 {
+        texts += compare::texts_of(seed);
+    }
+    assert!(texts > 1000, "only {texts} texts");
+}
+
+#[test]
+fn specimens() {
+    use solumivaf::{Ending, Lent, Outcome, Refusal, Run, Sizes};
+    let sizes = Sizes { tiles: 2, side: 1, workers: 1 };
+    let mut lent = Lent::of(sizes, vec![1.0, 2.0, 4.0, 4.0]);
+    lent.open(sizes).unwrap();
+    assert_eq!(lent.take(sizes, 0, 1), Err(Refusal { number: 7, place: 1 }));
+    assert_eq!(lent.run(sizes, 0), Ok(Run::Spent(0)));
+    assert_eq!(lent.run(sizes, u64::MAX), Ok(Run::Finished(10)));
+    assert_eq!(lent.matrix, [4.0, 4.0, 0.25, 1.0]);
+    assert_eq!(lent.lists, [0, 0, 1, 0]);
+    assert_eq!(lent.outcome(sizes), Ok(Ending::Ended(Outcome::Good)));
+    let mut answers = [0.0; 2];
+    assert_eq!(lent.solve(sizes, &[3.0, 8.0], &mut answers), Ok(()));
+    assert_eq!(answers, [1.0, 1.0]);
+}

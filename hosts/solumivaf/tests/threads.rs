@@ -1,0 +1,62 @@
+//! Eight threads, one for each worker, share what is lent behind one lock. In whatever order the system schedules them, what is left
+//! is what the published loops of the reference leave, bit by bit.
+
+use std::sync::Mutex;
+use std::thread;
+
+use reference::families::numbers;
+use reference::loops::published_loops;
+use reference::rng::Rng;
+use reference::tile::Shape;
+use solumivaf::{Lent, Sizes};
+
+const THREADS: usize = 8;
+
+fn bits(numbers: &[f64]) -> Vec<u64> {
+    numbers.iter().map(|number| number.to_bits()).collect()
+}
+
+/// Worker `worker` takes what it can get and works it, until no task waits or is taken.
+fn work(sizes: Sizes, shared: &Mutex<Lent>, worker: usize) {
+    loop {
+        let mut lent = shared.lock().unwrap();
+        if lent.workers.busy[worker] {
+            lent.column(sizes, worker).unwrap();
+        } else {
+            let count = lent.records.len();
+            let taken = (0..count).any(|step| lent.take(sizes, worker, (worker * 7 + step) % count).is_ok());
+            if !taken && lent.records.iter().all(|record| record.mark >= 2) {
+                return;
+            }
+        }
+        drop(lent);
+        thread::yield_now();
+    }
+}
+
+#[test]
+fn any_order_ends_like_the_loops() {
+    let mut rng = Rng::new(8);
+    for (tiles, side) in [(1, 16), (2, 8), (3, 5), (4, 4), (5, 3), (6, 2), (7, 1), (8, 2)] {
+        for family in 0..4 {
+            let shape = Shape { tiles, side };
+            let sizes = Sizes { tiles, side, workers: THREADS };
+            let system = numbers(&mut rng, family, shape.matrix_length());
+            let mut lent = Lent::of(sizes, system.clone());
+            lent.open(sizes).unwrap();
+            let shared = Mutex::new(lent);
+            thread::scope(|scope| {
+                for worker in 0..THREADS {
+                    let shared = &shared;
+                    scope.spawn(move || work(sizes, shared, worker));
+                }
+            });
+            let lent = shared.into_inner().unwrap();
+            let last = published_loops(shape, &system);
+            assert_eq!(bits(&lent.matrix), bits(&last.matrix), "matrix of {shape:?}, family {family}");
+            assert_eq!(lent.lists, last.lists, "lists of {shape:?}, family {family}");
+            let marks: Vec<u8> = lent.records.iter().map(|record| record.mark).collect();
+            assert_eq!(marks, last.marks, "marks of {shape:?}, family {family}");
+        }
+    }
+}
