@@ -72,8 +72,8 @@ fn bad_entries(s: &Shape, lists: &[u8]) -> bool {
     false
 }
 
-/// Refusals 1, 2 and 4 but for elements.
-fn state(s: &Shape, matrix: &[f64], lists: &[u8], records: &[Record], workers: &[Worker]) -> u8 {
+/// Refusals 1 and 2.
+pub fn bad_sizes(s: &Shape, matrix: &[f64], lists: &[u8], records: &[Record], workers: &[Worker]) -> u8 {
     let (n, t) = (s.tiles, s.side);
     if n < 1 || n > 16 || t < 1 || t > 16 || workers.is_empty() || workers.len() > 32 {
         return 1;
@@ -81,10 +81,21 @@ fn state(s: &Shape, matrix: &[f64], lists: &[u8], records: &[Record], workers: &
     if matrix.len() != n * t * n * t || lists.len() != n * n * t || records.len() != task_count(n) {
         return 2;
     }
-    if bad_records(n, records) || bad_holds(records, workers) || bad_workers(t, records, workers) || bad_entries(s, lists) {
+    0
+}
+
+/// Refusal 4 but for elements.
+pub fn damaged(s: &Shape, lists: &[u8], records: &[Record], workers: &[Worker]) -> bool {
+    bad_records(s.tiles, records) || bad_holds(records, workers) || bad_workers(s.side, records, workers) || bad_entries(s, lists)
+}
+
+/// Refusals 1, 2 and 4 but for elements.
+fn state(s: &Shape, matrix: &[f64], lists: &[u8], records: &[Record], workers: &[Worker]) -> u8 {
+    let refusal = bad_sizes(s, matrix, lists, records, workers);
+    if refusal == 0 && damaged(s, lists, records, workers) {
         return 4;
     }
-    0
+    refusal
 }
 
 fn ready(n: usize, records: &[Record], p: usize) -> bool {

@@ -1,8 +1,10 @@
 //! Times Rattle beside plain Rust loops on the same data, the two in turn, and prints the table of docs/PERFORMANCE.md.
 //! A time is one that a fiftieth of many rounds stay below. `bench/run` builds and runs it; a number after it multiplies the rounds.
 mod calls;
+mod files;
 mod loops;
 mod plain;
+mod solving;
 
 use calls::{Worker, IDLE};
 use loops::Record;
@@ -18,6 +20,9 @@ extern "C" {
     fn bench_take(tiles: usize, side: usize, workers: usize, matrix: *const f64, matrix_len: usize, lists: *const u8, lists_len: usize, records: *mut Record, records_len: usize, w: usize, p: usize) -> u8;
     fn bench_column(tiles: usize, side: usize, workers: usize, matrix: *mut f64, matrix_len: usize, lists: *mut u8, lists_len: usize, records: *mut Record, records_len: usize, w: usize, p: u16, c: u8) -> u8;
     fn bench_factorize(tiles: usize, side: usize, workers: usize, matrix: *mut f64, matrix_len: usize, lists: *mut u8, lists_len: usize, records: *mut Record, records_len: usize, budget: u64) -> u64;
+    fn bench_solve(tiles: usize, side: usize, workers: usize, matrix: *const f64, matrix_len: usize, lists: *const u8, lists_len: usize, records: *const Record, records_len: usize, right: *const f64, right_len: usize, answers: *mut f64, answers_len: usize) -> u8;
+    fn bench_read_system(text: *const u8, text_len: usize, matrix: *mut f64, matrix_len: usize) -> u8;
+    fn bench_write_system(tiles: usize, side: usize, matrix: *const f64, matrix_len: usize, text: *mut u8, text_len: usize) -> u64;
 }
 
 // ---- time
@@ -42,12 +47,14 @@ fn thread_time() -> f64 {
 
 // ---- what is timed
 
-/// Matrix, lists and records, as both sides are lent them.
+/// What both sides are lent; answers and text are empty where a call has none.
 #[derive(Clone)]
 struct Lent {
     matrix: Vec<f64>,
     lists: Vec<u8>,
     records: Vec<Record>,
+    answers: Vec<f64>,
+    text: Vec<u8>,
 }
 
 impl Lent {
@@ -55,10 +62,13 @@ impl Lent {
         self.matrix.copy_from_slice(&other.matrix);
         self.lists.copy_from_slice(&other.lists);
         self.records.copy_from_slice(&other.records);
+        self.answers.copy_from_slice(&other.answers);
+        self.text.copy_from_slice(&other.text);
     }
 
     fn same(&self, other: &Lent) -> bool {
-        self.lists == other.lists && self.records == other.records && self.matrix.iter().zip(&other.matrix).all(|(a, b)| a.to_bits() == b.to_bits())
+        let bits = |a: &[f64], b: &[f64]| a.iter().zip(b).all(|(a, b)| a.to_bits() == b.to_bits());
+        self.lists == other.lists && self.records == other.records && self.text == other.text && bits(&self.matrix, &other.matrix) && bits(&self.answers, &other.answers)
     }
 }
 
@@ -75,7 +85,7 @@ fn numbers(seed: u64, count: usize) -> Vec<f64> {
 
 fn fresh(s: &Shape, seed: u64) -> Lent {
     let n = s.tiles * s.side;
-    Lent { matrix: numbers(seed, n * n), lists: vec![0; s.tiles * n], records: loops::numbering(s.tiles) }
+    Lent { matrix: numbers(seed, n * n), lists: vec![0; s.tiles * n], records: loops::numbering(s.tiles), answers: Vec::new(), text: Vec::new() }
 }
 
 /// What looking at the clock takes itself.
@@ -261,6 +271,70 @@ fn single_calls(tiles: usize, t: usize, rounds: usize) {
     }
 }
 
+// ---- a solve
+
+#[inline(never)]
+fn plain_solve(s: &Shape, right: &[f64], x: &mut Lent) {
+    assert_eq!(solving::solve(s, &x.matrix, &x.lists, &x.records, &[IDLE], right, &mut x.answers), 0);
+}
+
+#[inline(never)]
+fn rattle_solve(s: &Shape, right: &[f64], x: &mut Lent) {
+    let (ml, ll, rl, al) = (x.matrix.len(), x.lists.len(), x.records.len(), x.answers.len());
+    let (m, l, r, a) = (x.matrix.as_ptr(), x.lists.as_ptr(), x.records.as_ptr(), x.answers.as_mut_ptr());
+    assert_eq!(unsafe { bench_solve(s.tiles, s.side, 1, m, ml, l, ll, r, rl, right.as_ptr(), right.len(), a, al) }, 0);
+}
+
+fn solves(tiles: usize, t: usize, rounds: usize) {
+    let s = black_box(Shape { tiles, side: t });
+    let mut start = fresh(&s, 17);
+    factorize(&s, 1, u64::MAX, &mut start);
+    start.answers = vec![0.0; tiles * t];
+    let right = numbers(19, tiles * t);
+    let both = compare(rounds, 1, &start, |x| plain_solve(&s, &right, x), |x| rattle_solve(&s, &right, x));
+    row(&format!("a solve, N = {tiles}, t = {t}, W = 1"), both);
+}
+
+// ---- a system file
+
+#[inline(never)]
+fn plain_read(s: &Shape, x: &mut Lent) {
+    assert_eq!(files::read_system(&x.text, &mut x.matrix), Ok((s.tiles, s.side)));
+}
+
+#[inline(never)]
+fn rattle_read(x: &mut Lent) {
+    let (tl, ml) = (x.text.len(), x.matrix.len());
+    assert_eq!(unsafe { bench_read_system(x.text.as_ptr(), tl, x.matrix.as_mut_ptr(), ml) }, 0);
+}
+
+#[inline(never)]
+fn plain_write(s: &Shape, x: &mut Lent) {
+    let length = files::write_system(s.tiles, s.side, &x.matrix, &mut x.text);
+    assert_eq!(length, Ok(x.text.len()));
+}
+
+#[inline(never)]
+fn rattle_write(s: &Shape, x: &mut Lent) {
+    let (tl, ml) = (x.text.len(), x.matrix.len());
+    let length = unsafe { bench_write_system(s.tiles, s.side, x.matrix.as_ptr(), ml, x.text.as_mut_ptr(), tl) };
+    assert_eq!(length, tl as u64);
+}
+
+/// A system is written, and what was written is read.
+fn system_files(tiles: usize, t: usize, rounds: usize) {
+    let s = black_box(Shape { tiles, side: t });
+    let mut start = fresh(&s, 23);
+    start.text = vec![0; 7 + tiles * tiles * (7 + 16 * t * t)];
+    let mut written = start.clone();
+    plain_write(&s, &mut written);
+    written.matrix.fill(0.0);
+    let read = compare(rounds, 1, &written, |x| plain_read(&s, x), rattle_read);
+    row(&format!("a system file read, N = {tiles}, t = {t}"), read);
+    let write = compare(rounds, 1, &start, |x| plain_write(&s, x), |x| rattle_write(&s, x));
+    row(&format!("a system file written, N = {tiles}, t = {t}"), write);
+}
+
 fn main() {
     let more: usize = std::env::args().nth(1).map_or(1, |x| x.parse().expect("a number of rounds"));
     println!("| What | Rust, ns | Rattle, ns | ratio |");
@@ -272,4 +346,10 @@ fn main() {
         runs(tiles, t, if tiles == 16 { 200 } else { 400 } * more);
     }
     single_calls(16, 16, 500 * more);
+    for (tiles, t) in [(4, 4), (8, 8), (16, 16)] {
+        solves(tiles, t, 500 * more);
+    }
+    for (tiles, t) in [(4, 8), (16, 16)] {
+        system_files(tiles, t, 300 * more);
+    }
 }

@@ -16,7 +16,7 @@ impl Shape {
     }
 }
 
-fn update(x: f64, m: f64, y: f64) -> f64 {
+pub fn update(x: f64, m: f64, y: f64) -> f64 {
     if m == 0.0 {
         x
     } else {

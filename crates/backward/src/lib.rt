@@ -5,6 +5,7 @@ ghost use Prim.Native.Nat.{ℕ, suc, _+_, _-_, _*_, _<_, _≤_};
 ghost use lib.ListN.{length, getD};
 ghost use lib.Ieee.{nan};
 ghost use Rattle.model.specs.Lists.{run};
+ghost use Rattle.model.specs.Num.{update as updated};
 ghost use Rattle.model.specs.Plan.{planOf};
 ghost use Rattle.model.specs.Solve.{going, rowLeft, row as rowOf};
 ghost use Rattle.right_sides.specs.Right.{passedOf};
@@ -12,9 +13,17 @@ ghost use Rattle.backward.specs.Rows.{subtracted, Upper, backBelow};
 use model::Row;
 use model::Sizes;
 use numbers::number::is_finite;
-use numbers::number::update;
 use places::place::tile_start;
 use right_sides::Progress;
+
+// What is left of d once u·y[p] is subtracted, or d itself where u is a zero. Only where u is none is y read, which keeps a branch that
+// is foreseen in place of a choice that each subtraction would wait for.
+fn subtract_one(d: f64, u: f64, y: &[f64], p: usize) -> f64
+    requires { ⌜ p < length (now y) ⌝ }
+    ensures { λ r. ⌜ r ≡ updated d u (getD (now (y .entry)) p nan) ⌝ }
+{
+    if u == 0.0 { d } else { d - u * y[p] }
+}
 
 // What is left of d once the products of the `count` numbers from a on in the matrix with those from b on in y are subtracted, left to
 // right, skipped where the matrix has a zero.
@@ -25,7 +34,7 @@ fn subtract(matrix: &[f64], y: &[f64], a: usize, b: usize, count: usize, d: f64)
     let mut left = d;
     let mut j = 0;
     while j < count {
-        left = update(left, matrix[a + j], y[b + j]);
+        left = subtract_one(left, matrix[a + j], y, b + j);
         j += 1;
     }
     left

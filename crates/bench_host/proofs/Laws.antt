@@ -7,11 +7,16 @@ use Rattle.model.specs.declared.Sizes.{Sizes}
 use Rattle.model.specs.declared.Worker.{Worker}
 use Rattle.model.specs.declared.Answer.{Answer}
 use Rattle.model.specs.declared.RunAnswer.{RunAnswer}
+use Rattle.model.specs.declared.ReadAnswer.{ReadAnswer}
+use Rattle.model.specs.declared.WriteAnswer.{WriteAnswer}
 use Rattle.model.specs.Buffer.{Buffers, Ended}
 use Rattle.model.specs.Calls.{Lent, RunEnd}
 use Rattle.model.specs.Refusal.{Reply, answerNumber, openCall, runCall}
+use Rattle.model.specs.Solve.{Answers, solveCall}
+use Rattle.model.specs.Read.{SystemReading}
+use Rattle.model.specs.Text.{Writing}
 use Rattle.records.specs.Records.{recordsFrom, lent}
-use Rattle.bench_host.specs.Bench.{callsOf, factorized}
+use Rattle.bench_host.specs.Bench.{callsOf, factorized, readNumber, writtenLength}
 
 -- a column that ends with the mark n
 pub ends : (s : Buffers) (n mark : ℕ) (e : Ended) → n ≡ mark → _≡_ {A = Ended} (record { left = s; mark = mark }) e → _≡_ {A = Ended} (record { left = s; mark = n }) e
@@ -49,3 +54,20 @@ runs z budget m m' l l' r r' ws ws' opened a ended n slots w o h q =
     let e : _≡_ {A = RunEnd} (record { answer = ended; left = lent m' l' r' ws' (z .workers) }) (factorized z budget s) =
     h ∙ ap (λ (y : Reply). runCall z budget (y .left)) (o ∙ ap (λ v. openCall z (lent m l r v (z .workers))) w) in
     (q ∙ ap (λ (y : RunEnd). callsOf (y .answer)) e, (ap (λ (y : RunEnd). y .left .buffers) e, ap (λ (y : RunEnd). y .left .records) e))
+
+-- a solve, by the workers that are meant
+pub solves : (z : Sizes) (m : List Float) (l : List ℕ) (r : List (List ℕ)) (ws slots : List Worker) (right old new : List Float) (a : Answer) (n : ℕ)
+    → n ≡ answerNumber a → ws ≡ slots → _≡_ {A = Answers} (record { answer = a; left = new }) (solveCall z (lent m l r ws (z .workers)) right old)
+    → (n ≡ answerNumber (solveCall z (lent m l r slots (z .workers)) right old .answer)) × (new ≡ solveCall z (lent m l r slots (z .workers)) right old .left)
+solves z m l r ws slots right old new a n q e h =
+    let f : _≡_ {A = Answers} (record { answer = a; left = new }) (solveCall z (lent m l r slots (z .workers)) right old) =
+    h ∙ ap (λ v. solveCall z (lent m l r v (z .workers)) right old) e in
+    (q ∙ ap (λ (y : Answers). answerNumber (y .answer)) f, ap (λ (y : Answers). y .left) f)
+
+pub reads : (a : ReadAnswer) (n : ℕ) → n ≡ readNumber a → (m : List Float) (x : SystemReading) → _≡_ {A = SystemReading} (record { answer = a; matrix = m }) x
+    → (n ≡ readNumber (x .answer)) × (m ≡ x .matrix)
+reads a n q m x h = (q ∙ ap (λ (y : SystemReading). readNumber (y .answer)) h, ap (λ (y : SystemReading). y .matrix) h)
+
+pub writes : (a : WriteAnswer) (n : ℕ) → n ≡ writtenLength a → (text : List ℕ) (x : Writing) → _≡_ {A = Writing} (record { answer = a; left = text }) x
+    → (n ≡ writtenLength (x .answer)) × (text ≡ x .left)
+writes a n q text x h = (q ∙ ap (λ (y : Writing). writtenLength (y .answer)) h, ap (λ (y : Writing). y .left) h)

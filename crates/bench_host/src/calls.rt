@@ -14,7 +14,7 @@ use taking::take;
 use working::column;
 
 // The refusal's number: 0 where the call is accepted.
-fn number_of(answer: Answer) -> u8
+pub fn number_of(answer: Answer) -> u8
     ensures { λ r. ⌜ r ≡ answerNumber answer ⌝ }
 {
     match answer {
@@ -35,7 +35,7 @@ fn calls_of(answer: RunAnswer) -> u64
 }
 
 // All workers idle.
-fn idle_workers() -> [Worker; 32]
+pub fn idle_workers() -> [Worker; 32]
     ensures { λ r. ⌜ r ≡ idles ⌝ }
 {
     let h = Worker::idle();

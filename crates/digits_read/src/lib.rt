@@ -60,11 +60,3 @@ pub fn finite_at(line: &[u8], p: usize) -> bool
     }
     field_at(line, p, 3) % 2048 != 2047
 }
-
-pub fn number_at(line: &[u8], p: usize) -> f64
-    requires { ⌜ FieldOfDigits (now line) p 16 ⌝ }
-    requires { ⌜ finite (ofBits binary64 (field p 16 (now line))) ≡ true ⌝ }
-    ensures { λ r. ⌜ r ≡ ofBits binary64 (field p 16 (now (line .entry))) ⌝ }
-{
-    f64::from_bits(field_at(line, p, 16) as u64)
-}

@@ -60,6 +60,9 @@ module _ {A : Type 0} (g : ℕ → A) where
   pub written-all : (d : List A) (x : ℕ) → length d ≤ x → written d x ≡ map g (below x)
   written-all d x h = ap (λ (l : List A). map g (below x) ++ l) (drop-of-length-le d h) ∙ append-nil (map g (below x))
 
+  pub length-written : (d : List A) (x : ℕ) → x ≤ length d → length (written d x) ≡ length d
+  length-written d x h = length-append (map g (below x)) (drop x d) ∙ omega (arith, length-table x, length-drop x d)
+
 -- ---- one part at a time, all of length s
 
 pub part-fits : (q n s : ℕ) → q < n → q * s + s ≤ n * s

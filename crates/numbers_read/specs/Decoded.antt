@@ -5,10 +5,14 @@ use mathlib.Core.Bool.{true}
 use mathlib.Core.List.{List, map}
 use lib.ListN.{length, take, drop}
 use lib.Ieee.{Float, binary64, ofBits}
-use Rattle.model.specs.Lists.{below, joined}
+use Rattle.model.specs.Lists.{below, joined, table}
 use Rattle.model.specs.Num.{finite}
-use Rattle.model.specs.Read.{field}
+use Rattle.model.specs.Read.{field, digitValue}
 use Rattle.lines_read.specs.Line.{LineOfDigits}
+
+-- the values of the bytes from '0' to 'F'
+unfoldable pub digitValues : List ℕ
+digitValues = table 23 (λ x. digitValue (48 + x))
 
 -- the L bytes of a text from place a on
 abbrev pub lineAt : ℕ → ℕ → List ℕ → List ℕ

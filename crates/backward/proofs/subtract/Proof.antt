@@ -20,26 +20,20 @@ abbrev μ-loop : tie.MeasureT-loop
 loop-holds : tie.Need-loop-holds Inv-loop μ-loop
 loop-holds c = let e : c .before .before .args .count - 0 ≡ c .before .before .args .count = omega arith in (omega arith, rw e)
 
-add-update : tie.Need-add-update Inv-loop μ-loop
-add-update c = search needs
+add-subtract-one : tie.Need-add-subtract-one Inv-loop μ-loop
+add-subtract-one c = search needs
 
-mul-update : tie.Need-mul-update Inv-loop μ-loop
-mul-update c = search needs
+mul-subtract-one : tie.Need-mul-subtract-one Inv-loop μ-loop
+mul-subtract-one c = search needs
 
-shared-slice-read-update : tie.Need-shared-slice-read-update Inv-loop μ-loop
-shared-slice-read-update c = search needs
+shared-slice-read-subtract-one : tie.Need-shared-slice-read-subtract-one Inv-loop μ-loop
+shared-slice-read-subtract-one c = search needs
 
-add-update-2 : tie.Need-add-update-2 Inv-loop μ-loop
-add-update-2 c = search needs
+add-subtract-one-2 : tie.Need-add-subtract-one-2 Inv-loop μ-loop
+add-subtract-one-2 c = search needs
 
-mul-update-2 : tie.Need-mul-update-2 Inv-loop μ-loop
-mul-update-2 c = search needs
-
-shared-slice-read-update-2 : tie.Need-shared-slice-read-update-2 Inv-loop μ-loop
-shared-slice-read-update-2 c = search needs
-
-update-requires : tie.Need-update-requires Inv-loop μ-loop
-update-requires c κs = search needs
+subtract-one-requires : tie.Need-subtract-one-requires Inv-loop μ-loop
+subtract-one-requires c κs = search needs
 
 add-j : tie.Need-add-j Inv-loop μ-loop
 add-j c = search needs
@@ -49,8 +43,8 @@ loop-less c = search needs
 
 loop-again : tie.Need-loop-again Inv-loop μ-loop
 loop-again c =
-    let i = c .before .before .before .before .loop .inv in
-    (omega arith, rw (c .update .ensures) (subtract-more _ _ _ _ _ _ (i .1) (c .before .before .before .loop-test .taken)))
+    let i = c .before .before .before .loop .inv in
+    (omega arith, rw (c .subtract-one .ensures) (subtract-more _ _ _ _ _ _ (i .1) (c .before .before .loop-test .taken)))
 
 returns : tie.Need-returns Inv-loop μ-loop
 returns c = subtract-ends _ _ _ _ _ _ (c .before .loop .inv .1) (omega arith)
@@ -62,13 +56,11 @@ subtract-spec =
     Inv-loop
     μ-loop
     loop-holds
-    add-update
-    mul-update
-    shared-slice-read-update
-    add-update-2
-    mul-update-2
-    shared-slice-read-update-2
-    update-requires
+    add-subtract-one
+    mul-subtract-one
+    shared-slice-read-subtract-one
+    add-subtract-one-2
+    subtract-one-requires
     add-j
     loop-less
     loop-again
