@@ -3,7 +3,6 @@ use Prim.Native.Nat.{ℕ, _*_}
 use mathlib.Core.Bool.{Bool, true, false, _&&_}
 use mathlib.Core.Path.{_≡_, refl, sym, _∙_}
 use mathlib.Core.List.{List}
-use native.Mathlib.Omega.{arith}
 use lib.Dec.{eqb}
 use lib.Ieee.{Float}
 use lib.ListN.{length, take}
@@ -33,11 +32,6 @@ pub passes : (n x : ℕ) (b : Bool) (r : Answer) → b ≡ false → refuse n x 
 unfolding refuse
 passes n x true r e = never refl e
 passes n x false r e = refl
-
-pub passed : (n x : ℕ) (b : Bool) (r : Answer) → refuse n x b r ≡ Accepted → (b ≡ false) × (r ≡ Accepted)
-unfolding refuse
-passed n x true r e = let y : _≡_ {A = ℕ} 0 1 = cc in absurd (omega arith)
-passed n x false r e = (refl, e)
 
 -- ---- an answer that accepts, and one that doesn't
 

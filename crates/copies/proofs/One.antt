@@ -19,8 +19,8 @@ use Rattle.model.specs.Task.{T-1}
 use Rattle.model.specs.Plan.{planOf}
 use Rattle.model.specs.Calls.{Lent, worker, idle, recordOf, withMark, marked, took, columnOf, advanced}
 use Rattle.model.specs.Refusal.{Reply, replied, badSizes, badLengths, damaged, badTiles, noWorker, takeAnswer, takeCall, columnAnswer, columnCall}
+use Rattle.laws.proofs.Refusals.{passed}
 use Rattle.laws.proofs.Tests.{lt-or-le, never, or-right}
-use Rattle.answers.proofs.Refusals.{passed}
 use Rattle.records.specs.Records.{recordsFrom, blank, lent}
 use Rattle.task_records.specs.Copies.{copied}
 use Rattle.task_records.proofs.Laws.{copied-one, take-records}

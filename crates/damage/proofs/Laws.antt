@@ -1,10 +1,9 @@
 -- A record against the one due, and refusal 4 as its four tests. Assumes nothing.
-use Prim.Native.Nat.{ℕ, zero, suc, _-_, _*_, _<_}
+use Prim.Native.Nat.{ℕ, _-_, _*_, _<_}
 use mathlib.Core.Path.{_≡_, refl, sym, ap, _∙_}
 use mathlib.Core.Logic.{_⊎_, inl, inr}
 use mathlib.Core.Bool.{Bool, true, false, not, _&&_, _||_}
-use mathlib.Core.List.{List, [], _∷_}
-use native.Mathlib.Nat.{not-suc-le-zero, le-of-suc-le-suc}
+use mathlib.Core.List.{List}
 use native.Mathlib.Omega.{arith}
 use lib.Dec.{eqb, leb, ltb}
 use lib.Ieee.{Float}
@@ -19,6 +18,7 @@ use Rattle.model.specs.Plan.{plan, planOf}
 use Rattle.model.specs.Links.{task}
 use Rattle.model.specs.Calls.{recordOf, marksOf}
 use Rattle.model.specs.Refusal.{badRecord, badHold, badWorker, badEntry, damaged}
+use Rattle.laws.proofs.Every.{getD-any}
 use Rattle.laws.proofs.Tests.{true-or-false}
 use Rattle.records.specs.Records.{recordsFrom, blank, lent}
 use Rattle.records.proofs.Laws.{length-records}
@@ -59,12 +59,6 @@ module _ (f d : TaskRecord) where
         pub apart-5 : f .j ≡ d .j → ltb 4 (f .mark) ≡ apart f d
         apart-5 h = rw (eq-eqb (f .kind) (d .kind) a, eq-eqb (f .k) (d .k) b, eq-eqb (f .i) (d .i) c, eq-eqb (f .j) (d .j) h) (lt-as-le 4 (f .mark))
 
--- in a list, what is read past its end does not matter
-pub any-default : {A : Type 0} (l : List A) (p : ℕ) (d e : A) → p < length l → getD l p d ≡ getD l p e
-any-default [] p d e h = absurd (not-suc-le-zero h)
-any-default (x ∷ l) zero d e h = refl
-any-default (x ∷ l) (suc p) d e h = any-default l p d e (le-of-suc-le-suc h)
-
 -- the task with the number p is that of its triple, so the record due is that triple's
 pub record-bad : (z : Sizes) (r : List (List ℕ)) (p k i j : ℕ) → p < length r → In (z .tiles) (key k i j) → number (z .tiles) (key k i j) ≡ p
     → (found due : TaskRecord) → found ≡ getD (recordsFrom r) p blank → due ≡ recordOf (taskAt (key k i j))
@@ -74,7 +68,7 @@ record-bad z r p k i j h w n found due f d v e =
     let a : task (tasks (z .tiles)) p ≡ taskAt (key k i j) = rw n at (task-is (z .tiles) (key k i j) w) in
     let due-is : due ≡ recordOf (task (tasks (z .tiles)) p) = d ∙ ap recordOf (sym a) in
     let found-is : found ≡ getD (recordsFrom r) p (recordOf (task (tasks (z .tiles)) p)) =
-    f ∙ any-default (recordsFrom r) p blank (recordOf (task (tasks (z .tiles)) p)) (rw length-records h) in
+    f ∙ getD-any (recordsFrom r) p blank (recordOf (task (tasks (z .tiles)) p)) (rw length-records h) in
     e ∙ ap (λ x. apart x due) found-is ∙ ap (apart (getD (recordsFrom r) p (recordOf (task (tasks (z .tiles)) p)))) due-is
 
 -- the triple of task 0

@@ -15,12 +15,12 @@ use Rattle.model.specs.Plan.{plan, planOf}
 use Rattle.model.specs.Links.{ready}
 use Rattle.model.specs.Calls.{Lent, marksOf, idle, worker}
 use Rattle.model.specs.Refusal.{badSizes, noWorker, badLengths, badRecord, badHold, badWorker, badEntry, damaged, takeAnswer, columnAnswer, runAnswer}
-use Rattle.laws.proofs.Tests.{never, false-if}
+use Rattle.laws.proofs.Refusals.{passed}
+use Rattle.laws.proofs.Tests.{never, false-if, or-false, false-or, fails-below}
 use Rattle.demand.proofs.Members.{some-elim, none-below, member-index, index-member}
 use Rattle.demand.proofs.Machine.{count, Stated}
 use Rattle.demand.proofs.Whole.{Whole, tiles-finite}
-use Rattle.demand.proofs.Choices.{or-false, false-or}
-use Rattle.demand.proofs.Checks.{passed, passes, fails, fails-below, lengths, good-lengths, recorded, good-record, one-holder, good-hold, at-work, good-worker}
+use Rattle.demand.proofs.Checks.{passes, fails, lengths, good-lengths, recorded, good-record, one-holder, good-hold, at-work, good-worker}
 use Rattle.demand.proofs.Limits.{in-limits, good-entry, finite-matrix, good-tiles}
 
 module _ (z : Sizes) (s : Lent) where

@@ -18,11 +18,12 @@ use Rattle.model.specs.Calls.{Lent, RunEnd, worker, took, advanced, runFrom, wh
 use Rattle.model.specs.Refusal.{replied, runReplied, badLengths, takeAnswer, takeCall, columnAnswer, columnCall, runAnswer, runCall}
 use Rattle.model.specs.History as H
 use Rattle.model.specs.History.{Asked, Call, leftBy, afterCalls, ifAccepted, runSpent, spentBy, spentOn}
+use Rattle.laws.proofs.Refusals.{passed}
 use Rattle.laws.proofs.Tests.{true-or-false, never, Order, less, equal, more}
 use Rattle.laws.proofs.Tests as T
 use Rattle.demand.proofs.Machine.{Stated}
 use Rattle.demand.proofs.Whole.{Whole, in-range}
-use Rattle.demand.proofs.Checks.{passed, lengths}
+use Rattle.demand.proofs.Checks.{lengths}
 use Rattle.demand.proofs.Moves.{Move, take-moves, column-moves}
 use Rattle.demand.proofs.Turns.{Turns, ends, spends, turns, tally, apart}
 

@@ -12,25 +12,20 @@ use borrow.Author.Tests.{eqb-true, eq-eqb, ltb-true, lt-ltb, leb-true, le-leb, n
 use Rattle.model.specs.declared.Sizes.{Sizes}
 use Rattle.model.specs.declared.Answer.{Answer}
 use Rattle.model.specs.declared.Answer.the-variants.{Accepted, Refused}
-use Rattle.model.specs.Lists.{run, below, some, keep}
+use Rattle.model.specs.Lists.{some, keep}
 use Rattle.model.specs.Task.{Task, T-1, tasks, kindOf, kOf, iOf, jOf}
 use Rattle.model.specs.Plan.{plan, planOf, order}
 use Rattle.model.specs.Links.{task, mark}
 use Rattle.model.specs.Calls.{Lent, marksOf, recordOf, idle, worker}
 use Rattle.model.specs.Refusal.{refuse, replied, holds, badLengths, badRecord, badHold, badWorker}
+use Rattle.laws.proofs.Every.{getD-any}
 use Rattle.laws.proofs.Tests.{never, and-left, and-right, and-intro, false-if}
-use Rattle.demand.proofs.Members.{Member, some-intro, run-member}
-use Rattle.demand.proofs.Elements.{getD-any}
+use Rattle.demand.proofs.Members.{Member, some-intro}
 use Rattle.demand.proofs.Single.{Single, single-kept, kept-single}
 use Rattle.demand.proofs.Machine.{count, Stated}
 use Rattle.demand.proofs.Whole.{Recorded, AtWork}
 
 -- ---- a chain of refusals
-
-pub passed : (n x : ℕ) (b : Bool) (r : Answer) → refuse n x b r ≡ Accepted → (b ≡ false) × (r ≡ Accepted)
-unfolding refuse
-passed n x true r e = let y : _≡_ {A = ℕ} 0 1 = cc in absurd (omega arith)
-passed n x false r e = (refl, e)
 
 pub passes : (n x : ℕ) (b : Bool) (r : Answer) → b ≡ false → r ≡ Accepted → refuse n x b r ≡ Accepted
 unfolding refuse
@@ -46,10 +41,6 @@ accepted-new (Refused n x) old new e = let y : _≡_ {A = ℕ} 0 1 = cc in absur
 -- no member passes a test that none does
 pub fails : {A : Type 0} (f : A → Bool) (xs : List A) (x : A) → some f xs ≡ false → Member x xs → f x ≡ false
 fails f xs x e m = false-if (f x) (λ q. never (some-intro f xs x m q) e)
-
-pub fails-below : (f : ℕ → Bool) (n p : ℕ) → some f (below n) ≡ false → p < n → f p ≡ false
-unfolding below
-fails-below f n p e h = fails f (run 0 n) p e (run-member 0 n p (omega arith) (omega arith))
 
 -- ---- lengths
 

@@ -14,9 +14,8 @@ use Rattle.model.specs.Plan.{plan}
 use Rattle.model.specs.Buffer.{upperFilled}
 use Rattle.order_free.specs.Below.{set}
 use Rattle.order_free.specs.System.{Laws}
-use Rattle.laws.proofs.Tests.{never}
+use Rattle.laws.proofs.Tests.{never, or-false}
 use Rattle.demand.specs.Cells.{Val, tileAt, listAt, cellOf, atCell, putTile, putFactored, putCoupled, putPaired, putZeros, factorIn, coupleIn, pairIn, workedAt, computedAt, soundAt, filledAt, system}
-use Rattle.demand.proofs.Choices.{or-false}
 use Rattle.demand.proofs.Members.{Member, first, later}
 use Rattle.demand.proofs.Places.{touched-proper, proper-in, at-member, member-at, writes-touch}
 

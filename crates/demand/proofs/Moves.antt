@@ -16,11 +16,12 @@ use Rattle.model.specs.Calls.{Lent, marksOf, worker, took, advanced}
 use Rattle.model.specs.Refusal.{badSizes, badLengths, damaged, badTiles, noWorker, takeAnswer, takeCall, columnAnswer, columnCall}
 use Rattle.model.specs.History.{Asked, take, column, leftBy}
 use Rattle.model.specs.Demand.{Made}
+use Rattle.laws.proofs.Refusals.{passed}
+use Rattle.laws.proofs.Tests.{or-false}
 use Rattle.demand.proofs.Machine.{count}
 use Rattle.demand.proofs.Whole.{Whole}
 use Rattle.demand.proofs.Steps.{took-whole, advanced-whole}
-use Rattle.demand.proofs.Choices.{or-false}
-use Rattle.demand.proofs.Checks.{accepted-new, passed, lengths}
+use Rattle.demand.proofs.Checks.{accepted-new, lengths}
 use Rattle.demand.proofs.Answers.{take-accepted, column-accepted}
 
 -- from s to the second, about the task last named

@@ -8,11 +8,12 @@ use native.Mathlib.Nat.{add-zero, add-suc, pow-suc}
 use native.Mathlib.Omega.{arith}
 use lib.Dec.{T, eqb}
 use lib.ListN.{length, getD}
-use lib.Ieee.{Float, nan, inf, fin, binary64, odd, ofFields, ofBits, isNan, nanBits}
+use lib.Ieee.{Float, nan, inf, binary64, odd, ofFields, ofBits, nanBits}
 use lib.Ieee.Bits.{nanBits-is}
 use borrow.Author.Tests.{ne-eqb}
 use Rattle.model.specs.Num.{finite}
 use Rattle.model.specs.Read.{isDigit, digitValue, field}
+use Rattle.laws.proofs.Finite.{not-nan}
 use Rattle.digits_read.specs.Digits.{FieldOfDigits}
 use Rattle.digits_read.proofs.Fields.{digit-cases, value-low, value-high, value-lt, field-none, field-suc, field-lt}
 
@@ -81,12 +82,6 @@ second l p f n = sym (ap not (ne-eqb (field p 3 l % 2048) 2047 other)) ∙ leadi
     )
 
 -- ---- a finite number is no NaN
-
-not-nan : (x : Float) → finite x ≡ true → T (not (isNan x))
-unfolding finite isNan
-not-nan nan e = subst T (sym e) tt
-not-nan (inf s) e = tt
-not-nan (fin s m k) e = tt
 
 pub no-nan-bits : (n : ℕ) → finite (ofBits binary64 n) ≡ true → T (not (nanBits binary64 n))
 no-nan-bits n e = rw (nanBits-is binary64 n) (not-nan (ofBits binary64 n) e)

@@ -6,7 +6,6 @@ use lib.Dec.{eqb}
 use lib.ListN.{getD}
 use Rattle.model.specs.declared.Worker.{Worker}
 use Rattle.model.specs.declared.Answer.{Answer}
-use Rattle.model.specs.declared.Answer.the-variants.{Accepted, Refused}
 use Rattle.model.specs.declared.RunAnswer.{RunAnswer}
 use Rattle.model.specs.declared.RunAnswer.the-variants.{Finished, Spent, RunRefused}
 use Rattle.model.specs.declared.Outcome.{Outcome}
@@ -18,6 +17,7 @@ use Rattle.model.specs.declared.WriteAnswer.the-variants.{Written, WriteRefused
 use Rattle.model.specs.declared.ReadAnswer.{ReadAnswer}
 use Rattle.model.specs.declared.ReadAnswer.the-variants.{SystemRead, ResultRead, ReadRefused}
 use Rattle.model.specs.Lists.{table}
+use Rattle.model.specs.Refusal.{answerNumber, answerPlace}
 use Rattle.host_values.specs.declared.Told.{Told}
 use Rattle.host_values.specs.declared.ReadTold.{ReadTold}
 
@@ -35,8 +35,7 @@ abbrev pub refusedTold : ℕ → ℕ → Told
 refusedTold n x = record { place = x; count = 0; number = n; kind = 0 }
 
 abbrev pub told : Answer → Told
-told Accepted = record { place = 0; count = 0; number = 0; kind = 0 }
-told (Refused n x) = refusedTold n x
+told a = record { place = answerPlace a; count = 0; number = answerNumber a; kind = 0 }
 
 -- kind 1 is finished, kind 2 spent
 abbrev pub runTold : RunAnswer → Told

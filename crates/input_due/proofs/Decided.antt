@@ -16,12 +16,12 @@ use Rattle.model.specs.declared.Answer.the-variants.{Refused}
 use Rattle.model.specs.Refusal.{refuse}
 use Rattle.model.specs.Text.{badShape, refusalFrame}
 use Rattle.model.specs.Read.{kindIn, tilesIn, sideIn, lineLength, linesFrom, systemFrames, tileFrames, fileAnswer, printed, program}
+use Rattle.laws.proofs.Refusals.{passed}
 use Rattle.frames_read.specs.declared.Cursor.{Cursor}
 use Rattle.frames_read.specs.declared.Step.{Step}
 use Rattle.frames_read.specs.declared.Step.the-variants.{Next, Stopped}
 use Rattle.frames_read.specs.Steps.{follow, textEnd}
 use Rattle.lines_read.specs.Line.{malformed}
-use Rattle.answers.proofs.Refusals.{passed}
 use Rattle.header_read.specs.Heads.{headerLine, headerAnswer}
 use Rattle.writing.proofs.Shapes.{small-tiles}
 use Rattle.system_file.specs.Files.{Headed, start}

@@ -1,4 +1,4 @@
--- Every element of a list passes a test. Assumes nothing.
+-- Every element of a list passes a test; and an element inside a list, whatever stands behind its end. Assumes nothing.
 use Prim.Native.Nat.{ℕ, zero, suc, _+_, _≤_, _<_}
 use mathlib.Core.Bool.{Bool, true, false, _&&_}
 use mathlib.Core.Path.{_≡_, refl, sym, _∙_, subst}
@@ -62,3 +62,8 @@ module _ {A : Type 0} (f : A → Bool) where
           → (i : ℕ) × (i < suc (length xs)) × (f (getD (x ∷ xs) i d) ≡ false)
       go ih true q e = let (i, l, p) = ih e in (suc i, omega arith, p)
       go ih false q e = (0, omega arith, q)
+
+pub getD-any : {A : Type 0} (l : List A) (p : ℕ) (d e : A) → p < length l → getD l p d ≡ getD l p e
+getD-any [] p d e h = absurd (omega arith)
+getD-any (x ∷ l) zero d e h = refl
+getD-any (x ∷ l) (suc p) d e h = getD-any l p d e (omega arith)

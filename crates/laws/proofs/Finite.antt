@@ -1,19 +1,26 @@
 -- Finite lists, blocks and rows, element by element. Assumes nothing.
-use mathlib.Core.Path.{_≡_, sym, _∙_, ap}
-use mathlib.Core.Bool.{Bool, true, false, cond, _&&_}
+use mathlib.Core.Path.{_≡_, refl, sym, _∙_, ap}
+use mathlib.Core.Bool.{Bool, true, false, not, cond, _&&_}
 use mathlib.Core.List.{List, [], _∷_}
 use Prim.Native.Nat.{ℕ, _*_, _+_, _/_, _%_, _<_}
 use native.Mathlib.Nat.{div-add-mod'}
 use native.Mathlib.Omega.{arith}
 use lib.ListN.{length, getD}
-use lib.Ieee.{Float, nan}
+use lib.Dec.{T}
+use lib.Ieee.{Float, nan, inf, fin, isNan}
 use Rattle.model.specs.Lists.{below, every}
 use Rattle.model.specs.Num.{finite, isZero, product, difference, update, updateComputes}
 use Rattle.model.specs.Tile.{at, block, allFinite}
 use Rattle.model.specs.Column.{rowComputes}
-use Rattle.laws.proofs.Tests.{and-left, and-right}
+use Rattle.laws.proofs.Tests.{never, and-left, and-right}
 use Rattle.laws.proofs.Blocks.{length-block, at-block, row-below, column-below, in-block}
 use Rattle.laws.proofs.Every.{every-at, at-every, every-of-joined}
+
+pub not-nan : (x : Float) → finite x ≡ true → T (not (isNan x))
+unfolding finite isNan
+not-nan nan e = never refl (sym e)
+not-nan (inf s) e = tt
+not-nan (fin s m k) e = tt
 
 pub finite-get : (a : List Float) (i : ℕ) → allFinite a ≡ true → i < length a → finite (getD a i nan) ≡ true
 unfolding allFinite

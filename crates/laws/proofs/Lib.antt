@@ -3,3 +3,4 @@ pub mod Blocks
 pub mod Parts
 pub mod Every
 pub mod Finite
+pub mod Refusals

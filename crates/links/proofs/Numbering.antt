@@ -10,10 +10,10 @@ use borrow.Author.Tests.{eq-eqb, ne-eqb}
 use Rattle.model.specs.Lists.{run, below, joined}
 use Rattle.model.specs.Task.{Task, T-1, T-2, T-3, T-4, after, lowerRow, stage, tasks}
 use Rattle.model.specs.Links.{task}
-use Rattle.laws.proofs.Blocks.{in-block}
+use Rattle.laws.proofs.Blocks.{in-block, length-map-run}
 use Rattle.links.specs.Closed.{Key, key, In, taskAt, keyOf, offset, number}
 use Rattle.laws.proofs.Tests.{same-or-not}
-use Rattle.links.proofs.Rows.{length-run, getD-run, map-run-cong, rows, length-rows-suc, getD-rows, length-rows}
+use Rattle.links.proofs.Rows.{getD-run, map-run-cong, rows, length-rows-suc, getD-rows, length-rows}
 
 -- ---- a task's triple
 
@@ -98,7 +98,7 @@ module _ (N k : ℕ) where
 
   pub length-stage : k < N → length (stage N k) ≡ (N - k) * (N - k)
   unfolding rowOf
-  length-stage h = ap length (stage-rows h) ∙ length-rows (rowOf k (N - k)) (N - k) k (N - k) (λ i. length-run (λ j. taskAt (key k i j)) k (N - k))
+  length-stage h = ap length (stage-rows h) ∙ length-rows (rowOf k (N - k)) (N - k) k (N - k) (λ i. length-map-run (λ j. taskAt (key k i j)) k (N - k))
 
 -- ---- the place of a task
 
@@ -106,7 +106,7 @@ module _ (N k : ℕ) where
 at-square : (k m x y : ℕ) (d : Task) → x < m → y < m → getD (rows (rowOf k m) k m) (x * m + y) d ≡ taskAt (key k (k + x) (k + y))
 unfolding rowOf
 at-square k m x y d hx hy =
-    let wide : (i : ℕ) → length (rowOf k m i) ≡ m = λ i. length-run (λ j. taskAt (key k i j)) k m in
+    let wide : (i : ℕ) → length (rowOf k m i) ≡ m = λ i. length-map-run (λ j. taskAt (key k i j)) k m in
     rw (← (length-rows (rowOf k m) m k x wide))
     (getD-rows (rowOf k m) k m x y d hx (rw (wide (k + x)) hy)
     ∙ getD-run (λ j. taskAt (key k (k + x) j)) k m y d hy)

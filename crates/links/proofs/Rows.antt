@@ -8,11 +8,6 @@ use lib.Seq.{getD-append-add}
 use Rattle.model.specs.Lists.{run, joined}
 
 module _ {A : Type 0} where
-  pub length-run : (f : ℕ → A) (a n : ℕ) → length (map f (run a n)) ≡ n
-  unfolding run
-  length-run f a zero = refl
-  length-run f a (suc n) = ap suc (length-run f (suc a) n)
-
   pub getD-run : (f : ℕ → A) (a n y : ℕ) (d : A) → y < n → getD (map f (run a n)) y d ≡ f (a + y)
   unfolding run
   getD-run f a zero y d h = absurd (omega arith)

@@ -21,6 +21,7 @@ use Rattle.model.specs.Links.{task}
 use Rattle.model.specs.Loops.{start}
 use Rattle.model.specs.Calls.{Lent, recordOf, idle, opened}
 use Rattle.model.specs.Refusal.{Reply, refuse, replied, badSizes, badLengths, firstNotFinite, openAnswer, openCall}
+use Rattle.laws.proofs.Refusals.{passed}
 use Rattle.laws.proofs.Tests.{same-or-not}
 use Rattle.links.specs.Closed.{Key, key, In, taskAt, offset, number}
 use Rattle.links.proofs.Numbering.{task-is}
@@ -32,7 +33,7 @@ use Rattle.checks.specs.declared.elements.Lowest.{Lowest}
 use Rattle.checks.specs.declared.elements.Lowest.the-variants.{None, At}
 use Rattle.checks.proofs.Laws.{sized}
 use Rattle.answers.specs.Answers.{accepts}
-use Rattle.answers.proofs.Refusals.{refuses, passes, passed, is-accepted, not-accepted, Fit, lengths-fit}
+use Rattle.answers.proofs.Refusals.{refuses, passes, is-accepted, not-accepted, Fit, lengths-fit}
 
 -- ---- the answer
 

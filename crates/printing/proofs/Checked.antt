@@ -1,15 +1,15 @@
 -- What is known of a text that is a system with n at most 48: what the program prints for it, and what reading it gives. Assumes nothing.
 use Prim.Native.Nat.{ℕ, suc, _*_, _≤_}
-use mathlib.Core.Path.{_≡_, refl, sym, ap, _∙_}
+use mathlib.Core.Path.{_≡_, refl, ap, _∙_}
 use mathlib.Core.Bool.{Bool, true, false, not, _&&_, _||_}
 use mathlib.Core.List.{List, [], _∷_, _++_, map}
 use native.Mathlib.Nat.{mul-le-mul, mul-assoc}
 use native.Mathlib.Omega.{arith}
-use lib.Dec.{eqb, leb, ltb}
+use lib.Dec.{eqb, ltb}
 use lib.ListN.{length, take}
 use lib.Ieee.{Float}
-use borrow.Author.Tests.{leb-true, ltb-false, le-ltb, eq-eqb, not-false}
-use Rattle.laws.proofs.Tests.{and-left, and-right, and-intro}
+use borrow.Author.Tests.{ltb-false, le-ltb, eq-eqb, not-false}
+use Rattle.laws.proofs.Tests.{and-left, and-right, and-intro, or-false}
 use Rattle.model.specs.declared.Outcome.{Outcome}
 use Rattle.model.specs.declared.Answer.{Answer}
 use Rattle.model.specs.declared.Answer.the-variants.{Accepted, Refused}
@@ -21,9 +21,11 @@ use Rattle.model.specs.Plan.{plan, order}
 use Rattle.model.specs.Refusal.{inside}
 use Rattle.model.specs.Text.{badShape, badMatrix, refusalFrame}
 use Rattle.model.specs.Read.{Frame, kindIn, numbersIn, notFiniteIn, badLine, wrongFrame, lineAnswer, linesAnswer, tilesIn, sideIn, linesFrom, systemFrames, tileFrames, fileAnswer, tilesOf, systemReading, noLimit, readSystem, resultOf, printed, program}
-use Rattle.answers.proofs.Refusals.{passes, passed}
+use Rattle.system_file.proofs.Headers.{in-range}
+use Rattle.laws.proofs.Refusals.{passed}
+use Rattle.answers.proofs.Refusals.{passes}
 use Rattle.system_file.specs.Files.{checkedSystem}
-use Rattle.system_file.proofs.Uniform.{AllKind}
+use Rattle.system_file.proofs.Uniform.{AllKind, finite-of}
 use Rattle.system_file.proofs.Held.{tiles-kind, tiles-count}
 
 -- ---- the numbers of accepted tiles are finite
@@ -35,10 +37,6 @@ module _ {A : Type 0} (p : A → Bool) where
   every-append (x ∷ xs) ys a b =
       and-intro (p x) (every p (xs ++ ys)) (and-left (p x) (every p xs) a) (every-append xs ys (and-right (p x) (every p xs) a) b)
 
-finite-tile : (t : ℕ) (f : Frame) (l : List ℕ) → f .kind ≡ 2 → notFiniteIn t f l ≡ false → allFinite (numbersIn t l) ≡ true
-unfolding notFiniteIn
-finite-tile t f l k e = not-false (allFinite (numbersIn t l)) (sym (ap (λ (b : Bool). b && not (allFinite (numbersIn t l))) (eq-eqb (f .kind) 2 k)) ∙ e)
-
 finite-tiles : (t x : ℕ) (fs : List Frame) (ls : List (List ℕ)) → AllKind 2 fs → linesAnswer t x fs ls ≡ Accepted
     → allFinite (joined (map (numbersIn t) (take (length fs) ls))) ≡ true
 unfolding linesAnswer lineAnswer allFinite every joined
@@ -48,7 +46,7 @@ finite-tiles t x (f ∷ fs) (l ∷ ls) (k, a) e =
     let p = passed 12 x (badLine t (f .kind) l) _ e in
     let q = passed 13 x (wrongFrame f l) _ (p .1) in
     let r = passed 3 x (notFiniteIn t f l) _ (q .1) in
-    every-append finite (numbersIn t l) (joined (map (numbersIn t) (take (length fs) ls))) (finite-tile t f l k (r .0)) (finite-tiles t (suc x) fs ls a (r .1))
+    every-append finite (numbersIn t l) (joined (map (numbersIn t) (take (length fs) ls))) (finite-of t f l k (r .0)) (finite-tiles t (suc x) fs ls a (r .1))
 
 -- ---- a checked system
 
@@ -59,10 +57,6 @@ pub record Checked (text : List ℕ) (N t : ℕ) : Type 0 where
   pub all-finite : allFinite numbers ≡ true
   pub prints : program text ≡ resultOf (plan N t) numbers
   pub reads : (m : List Float) → length m ≡ N * t * (N * t) → readSystem text m ≡ record { answer = SystemRead N t; matrix = numbers }
-
-or-false : (a b : Bool) → (a || b) ≡ false → (a ≡ false) × (b ≡ false)
-or-false true b e = let z : _≡_ {A = ℕ} 0 1 = cc in absurd (omega arith)
-or-false false b e = (refl, e)
 
 -- what the lines answer, in the program and in the check that asks for no lengths
 abbrev answerIn : List (List ℕ) → Answer
@@ -133,10 +127,6 @@ pub record Small (N t : ℕ) : Type 0 where
   pub size : N * t * (N * t) ≤ 2304
   pub squares : N * N ≤ 256
   pub listed : N * N * t ≤ 768
-
-in-range : (x : ℕ) → inside 16 x ≡ true → (1 ≤ x) × (x ≤ 16)
-unfolding inside
-in-range x e = (leb-true 1 x (and-left (leb 1 x) (leb x 16) e), leb-true x 16 (and-right (leb 1 x) (leb x 16) e))
 
 pub small-sizes : {text : List ℕ} {N t : ℕ} → Checked text N t → Small N t
 unfolding badShape

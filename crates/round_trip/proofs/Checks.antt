@@ -5,10 +5,10 @@ use mathlib.Core.List.{List, [], _∷_, map, map-map}
 use Prim.Native.Nat.{ℕ, suc, _+_, _-_, _*_, _^_, _≤_, _<_}
 use native.Mathlib.Nat.{mul-comm}
 use native.Mathlib.Omega.{arith}
-use lib.Dec.{T, eqb, ltb}
+use lib.Dec.{eqb, ltb}
 use lib.ListN.{length, getD, take, drop, length-append, length-drop}
 use lib.Seq.{take-append-seam, take-all, getD-append-seam, drop-drop}
-use lib.Ieee.{Float, nan, inf, fin, binary64, toBits, ofBits, fits, isNan}
+use lib.Ieee.{Float, nan, binary64, toBits, ofBits}
 use lib.Ieee.Bits.{ofBits-toBits, toBits-ofBits, toBits-lt}
 use borrow.Author.Tests.{eqb-true, eq-eqb, not-false, le-ltb}
 use Rattle.model.specs.Lists.{below, table, every, some, joined, part}
@@ -17,14 +17,17 @@ use Rattle.model.specs.Tile.{allFinite}
 use Rattle.model.specs.Refusal.{inside}
 use Rattle.model.specs.Text.{hex, line, bits}
 use Rattle.model.specs.Read.{Frame, isDigit, field, kindIn, lineLength, numbersIn, entriesIn, notDigits, badContent, badLine, wrongFrame, notFiniteIn}
-use Rattle.laws.proofs.Tests.{never, and-left, and-right, and-intro}
+use Rattle.laws.proofs.Finite.{not-nan}
+use Rattle.laws.proofs.Tests.{and-left, and-right, and-intro, or-false-left, or-false-right, false-or}
 use Rattle.laws.proofs.Blocks.{length-table, getD-table, table-unique}
 use Rattle.frames.proofs.Put.{length-hex}
 use Rattle.frames.proofs.Pieces.{length-joined, length-bits}
+use Rattle.laws.proofs.Every.{every-at}
+use Rattle.round_trip.specs.Trips.{Held}
 use Rattle.round_trip.proofs.Numbers.{hex-digits}
 use Rattle.round_trip.proofs.Lines.{Line}
 use Rattle.round_trip.proofs.Grid.{piece, pieces, map-below}
-use Rattle.round_trip.proofs.Fields.{every-at, every-joined, field-hex, field-below, field-reads, line-of, framed, length-framed, framed-digits, framed-part, reads-a, reads-b, reads-c, framed-again}
+use Rattle.round_trip.proofs.Fields.{every-joined, field-hex, field-below, field-reads, line-of, framed, length-framed, framed-digits, framed-part, reads-a, reads-b, reads-c, framed-again}
 
 -- a line that is accepted where the frame f is due
 pub record Fine (t : ℕ) (f : Frame) (l : List ℕ) : Type 0 where
@@ -33,17 +36,6 @@ pub record Fine (t : ℕ) (f : Frame) (l : List ℕ) : Type 0 where
   pub numbers : notFiniteIn t f l ≡ false
 
 -- ---- tests
-
-pub or-false-left : (a b : Bool) → (a || b) ≡ false → a ≡ false
-or-false-left true b e = e
-or-false-left false b e = refl
-
-pub or-false-right : (a b : Bool) → (a || b) ≡ false → b ≡ false
-or-false-right true b e = never refl e
-or-false-right false b e = e
-
-or-false : (a b : Bool) → a ≡ false → b ≡ false → (a || b) ≡ false
-or-false a b p q = cc
 
 pub and-false : (a : Bool) → (a && false) ≡ false
 and-false true = refl
@@ -125,10 +117,6 @@ tileLine i j xs = line (framed 2 i j (joined (map bits xs)))
 abbrev pub frame : ℕ → ℕ → ℕ → Frame
 frame k i j = record { kind = k; i = i; j = j }
 
--- every number of a list is one that binary64 holds; a NaN counts, which stands behind the end
-abbrev pub Held : List Float → Type 0
-Held xs = (k : ℕ) → T (fits binary64 (getD xs k nan))
-
 kind-2 : (t : ℕ) (l : List ℕ) → kindIn l ≡ 2 → badContent t l ≡ false
 unfolding badContent
 kind-2 t l e = rw e (and-false (eqb (length l) (lineLength t 2)))
@@ -172,13 +160,6 @@ module _ (t i j : ℕ) (xs : List Float) (long : length xs ≡ t * t) where
         numbers = ap (λ (ys : List Float). not (allFinite ys)) (numbers-read held) ∙ ap not fin′;
       }
 
--- finite numbers have bits of their own
-no-nan : (x : Float) → finite x ≡ true → T (not (isNan x))
-unfolding finite isNan
-no-nan nan e = never refl (sym e)
-no-nan (inf s) e = tt
-no-nan (fin s m k) e = tt
-
 -- the pieces of a line's body, joined, are the body
 body-again : (c n : ℕ) (g : ℕ → List ℕ) (ds : List ℕ) → length ds ≡ 6 + n * c → ((k : ℕ) → k < n → g k ≡ part (6 + c * k) c ds) → joined (map g (below n)) ≡ drop 6 ds
 body-again c n g ds long h =
@@ -203,11 +184,11 @@ number-at : (t : ℕ) (l : List ℕ) (k : ℕ) → k < t * t → every finite (n
 unfolding numbersIn table
 number-at t l k h e =
     let f : ℕ → Float = λ x. ofBits binary64 (field (6 + 16 * x) 16 l) in
-    ap finite (sym (getD-table (t * t) f k nan h)) ∙ every-at finite (table (t * t) f) k nan e (rw length-table h)
+    ap finite (sym (getD-table (t * t) f k nan h)) ∙ every-at finite (table (t * t) f) nan k e (rw length-table h)
 
 bits-again : (x : ℕ) → x < 16 ^ 16 → finite (ofBits binary64 x) ≡ true → bits (ofBits binary64 x) ≡ hex 16 x
 unfolding bits
-bits-again x h e = ap (hex 16) (toBits-ofBits binary64 x h (no-nan (ofBits binary64 x) e))
+bits-again x h e = ap (hex 16) (toBits-ofBits binary64 x h (not-nan (ofBits binary64 x) e))
 
 tile-back : (t i j : ℕ) (ds : List ℕ) → every isDigit ds ≡ true → Fine t (frame 2 i j) (line ds) → line ds ≡ tileLine i j (numbersIn t (line ds))
 unfolding lineLength notFiniteIn allFinite
@@ -234,7 +215,7 @@ rowLine i j es = line (framed 3 i j (joined (map (hex 2) es)))
 some-none : (t : ℕ) (es : List ℕ) → ((k : ℕ) → getD es k 0 ≤ t) → some (ltb t) es ≡ false
 unfolding some
 some-none t [] h = refl
-some-none t (x ∷ es) h = or-false (ltb t x) (some (ltb t) es) (le-ltb t x (h 0)) (some-none t es (λ k. h (suc k)))
+some-none t (x ∷ es) h = false-or (ltb t x) (some (ltb t) es) (le-ltb t x (h 0)) (some-none t es (λ k. h (suc k)))
 
 kind-3 : (t : ℕ) (l : List ℕ) → kindIn l ≡ 3 → some (ltb t) (entriesIn t l) ≡ false → badContent t l ≡ false
 unfolding badContent

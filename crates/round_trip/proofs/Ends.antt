@@ -15,12 +15,12 @@ use Rattle.model.specs.Loops.{outcomeNumber, outcomePlace}
 use Rattle.model.specs.Refusal.{inside}
 use Rattle.model.specs.Text.{hex, line, outcomeFrame}
 use Rattle.model.specs.Read.{isDigit, field, kindIn, lineLength, outcomeIn, notDigits, badContent, badLine, wrongFrame, notFiniteIn, tilesIn, sideIn}
-use Rattle.laws.proofs.Tests.{and-left}
+use Rattle.laws.proofs.Tests.{and-left, or-false-left}
 use Rattle.frames.proofs.Put.{length-hex}
 use Rattle.round_trip.proofs.Numbers.{hex-digits}
 use Rattle.round_trip.proofs.Lines.{Line}
-use Rattle.round_trip.proofs.Fields.{every-append, field-hex, field-reads, framed, length-framed, framed-digits, reads-a, reads-b, reads-c, framed-again}
-use Rattle.round_trip.proofs.Checks.{Fine, frame, and-false, or-false-left, length-line, digits-line, sound, sound-of}
+use Rattle.round_trip.proofs.Fields.{every-both, field-hex, field-reads, framed, length-framed, framed-digits, reads-a, reads-b, reads-c, framed-again}
+use Rattle.round_trip.proofs.Checks.{Fine, frame, and-false, length-line, digits-line, sound, sound-of}
 
 -- ---- 04: the outcome
 
@@ -31,7 +31,7 @@ length-short : (a b c : ℕ) → length (short a b c) ≡ 8
 length-short a b c = simp (length-append, length-hex)
 
 short-digits : (a b c : ℕ) → every isDigit (short a b c) ≡ true
-short-digits a b c = every-append isDigit (hex 2 a ++ hex 2 b) (hex 4 c) (every-append isDigit (hex 2 a) (hex 2 b) (hex-digits 2 a) (hex-digits 2 b)) (hex-digits 4 c)
+short-digits a b c = every-both isDigit (hex 2 a ++ hex 2 b) (hex 4 c) (every-both isDigit (hex 2 a) (hex 2 b) (hex-digits 2 a) (hex-digits 2 b)) (hex-digits 4 c)
 
 module _ (a b c : ℕ) where
   first-two : part 0 2 (short a b c) ≡ hex 2 a

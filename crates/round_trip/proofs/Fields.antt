@@ -2,7 +2,7 @@
 use mathlib.Core.Path.{_≡_, refl, sym, ap, _∙_, subst}
 use mathlib.Core.Bool.{Bool, true, false, _&&_}
 use mathlib.Core.List.{List, [], _∷_, _++_, map}
-use Prim.Native.Nat.{ℕ, zero, suc, _+_, _-_, _^_, _≤_, _<_}
+use Prim.Native.Nat.{ℕ, suc, _+_, _-_, _^_, _≤_, _<_}
 use native.Mathlib.Omega.{arith}
 use lib.Dec.{eqb}
 use lib.ListN.{length, getD, take, drop, length-append, length-drop, take-append-drop}
@@ -12,6 +12,7 @@ use Rattle.model.specs.Lists.{every, joined, part}
 use Rattle.model.specs.Text.{hex, line}
 use Rattle.model.specs.Read.{isDigit, field, notDigits}
 use Rattle.laws.proofs.Tests.{never, and-left, and-right, and-intro}
+use Rattle.laws.proofs.Every.{every-take, every-drop}
 use Rattle.frames.proofs.Put.{length-hex}
 use Rattle.round_trip.proofs.Numbers.{value, hex-digits, value-of-hex, hex-of-value, value-below}
 use Rattle.round_trip.proofs.Lines.{Line}
@@ -20,33 +21,15 @@ use Rattle.round_trip.proofs.Grid.{part-left, part-right}
 -- ---- every
 
 module _ {A : Type 0} (f : A → Bool) where
-  pub every-append : (xs ys : List A) → every f xs ≡ true → every f ys ≡ true → every f (xs ++ ys) ≡ true
+  pub every-both : (xs ys : List A) → every f xs ≡ true → every f ys ≡ true → every f (xs ++ ys) ≡ true
   unfolding every
-  every-append [] ys p q = q
-  every-append (x ∷ xs) ys p q = and-intro (f x) (every f (xs ++ ys)) (and-left (f x) (every f xs) p) (every-append xs ys (and-right (f x) (every f xs) p) q)
-
-  pub every-drop : (n : ℕ) (xs : List A) → every f xs ≡ true → every f (drop n xs) ≡ true
-  unfolding every
-  every-drop zero xs p = p
-  every-drop (suc n) [] p = p
-  every-drop (suc n) (x ∷ xs) p = every-drop n xs (and-right (f x) (every f xs) p)
-
-  pub every-take : (n : ℕ) (xs : List A) → every f xs ≡ true → every f (take n xs) ≡ true
-  unfolding every
-  every-take zero xs p = refl
-  every-take (suc n) [] p = p
-  every-take (suc n) (x ∷ xs) p = and-intro (f x) (every f (take n xs)) (and-left (f x) (every f xs) p) (every-take n xs (and-right (f x) (every f xs) p))
-
-  pub every-at : (xs : List A) (k : ℕ) (d : A) → every f xs ≡ true → k < length xs → f (getD xs k d) ≡ true
-  unfolding every
-  every-at [] k d p h = absurd (omega arith)
-  every-at (x ∷ xs) zero d p h = and-left (f x) (every f xs) p
-  every-at (x ∷ xs) (suc k) d p h = every-at xs k d (and-right (f x) (every f xs) p) (omega arith)
+  every-both [] ys p q = q
+  every-both (x ∷ xs) ys p q = and-intro (f x) (every f (xs ++ ys)) (and-left (f x) (every f xs) p) (every-both xs ys (and-right (f x) (every f xs) p) q)
 
 pub every-joined : {A : Type 0} (f : A → List ℕ) (xs : List A) → ((x : A) → every isDigit (f x) ≡ true) → every isDigit (joined (map f xs)) ≡ true
 unfolding every joined
 every-joined f [] h = refl
-every-joined f (x ∷ xs) h = every-append isDigit (f x) (joined (map f xs)) (h x) (every-joined f xs h)
+every-joined f (x ∷ xs) h = every-both isDigit (f x) (joined (map f xs)) (h x) (every-joined f xs h)
 
 -- ---- a field of a line of digits
 
@@ -98,8 +81,8 @@ module _ (a b c : ℕ) (body : List ℕ) where
 
   pub framed-digits : every isDigit body ≡ true → every isDigit framed ≡ true
   framed-digits e =
-      every-append isDigit (hex 2 a ++ hex 2 b ++ hex 2 c) body
-      (every-append isDigit (hex 2 a ++ hex 2 b) (hex 2 c) (every-append isDigit (hex 2 a) (hex 2 b) (hex-digits 2 a) (hex-digits 2 b)) (hex-digits 2 c))
+      every-both isDigit (hex 2 a ++ hex 2 b ++ hex 2 c) body
+      (every-both isDigit (hex 2 a ++ hex 2 b) (hex 2 c) (every-both isDigit (hex 2 a) (hex 2 b) (hex-digits 2 a) (hex-digits 2 b)) (hex-digits 2 c))
       e
 
   first-two : part 0 2 framed ≡ hex 2 a

@@ -21,13 +21,14 @@ use Rattle.model.specs.Buffer.{tile, rows, rowsOf}
 use Rattle.model.specs.Text.{listFrame, outcomeFrame, resultText, badShape, badMatrix, badLists}
 use Rattle.model.specs.Read.{Frame, linesFrom, entriesIn, outcomeIn, linesAnswer, tileFrames, listFrames, resultFrames, tilesIn, sideIn, fileAnswer, tilesOf, listLine, listsOf, outcomeLine, noLimit, ResultReading, resultReading, readResult}
 use Rattle.laws.proofs.Blocks.{in-block}
+use Rattle.round_trip.specs.Trips.{Matrix, Lists}
 use Rattle.round_trip.proofs.Lines.{Line, more, joined-lines, lines-of}
 use Rattle.round_trip.proofs.Grid.{grid, length-grid, grid-at, T-below}
 use Rattle.round_trip.proofs.Checks.{Fine, frame, tileLine, rowLine, row-lined}
 use Rattle.round_trip.proofs.Ends.{headerLine, header-lined, header-tiles, header-side, outcome-lined, outcome-fine, outcome-read, outcome-again}
 use Rattle.round_trip.proofs.Orders.{All, nil, cons, all-append, in-order, accepted}
-use Rattle.round_trip.proofs.Tiles.{map-append, map-grid, joined-append, joined-grid, all-grid, Matrix, tile-written, tiles-again, wide}
-use Rattle.round_trip.proofs.Rows.{rising, listed, listed-none, listed-step, Lists, row-written, row-read, lists-read, rows-again}
+use Rattle.round_trip.proofs.Tiles.{map-append, map-grid, joined-append, joined-grid, all-grid, tile-written, tiles-again, wide}
+use Rattle.round_trip.proofs.Rows.{rising, listed, listed-none, listed-step, row-written, row-read, lists-read, rows-again}
 use Rattle.round_trip.proofs.Systems.{range, no-limit, file-accepted, file-accepts, system-lines, lines-all, tiles-lined, tileLines, tile-at, length-tiles, matrix-read, tile-lines-fine, length-frames, frame-at}
 
 -- ---- two lists and one more element

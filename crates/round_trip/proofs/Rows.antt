@@ -17,6 +17,7 @@ use Rattle.laws.proofs.Tests.{lt-or-le}
 use Rattle.laws.proofs.Blocks.{length-table}
 use Rattle.frames.proofs.Put.{joined-below}
 use Rattle.frames.proofs.Pieces.{length-joined}
+use Rattle.round_trip.specs.Trips.{Lists}
 use Rattle.round_trip.proofs.Grid.{grid, grid-is, part-part, piece, pieces, map-below, T-below}
 use Rattle.round_trip.proofs.Checks.{Fine, frame, rowLine, row-fine, entries-read, row-again}
 use Rattle.round_trip.proofs.Tiles.{cell}
@@ -115,11 +116,6 @@ length-read N t ls i j = go (leb j i)
     go : (b : Bool) → length (cond b (entriesIn t (getD ls (listLine N i j) [])) (replicate t 0)) ≡ t
     go true = length-entries t (getD ls (listLine N i j) [])
     go false = length-replicate t 0
-
-pub record Lists (N t : ℕ) (l : List ℕ) : Type 0 where
-  pub long : length l ≡ N * N * t
-  pub small : (k : ℕ) → getD l k 0 ≤ t
-  pub above : (i j : ℕ) → i < j → j < N → rows N t l i j ≡ replicate t 0
 
 small-part : (t a n : ℕ) (l : List ℕ) → ((k : ℕ) → getD l k 0 ≤ t) → (k : ℕ) → getD (part a n l) k 0 ≤ t
 small-part t a n l h k =

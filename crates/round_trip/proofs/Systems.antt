@@ -20,14 +20,15 @@ use Rattle.model.specs.Buffer.{tile, tileOf}
 use Rattle.model.specs.Refusal.{refuse, inside}
 use Rattle.model.specs.Text.{headerFrame, tileFrame, systemText, badShape, badMatrix}
 use Rattle.model.specs.Read.{Frame, linesFrom, kindIn, numbersIn, badLine, linesAnswer, tileFrames, systemFrames, tilesIn, sideIn, fileAnswer, tilesOf, noLimit, SystemReading, systemReading, readSystem}
-use Rattle.laws.proofs.Tests.{and-left, and-right}
+use Rattle.laws.proofs.Tests.{and-left, and-right, or-false-left}
 use Rattle.laws.proofs.Blocks.{in-block}
+use Rattle.round_trip.specs.Trips.{Matrix}
 use Rattle.round_trip.proofs.Lines.{Line, Lines, none, more, joined-lines, lines-of}
 use Rattle.round_trip.proofs.Grid.{grid, length-grid, grid-at}
-use Rattle.round_trip.proofs.Checks.{Fine, frame, tileLine, tile-lined, or-false-left}
+use Rattle.round_trip.proofs.Checks.{Fine, frame, tileLine, tile-lined}
 use Rattle.round_trip.proofs.Ends.{headerLine, header-lined, header-kind, header-tiles, header-side, header-fine, header-again}
 use Rattle.round_trip.proofs.Orders.{All, nil, cons, InOrder, in-order, accepted, passed, passes}
-use Rattle.round_trip.proofs.Tiles.{map-grid, joined-grid, all-grid, wide, before, before-none, before-step, Matrix, tile-written, tile-read, tiles-read, tiles-again}
+use Rattle.round_trip.proofs.Tiles.{map-grid, joined-grid, all-grid, wide, before, before-none, before-step, tile-written, tile-read, tiles-read, tiles-again}
 
 -- ---- the header's line
 

@@ -1,7 +1,6 @@
 -- The tiles of a text: the lines that hold them, and the matrix that is read from those lines. Assumes nothing.
 use mathlib.Core.Path.{_≡_, refl, sym, ap, _∙_, subst}
 use mathlib.Core.Logic.{⊎-elim}
-use mathlib.Core.Bool.{true}
 use mathlib.Core.List.{List, [], _∷_, _++_, map, map-map, append-assoc}
 use Prim.Native.Nat.{ℕ, zero, suc, _+_, _*_, _/_, _%_, _≤_, _<_}
 use native.Mathlib.Nat.{zero-mul, suc-mul, mul-le-mul-right, div-add-mod'}
@@ -16,10 +15,11 @@ use Rattle.model.specs.Tile.{allFinite}
 use Rattle.model.specs.Buffer.{tile}
 use Rattle.model.specs.Read.{field, numbersIn, tilesOf}
 use Rattle.laws.proofs.Tests.{lt-or-le}
+use Rattle.laws.proofs.Every.{every-take, every-drop}
 use Rattle.laws.proofs.Blocks.{in-block, row-below, column-below, length-table, table-unique}
+use Rattle.round_trip.specs.Trips.{Held, Matrix}
 use Rattle.round_trip.proofs.Grid.{grid, grid-is, pieces, piece, map-below}
-use Rattle.round_trip.proofs.Fields.{every-take, every-drop}
-use Rattle.round_trip.proofs.Checks.{Fine, Held, frame, tileLine, tile-fine, numbers-read, tile-again}
+use Rattle.round_trip.proofs.Checks.{Fine, frame, tileLine, tile-fine, numbers-read, tile-again}
 use Rattle.round_trip.proofs.Orders.{All, nil, cons, all-append}
 
 -- ---- grids
@@ -96,12 +96,7 @@ held-part a n m h k =
     (lt-or-le k n)
 
 module _ (N t : ℕ) (m : List Float) where
-  pub record Matrix : Type 0 where
-    pub long : length m ≡ N * N * (t * t)
-    pub held : Held m
-    pub finite-all : allFinite m ≡ true
-
-  module _ (w : Matrix) (i j : ℕ) (hi : i < N) (hj : j < N) where
+  module _ (w : Matrix N t m) (i j : ℕ) (hi : i < N) (hj : j < N) where
     length-tile : length (tile N t m i j) ≡ t * t
     unfolding tile
     length-tile = length-take-le (t * t) (drop ((i * N + j) * (t * t)) m) (rw length-drop (omega (arith, cell N (t * t) i j (length m) hi hj (w .long))))

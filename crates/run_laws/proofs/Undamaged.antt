@@ -16,7 +16,7 @@ use Rattle.model.specs.Task.{Task, kindOf, kOf, iOf, jOf}
 use Rattle.model.specs.Links.{task, mark, taken}
 use Rattle.model.specs.Calls.{Lent, marksOf, recordOf, worker, idle}
 use Rattle.model.specs.Refusal.{holds, badRecord, badHold, badWorker, entryLimit, badEntry, damaged}
-use Rattle.laws.proofs.Tests.{never, false-if, and-left, and-right, some-run-intro}
+use Rattle.laws.proofs.Tests.{never, and-left, and-right, or-false-left, or-false-right, fails-below}
 use Rattle.laws.proofs.Blocks.{in-block, row-of, column-of}
 
 -- the record r is task a's, and its mark is one of the five
@@ -35,22 +35,10 @@ pub record Held (z : Plan) (s : Lent) (h : Worker) : Type 0 where
 
 -- ---- tests that failed
 
-pub or-false-left : (a b : Bool) → (a || b) ≡ false → a ≡ false
-or-false-left true b e = never refl e
-or-false-left false b e = refl
-
-pub or-false-right : (a b : Bool) → (a || b) ≡ false → b ≡ false
-or-false-right true b e = never refl e
-or-false-right false b e = e
-
 pub and-true-not : (a b : Bool) → a ≡ true → (a && not b) ≡ false → b ≡ true
 and-true-not true true h e = refl
 and-true-not true false h e = never refl e
 and-true-not false b h e = never h refl
-
-pub none-some : (f : ℕ → Bool) (n p : ℕ) → some f (below n) ≡ false → p < n → f p ≡ false
-unfolding below
-none-some f n p e h = false-if (f p) (λ q. never (some-run-intro f 0 n p (omega arith) (omega arith) q) e)
 
 module _ {A : Type 0} where
   none-at : (f : A → Bool) (xs : List A) (d : A) (i : ℕ) → some f xs ≡ false → i < length xs → f (getD xs i d) ≡ false
@@ -106,7 +94,7 @@ module _ (z : Plan) (s : Lent) (fine : damaged z s ≡ false) where
   unfolding badRecord
   due p h =
       due-of (task (z .tasks) p) (getD (s .records) p (recordOf (task (z .tasks) p)))
-      (none-some (badRecord z s) (length (z .tasks)) p (or-false-left bad-records bad-holds two) h)
+      (fails-below (badRecord z s) (length (z .tasks)) p (or-false-left bad-records bad-holds two) h)
 
   -- the same, whatever is read past the end of the records
   pub due-any : length (s .records) ≡ length (z .tasks) → (p : ℕ) (d : TaskRecord) → p < length (z .tasks) → Due (task (z .tasks) p) (getD (s .records) p d)
@@ -119,7 +107,7 @@ module _ (z : Plan) (s : Lent) (fine : damaged z s ≡ false) where
   unfolding badHold
   one-holder p h m =
       and-true-not (eqb (mark (marksOf s) p) taken) (eqb (length (keep (holds p) (s .workers))) 1) (eq-eqb (mark (marksOf s) p) taken m)
-      (none-some (badHold z s) (length (z .tasks)) p (or-false-right bad-records bad-holds two) h)
+      (fails-below (badHold z s) (length (z .tasks)) p (or-false-right bad-records bad-holds two) h)
 
   -- a busy worker holds what it may
   held-of : (h : Worker) → h .busy ≡ true → badWorker z s h ≡ false → Held z s h
@@ -147,6 +135,6 @@ module _ (z : Plan) (s : Lent) (fine : damaged z s ≡ false) where
   unfolding damaged badEntry
   entry-fits i j x hi hj hx =
       let at : (i * z .N + j) * z .t + x < z .N * z .N * z .t = in-block (z .N * z .N) (z .t) (i * z .N + j) x (in-block (z .N) (z .N) i j hi hj) hx in
-      let e = none-some (badEntry z s) (z .N * z .N * z .t) ((i * z .N + j) * z .t + x) (or-false-right (bad-records || bad-holds || bad-workers) bad-entries fine) at in
+      let e = fails-below (badEntry z s) (z .N * z .N * z .t) ((i * z .N + j) * z .t + x) (or-false-right (bad-records || bad-holds || bad-workers) bad-entries fine) at in
       let f = ltb-false (entryLimit z (((i * z .N + j) * z .t + x) / z .t / z .N) (((i * z .N + j) * z .t + x) / z .t % z .N)) (getD (s .buffers .lists) ((i * z .N + j) * z .t + x) 0) e in
       rw (row-of (z .t) (i * z .N + j) x hx, row-of (z .N) i j hj, column-of (z .N) i j hj) at f

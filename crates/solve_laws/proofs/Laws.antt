@@ -22,8 +22,9 @@ use Rattle.model.specs.Refusal.{refuse, badSizes, badLengths, damaged, firstNot
 use Rattle.model.specs.Solve.{Passed, Answers, going, stopped, solved, unlessGood, answered, solveAnswer, solveCall}
 use Rattle.model.specs.History.{Call}
 use Rattle.model.specs.Demand.{end}
+use Rattle.laws.proofs.Refusals.{passed}
 use Rattle.laws.proofs.Tests.{and-left, and-right}
-use Rattle.answers.proofs.Refusals.{passes, passed}
+use Rattle.answers.proofs.Refusals.{passes}
 use Rattle.demand.specs.Promise.{Pair}
 use Rattle.laws.proofs.Every.{every-at}
 use Rattle.demand.proofs.Theorem.{demand-3}

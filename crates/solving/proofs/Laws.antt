@@ -25,12 +25,13 @@ use Rattle.model.specs.Loops.{outcome}
 use Rattle.model.specs.Calls.{Lent, stateOf}
 use Rattle.model.specs.Refusal.{badSizes, badLengths, damaged, entryLimit, unfinished}
 use Rattle.model.specs.Solve.{Passed, Answers, going, pass, solved, unlessGood, answered, solveAnswer, solveCall}
-use Rattle.laws.proofs.Tests.{and-left, and-right, same-or-not}
+use Rattle.laws.proofs.Refusals.{passed}
+use Rattle.laws.proofs.Tests.{and-left, and-right, same-or-not, or-false-left, or-false-right}
 use Rattle.records.specs.Records.{lent}
 use Rattle.checks.specs.Checks.{Sized}
 use Rattle.checks.proofs.Laws.{sized}
-use Rattle.answers.proofs.Refusals.{passed, lengths-fit}
-use Rattle.run_laws.proofs.Undamaged.{or-false-left, or-false-right, entry-fits}
+use Rattle.answers.proofs.Refusals.{lengths-fit}
+use Rattle.run_laws.proofs.Undamaged.{entry-fits}
 use Rattle.right_sides.specs.declared.Progress.{Progress}
 use Rattle.right_sides.specs.declared.Progress.the-variants.{Going, Stopped}
 use Rattle.right_sides.specs.Right.{Solvable, RightSide, passedOf}

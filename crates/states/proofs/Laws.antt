@@ -11,12 +11,13 @@ use Rattle.model.specs.declared.Answer.the-variants.{Accepted, Refused}
 use Rattle.model.specs.Plan.{planOf}
 use Rattle.model.specs.Calls.{Lent}
 use Rattle.model.specs.Refusal.{refuse, badSizes, badLengths, damaged}
+use Rattle.laws.proofs.Refusals.{passed}
 use Rattle.laws.proofs.Tests.{never}
 use Rattle.records.specs.Records.{lent}
 use Rattle.checks.specs.Checks.{Sized}
 use Rattle.checks.proofs.Laws.{sized}
 use Rattle.answers.specs.Answers.{accepts}
-use Rattle.answers.proofs.Refusals.{refuses, passes, passed, Fit, lengths-fit}
+use Rattle.answers.proofs.Refusals.{refuses, passes, Fit, lengths-fit}
 use Rattle.states.specs.States.{stateAnswer, Sound}
 
 -- ---- one by one

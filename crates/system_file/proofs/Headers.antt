@@ -32,7 +32,7 @@ pub record HeaderFacts (text : List ℕ) (N t : ℕ) : Type 0 where
   pub tiles : (1 ≤ N) × (N ≤ 16)
   pub side : (1 ≤ t) × (t ≤ 16)
 
-in-range : (x : ℕ) → inside 16 x ≡ true → (1 ≤ x) × (x ≤ 16)
+pub in-range : (x : ℕ) → inside 16 x ≡ true → (1 ≤ x) × (x ≤ 16)
 unfolding inside
 in-range x e = (leb-true 1 x (and-left (leb 1 x) (leb x 16) e), leb-true x 16 (and-right (leb 1 x) (leb x 16) e))
 

@@ -58,7 +58,7 @@ clean-of t due l e = go (notDigits l) (not (inside 5 (kindIn l))) (not (eqb (len
     go true b c d e = e
     go false b c d e = refl
 
-finite-of : (t : ℕ) (f : Frame) (l : List ℕ) → f .kind ≡ 2 → notFiniteIn t f l ≡ false → allFinite (numbersIn t l) ≡ true
+pub finite-of : (t : ℕ) (f : Frame) (l : List ℕ) → f .kind ≡ 2 → notFiniteIn t f l ≡ false → allFinite (numbersIn t l) ≡ true
 unfolding notFiniteIn
 finite-of t f l k e = not-false (allFinite (numbersIn t l)) (rw (eq-eqb (f .kind) 2 k) at e)
 

@@ -18,13 +18,13 @@ use Rattle.model.specs.Plan.{plan, planOf}
 use Rattle.model.specs.Links.{ready}
 use Rattle.model.specs.Calls.{Lent, marksOf, marked, worker, idle, holding, took}
 use Rattle.model.specs.Refusal.{Reply, refuse, replied, badSizes, badLengths, damaged, noWorker, takeAnswer, takeCall}
-use Rattle.laws.proofs.Tests.{or-left, or-right}
+use Rattle.laws.proofs.Refusals.{passed}
+use Rattle.laws.proofs.Tests.{or-left, or-right, or-false-left}
 use Rattle.records.specs.Records.{recordsFrom, marksFrom, lent}
 use Rattle.answers.specs.Answers.{accepts}
-use Rattle.answers.proofs.Refusals.{refuses, passes, passed, is-accepted, not-accepted}
+use Rattle.answers.proofs.Refusals.{refuses, passes, is-accepted, not-accepted}
 use Rattle.states.specs.States.{stateAnswer, Sound}
 use Rattle.states.proofs.Laws.{sound, goes-on, stops}
-use Rattle.run_laws.proofs.Undamaged.{or-false-left}
 use Rattle.call_laws.proofs.Undamaged.{worker-lent, workers-long}
 
 module _ (z : Sizes) (m : List Float) (l : List ℕ) (r : List (List ℕ)) (ws : List Worker) (w p : ℕ) where

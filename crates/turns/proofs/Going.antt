@@ -21,7 +21,8 @@ use Rattle.model.specs.Links.{task, mark, finished, ready}
 use Rattle.model.specs.Buffer.{Ended, finiteTiles}
 use Rattle.model.specs.Calls.{Lent, RunEnd, marksOf, withMark, marked, worker, idle, holding, took, advanced, allFinished, runFrom, wholeRun}
 use Rattle.model.specs.Refusal.{damaged, badTiles, runAnswer}
-use Rattle.laws.proofs.Tests.{never}
+use Rattle.laws.proofs.Refusals.{passed}
+use Rattle.laws.proofs.Tests.{never, or-false}
 use Rattle.run_laws.proofs.Pointer.{NoneReady, none-after, none-after-take, none-kept}
 use Rattle.run_laws.proofs.Undamaged.{and-true-not}
 use Rattle.records.specs.Records.{recordsFrom, marksFrom, lent}
@@ -36,8 +37,6 @@ use Rattle.demand.proofs.Limits.{good-tiles}
 use Rattle.demand.proofs.Whole.{Whole, in-range}
 use Rattle.demand.proofs.Steps.{took-whole, advanced-whole}
 use Rattle.demand.proofs.Answers.{run-whole, run-accepted}
-use Rattle.demand.proofs.Choices.{or-false}
-use Rattle.demand.proofs.Checks.{passed}
 use Rattle.next.specs.Next.{Passed, LowestReady, NextBusy, busy-after, all-idle}
 use Rattle.task_columns.specs.Due.{ColumnDue}
 use Rattle.advancing.specs.Advancing.{Advanced}

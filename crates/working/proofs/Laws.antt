@@ -17,14 +17,15 @@ use Rattle.model.specs.Links.{task}
 use Rattle.model.specs.Buffer.{Buffers, finiteTiles}
 use Rattle.model.specs.Calls.{Lent, worker, idle, advanced}
 use Rattle.model.specs.Refusal.{Reply, refuse, replied, badSizes, badLengths, damaged, badTiles, noWorker, columnAnswer, columnCall}
-use Rattle.laws.proofs.Tests.{or-left, or-right}
+use Rattle.laws.proofs.Refusals.{passed}
+use Rattle.laws.proofs.Tests.{or-left, or-right, or-false-left, or-false-right}
 use Rattle.records.specs.Records.{recordsFrom, blank, lent}
 use Rattle.checks.specs.Checks.{Inside, taskFrom}
 use Rattle.answers.specs.Answers.{accepts}
-use Rattle.answers.proofs.Refusals.{refuses, passes, passed, is-accepted, not-accepted}
+use Rattle.answers.proofs.Refusals.{refuses, passes, is-accepted, not-accepted}
 use Rattle.states.specs.States.{stateAnswer, Sound}
 use Rattle.states.proofs.Laws.{sound, goes-on, stops}
-use Rattle.run_laws.proofs.Undamaged.{or-false-left, or-false-right, and-true-not}
+use Rattle.run_laws.proofs.Undamaged.{and-true-not}
 use Rattle.call_laws.proofs.Undamaged.{worker-lent, worker-beyond, workers-long, worker-holds, record-named, record-inside}
 use Rattle.advancing.specs.Advancing.{Working}
 
