@@ -13,9 +13,9 @@ class Contracts(unittest.TestCase):
     def test_edits_for_each_function(self):
         for _, names in contracts.PRODUCT:
             for function, functions in contracts.chosen(names):
-                # an export only hands its arguments on to a call that has its own edits
-                least = 1 if function.crate == "host" else 2
-                self.assertGreaterEqual(len(list(contracts.edits(function, functions))), least, function.path)
+                # an export only hands its arguments on to a function that has its own edits
+                if function.crate != "host":
+                    self.assertGreaterEqual(len(list(contracts.edits(function, functions))), 2, function.path)
 
 
 if __name__ == "__main__":
