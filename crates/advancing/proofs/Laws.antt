@@ -17,7 +17,7 @@ use Rattle.model.specs.Buffer.{Ended}
 use Rattle.model.specs.Calls.{Lent, marked, worker, idle, holding, columnOf, advanced}
 use Rattle.model.specs.Refusal.{entryLimit, damaged}
 use Rattle.links.proofs.Order.{Within, within-1, within-2, within-3, within-4}
-use Rattle.columns.specs.Workable.{Placed, EntriesFit}
+use Rattle.column_laws.specs.Placed.{Placed, EntriesFit}
 use Rattle.records.specs.Records.{recordsFrom, lent}
 use Rattle.checks.specs.Checks.{Sized}
 use Rattle.run_laws.proofs.Undamaged.{entry-fits}

@@ -5,12 +5,12 @@ ghost use Rattle.model.specs.Plan.{planOf};
 ghost use Rattle.model.specs.Buffer.{markOf, columnEnds};
 ghost use Rattle.column_laws.specs.Workable.{Workable};
 ghost use Rattle.bench_host.specs.Bench.{sizes};
-use columns::apply::apply_column;
-use columns::couple::couple_column;
-use columns::factor::factor_column;
-use columns::pair::pair_column;
+use apply_columns::apply_column;
+use couple_columns::couple_column;
+use factor_columns::factor_column;
 use model::ColumnEnd;
 use model::Sizes;
+use pair_columns::pair_column;
 
 // The mark that a column's end gives its task.
 fn mark_after(end: ColumnEnd) -> u8

@@ -16,7 +16,8 @@ use Rattle.model.specs.Lists.{run, below, every, joined, part, withPart}
 use Rattle.model.specs.Num.{finite, update, updateComputes, quotient}
 use Rattle.model.specs.Tile.{at, allFinite}
 use Rattle.model.specs.Column.{beyond, eliminated, eliminationComputes}
-use Rattle.kernel.specs.Flat.{ColumnDivided, RowsUpdated, updatedRows, rowsCompute}
+use Rattle.multipliers.specs.Divided.{ColumnDivided}
+use Rattle.row_updates.specs.Updates.{RowsUpdated, updatedRows, rowsCompute}
 use Rattle.laws.proofs.Tests.{Order, less, equal, more, order, lt-or-le}
 use Rattle.laws.proofs.Blocks.{block-cong, in-block, column-same}
 use Rattle.laws.proofs.Parts.{Fits, length-put, get-in, get-before, get-after, put-put}

@@ -9,7 +9,7 @@ use lib.Ieee.{Float, nan}
 use borrow.Rule.Slice.PartMut.{put-same}
 use Rattle.model.specs.Lists.{part, withPart}
 use Rattle.model.specs.Tile.{exchanged}
-use Rattle.kernel.specs.Flat.{exchangedParts}
+use Rattle.exchanges.specs.Exchanged.{exchangedParts}
 use Rattle.laws.proofs.Parts.{Apart, Fits, length-put, part-put, put-put, part-other}
 use Rattle.column_laws.specs.Steps.{upperAt, lowerAt, withTwo, exchangedAt}
 use Rattle.column_laws.proofs.Nested.{length-part, part-in, put-in}

@@ -13,7 +13,7 @@ use Rattle.model.specs.Lists.{run, below, every, joined, part, withPart}
 use Rattle.model.specs.Num.{finite, updateComputes, quotient}
 use Rattle.model.specs.Tile.{at, block, swapped, exchanged, allFinite}
 use Rattle.model.specs.Column.{beyond, eliminated, eliminationComputes, rowComputes, upperExchanged, lowerExchanged}
-use Rattle.kernel.specs.Flat.{RowsUpdated, updatedRows, rowsCompute}
+use Rattle.row_updates.specs.Updates.{RowsUpdated, updatedRows, rowsCompute}
 use Rattle.laws.proofs.Tests.{and-left}
 use Rattle.laws.proofs.Blocks.{length-block, block-cong}
 use Rattle.laws.proofs.Parts.{Apart, Fits, length-put, part-put, put-put}

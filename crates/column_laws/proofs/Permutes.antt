@@ -15,7 +15,7 @@ use borrow.Rule.Slice.PartMut.{put-same}
 use Rattle.model.specs.Lists.{run, below, inTurn, part, withPart}
 use Rattle.model.specs.Tile.{exchanged, allFinite}
 use Rattle.model.specs.Column.{permuted, applyStart}
-use Rattle.kernel.specs.Flat.{exchangedParts}
+use Rattle.exchanges.specs.Exchanged.{exchangedParts}
 use Rattle.laws.proofs.Tests.{Order, less, equal, more, order}
 use Rattle.laws.proofs.Blocks.{length-block}
 use Rattle.laws.proofs.Parts.{Apart, Fits, length-put, part-put, put-put}

@@ -13,7 +13,7 @@ use borrow.Author.Tests.{eqb-true, eqb-false, leb-true, leb-false, lt-ltb}
 use Rattle.model.specs.Lists.{part, withPart}
 use Rattle.model.specs.Tile.{at, swapped, exchanged}
 use Rattle.model.specs.Column.{upperExchanged, lowerExchanged}
-use Rattle.kernel.specs.Flat.{exchangedParts}
+use Rattle.exchanges.specs.Exchanged.{exchangedParts}
 use Rattle.laws.proofs.Tests.{lt-or-le}
 use Rattle.laws.proofs.Blocks.{block-unique, block-at, block-cong}
 use Rattle.laws.proofs.Parts.{Fits, length-put, get-in, get-before, get-after}

@@ -13,7 +13,7 @@ use Rattle.model.specs.Lists.{run, below, every, joined, part, withPart}
 use Rattle.model.specs.Num.{finite, update, updateComputes}
 use Rattle.model.specs.Tile.{at, block}
 use Rattle.model.specs.Column.{beyond, rowComputes}
-use Rattle.kernel.specs.Flat.{RowsUpdated, updatedRows, rowsCompute}
+use Rattle.row_updates.specs.Updates.{RowsUpdated, updatedRows, rowsCompute}
 use Rattle.laws.proofs.Blocks.{length-block, block-unique, block-cong, at-block, in-block}
 use Rattle.laws.proofs.Parts.{Fits, length-put, get-in, get-before, part-put}
 use Rattle.column_laws.specs.Steps.{RowsApplied, applied, appliedComputes}

@@ -1,2 +1,25 @@
-// T-1's and T-3's inner work on tiles of one slice, each given by where it starts.
-pub mod eliminate;
+// The elimination of the pivot row from other rows of one slice, T-1's and T-3's.
+ghost use mathlib.Core.Path.{_≡_};
+ghost use mathlib.Core.Bool.{true};
+ghost use Prim.Native.Nat.{ℕ, _+_, _*_, _<_};
+ghost use lib.ListN.{getD};
+ghost use lib.Ieee.{nan};
+ghost use Rattle.model.specs.Lists.{part};
+ghost use Rattle.model.specs.Num.{finite, quotient};
+ghost use Rattle.model.specs.Tile.{at, allFinite};
+ghost use Rattle.column_laws.specs.Steps.{RowsEliminated};
+ghost use Rattle.column_laws.specs.Room.{Rows};
+use multipliers::divide_column;
+use row_updates::update_rows;
+
+// Eliminates the pivot row at top from the rows of width t that start at start. False where a computed number isn't finite.
+pub fn eliminate(m: &mut [f64], t: usize, c: usize, top: usize, start: usize, rows: usize) -> bool
+    requires { ⌜ Rows rows t c start top (now m) ⌝ }
+    requires { ⌜ allFinite (part start (rows * t) (now m)) ≡ true ⌝ }
+    requires { ⌜ ((i : ℕ) → i < rows → finite (quotient (at t (part start (rows * t) (now m)) i c) (getD (now m) (top + c) nan)) ≡ true) ⌝ }
+    ensures { λ r. ⌜ RowsEliminated rows t c start top (now (m .entry)) (now (m .exit)) r ⌝ }
+{
+    let pivot = m[top + c];
+    let l = divide_column(m, start + c, t, rows, pivot);
+    update_rows(m, start, top, t, c + 1, rows, l)
+}

@@ -1,3 +1,2 @@
-// Where tiles and row lists stand in the lent slices, how a column ends, and a tile as a part of the matrix.
-pub mod part;
+// Where tiles and row lists stand in the lent slices, and how a column ends.
 pub mod place;

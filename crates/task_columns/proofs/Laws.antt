@@ -14,7 +14,7 @@ use Rattle.model.specs.Plan.{plan, planOf}
 use Rattle.model.specs.Links.{task, spoils}
 use Rattle.model.specs.Buffer.{Buffers, Ended, filled, columnEnds}
 use Rattle.model.specs.Calls.{Lent, marksOf, columnOf}
-use Rattle.columns.specs.Workable.{Workable}
+use Rattle.column_laws.specs.Workable.{Workable}
 use Rattle.records.specs.Records.{marksFrom, lent}
 use Rattle.checks.specs.Checks.{taskFrom}
 

@@ -8,7 +8,7 @@ use Rattle.model.specs.declared.Sizes.{Sizes}
 use Rattle.model.specs.Task.{tasks}
 use Rattle.model.specs.Links.{task}
 use Rattle.graph.specs.Graph.{Recorded}
-use Rattle.columns.specs.Workable.{Workable}
+use Rattle.column_laws.specs.Workable.{Workable}
 use Rattle.records.specs.Records.{recordsFrom, blank}
 use Rattle.checks.specs.Checks.{Sized, Inside, taskFrom}
 

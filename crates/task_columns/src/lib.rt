@@ -10,19 +10,19 @@ ghost use Rattle.model.specs.Links.{spoils};
 ghost use Rattle.model.specs.Buffer.{markOf, columnEnds};
 ghost use Rattle.model.specs.Calls.{columnOf};
 ghost use Rattle.graph.specs.Graph.{Recorded};
-ghost use Rattle.columns.specs.Workable.{Workable};
+ghost use Rattle.column_laws.specs.Workable.{Workable};
 ghost use Rattle.records.specs.Records.{marksFrom, lent};
 ghost use Rattle.checks.specs.Checks.{taskFrom};
 ghost use Rattle.task_columns.specs.Due.{ColumnDue};
-use columns::apply::apply_column;
-use columns::couple::couple_column;
-use columns::factor::factor_column;
-use columns::pair::pair_column;
+use apply_columns::apply_column;
+use couple_columns::couple_column;
+use factor_columns::factor_column;
 use filling::fill_task;
 use graph::is_spoiled;
 use model::ColumnEnd;
 use model::Sizes;
 use model::TaskRecord;
+use pair_columns::pair_column;
 use records::record_at;
 
 // The mark that a column's end gives its task.

@@ -3,7 +3,7 @@ use mathlib.Core.Path.{sym, ap, _∙_, subst}
 use borrow.Author.Needs.{needs}
 use Rattle.model.specs.declared.TaskRecord.{TaskRecord}
 use Rattle.model.specs.Task.{Task}
-use Rattle.columns.specs.Workable.{Workable}
+use Rattle.column_laws.specs.Workable.{Workable}
 use Rattle.checks.specs.Checks.{Inside, taskFrom}
 use Rattle.task_columns.proofs.Laws.{task-spoiled, task-worked, with-mark}
 use Rattle.task_columns.proofs.work_task.Statement.{statement}

@@ -1,0 +1,65 @@
+-- `apply_rows` meets its contract: the rows below row c stand in the block. Assumes nothing.
+use borrow.Author.Needs.{needs}
+use mathlib.Core.Path.{_≡_, refl}
+use mathlib.Core.Logic.{inl}
+use Prim.Native.Nat.{suc, _+_, _-_, _*_}
+use native.Mathlib.Omega.{arith}
+use denote.Ref.{now}
+use Rattle.column_laws.proofs.Rows.{row-room}
+use Rattle.column_laws.proofs.Finite.{finite-part}
+use Rattle.column_laws.proofs.Updates.{rows-applied}
+use Rattle.apply_blocks.proofs.apply_rows.Statement.{statement}
+use Rattle.apply_blocks.proofs.apply_rows.Tie as tie
+
+add-update-rows : tie.Need-add-update-rows
+add-update-rows c = search needs
+
+mul-update-rows : tie.Need-mul-update-rows
+mul-update-rows c = let a = c .before .before .args in omega (arith, c .before .before .pre .0, row-room (a .t) (a .w) (a .c) (c .before .before .pre .1 .0))
+
+add-update-rows-2 : tie.Need-add-update-rows-2
+add-update-rows-2 c = let a = c .before .before .args in omega (arith, c .before .before .pre .0, row-room (a .t) (a .w) (a .c) (c .before .before .pre .1 .0))
+
+mul-update-rows-2 : tie.Need-mul-update-rows-2
+mul-update-rows-2 c = let a = c .before .before .args in omega (arith, c .before .before .pre .0, row-room (a .t) (a .w) (a .c) (c .before .before .pre .1 .0))
+
+add-update-rows-3 : tie.Need-add-update-rows-3
+add-update-rows-3 c = let a = c .before .before .args in omega (arith, c .before .before .pre .0, row-room (a .t) (a .w) (a .c) (c .before .before .pre .1 .0))
+
+add-update-rows-4 : tie.Need-add-update-rows-4
+add-update-rows-4 c = search needs
+
+sub-update-rows : tie.Need-sub-update-rows
+sub-update-rows c = search needs
+
+update-rows-requires : tie.Need-update-rows-requires
+update-rows-requires c κs =
+    let a = c .before .before .args in
+    let b = c .before .before .pre .0 in
+    let ends : suc (a .c) + (a .t - (a .c + 1)) ≡ a .t = omega (arith, c .before .before .pre .1 .0) in
+    let split : (suc (a .c) + (a .t - (a .c + 1))) * a .w ≡ a .t * a .w = rw ends in
+    (omega (arith, b, split), (inl (omega arith), finite-part (a .a) (a .t * a .w) (a .a + (a .c + 1) * a .w) ((a .t - (a .c + 1)) * a .w) (now (a .m)) (b .room) (omega arith) (omega (arith, split)) (c .before .before .pre .1 .1)))
+
+same-length : tie.Need-same-length
+same-length c = search needs
+
+returns : tie.Need-returns
+returns c =
+    let a = c .before .before .before .before .before .args in
+    let ends : suc (a .c) + (a .t - (a .c + 1)) ≡ a .t = omega (arith, c .before .before .before .before .before .pre .1 .0) in
+    rows-applied (a .t) (a .w) (a .c) (a .t - (a .c + 1)) (a .a) (a .a + (a .c + 1) * a .w) _ (now (a .m)) (c .before .before .before .before .before .pre .0 .room) ends (omega arith) refl (a .l) _ _ (c .before .before .update-rows .kept .0) (c .before .before .update-rows .ensures)
+
+pub apply-rows-spec : {M : Type 1} → statement M
+apply-rows-spec =
+    tie.close
+    (tie.spec
+    add-update-rows
+    mul-update-rows
+    add-update-rows-2
+    mul-update-rows-2
+    add-update-rows-3
+    add-update-rows-4
+    sub-update-rows
+    update-rows-requires
+    same-length
+    returns)

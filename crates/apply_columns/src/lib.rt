@@ -1,0 +1,42 @@
+// A column of T-2, on the lent matrix and row lists where they lie.
+ghost use mathlib.Core.Path.{_≡_};
+ghost use Rattle.model.specs.Task.{T-2};
+ghost use Rattle.model.specs.Plan.{planOf};
+ghost use Rattle.model.specs.Buffer.{markOf, columnEnds};
+ghost use Rattle.column_laws.specs.Workable.{Workable};
+use apply_blocks::apply_rows;
+use block_starts::start_block;
+use fills::fill::fill_numbers;
+use model::ColumnEnd;
+use model::Sizes;
+use multipliers::read_column;
+use places::place::ended;
+use places::place::list_start;
+use places::place::tile_start;
+
+// Works column c of T-2(k,j).
+pub fn apply_column(
+    z: Sizes,
+    matrix: &mut [f64],
+    lists: &[u8],
+    k: usize,
+    j: usize,
+    c: usize,
+) -> ColumnEnd
+    requires { ⌜ Workable z (T-2 k j) c (now matrix) (now lists) ⌝ }
+    ensures { λ r. ⌜ record { left = record { matrix = now (matrix .exit); lists = now (lists .entry) }; mark = markOf r }
+        ≡ columnEnds (planOf z) (T-2 k j) c (record { matrix = now (matrix .entry); lists = now (lists .entry) }) ⌝ }
+{
+    let n = z.tiles;
+    let t = z.side;
+    let a = tile_start(n, t, k, j);
+    let d = tile_start(n, t, k, k);
+    let p = list_start(n, t, k, k);
+    let l = read_column(matrix, d + ((c + 1) * t + c), t, t - (c + 1));
+    start_block(matrix, lists, t, t, a, p, c);
+    if apply_rows(matrix, t, t, a, c, l) {
+        return ended(t, c);
+    }
+    fill_numbers(matrix, a, t * t);
+    ColumnEnd::Failed
+}

@@ -1,0 +1,51 @@
+// A column of T-3, on the lent matrix and row lists where they lie.
+ghost use mathlib.Core.Path.{_≡_};
+ghost use Rattle.model.specs.Task.{T-3};
+ghost use Rattle.model.specs.Plan.{planOf};
+ghost use Rattle.model.specs.Buffer.{markOf, columnEnds};
+ghost use Rattle.column_laws.specs.Workable.{Workable};
+use couple_tiles::couple_rows;
+use fills::fill::fill_entries;
+use fills::fill::fill_numbers;
+use fills::fill::fill_upper;
+use model::ColumnEnd;
+use model::Sizes;
+use pivots::couple_pivot;
+use places::place::ended;
+use places::place::list_start;
+use places::place::tile_start;
+
+// Works column c of T-3(k,i).
+pub fn couple_column(
+    z: Sizes,
+    matrix: &mut [f64],
+    lists: &mut [u8],
+    k: usize,
+    i: usize,
+    c: usize,
+) -> ColumnEnd
+    requires { ⌜ Workable z (T-3 k i) c (now matrix) (now lists) ⌝ }
+    ensures { λ r. ⌜ record { left = record { matrix = now (matrix .exit); lists = now (lists .exit) }; mark = markOf r }
+        ≡ columnEnds (planOf z) (T-3 k i) c (record { matrix = now (matrix .entry); lists = now (lists .entry) }) ⌝ }
+{
+    let n = z.tiles;
+    let t = z.side;
+    let u = tile_start(n, t, k, k);
+    let d = tile_start(n, t, i, k);
+    let p = list_start(n, t, i, k);
+    let found = couple_pivot(matrix, t, u, d, c);
+    let e = found.place;
+    let size = found.magnitude;
+    if size == 0.0 {
+        lists[p + c] = 0;
+        return ended(t, c);
+    }
+    lists[p + c] = e as u8;
+    if couple_rows(matrix, t, u, d, c, e) {
+        return ended(t, c);
+    }
+    fill_numbers(matrix, d, t * t);
+    fill_upper(matrix, u, t);
+    fill_entries(lists, p, t);
+    ColumnEnd::Failed
+}

@@ -1,2 +1,0 @@
-pub mod Swapped
-pub mod Updated

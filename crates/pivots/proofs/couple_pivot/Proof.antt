@@ -1,0 +1,48 @@
+-- `couple_pivot` meets its contract: the candidates are the upper diagonal element and the lower column. Assumes nothing.
+use borrow.Author.Needs.{needs}
+use mathlib.Core.Path.{refl, _∙_}
+use Prim.Native.Nat.{_+_, _*_, _≤_}
+use native.Mathlib.Omega.{arith}
+use denote.Ref.{now}
+use Rattle.column_laws.proofs.Rows.{row-room}
+use Rattle.column_laws.proofs.Pivots.{couple-search}
+use Rattle.pivots.proofs.couple_pivot.Statement.{statement}
+use Rattle.pivots.proofs.couple_pivot.Tie as tie
+
+room-here : (c : tie.After-shared-slice-known) → c .before .args .c * c .before .args .t + c .before .args .t ≤ c .before .args .t * c .before .args .t
+room-here c = let a = c .before .args in row-room (a .t) (a .t) (a .c) (c .before .pre .1)
+
+room : (c : tie.After-shared-slice-known) → c .before .args .u + (c .before .args .c * c .before .args .t + c .before .args .t) ≤ 65536
+room c = omega (arith, c .before .pre .0, room-here c)
+
+mul-search-pivot : tie.Need-mul-search-pivot
+mul-search-pivot c = omega (arith, room c)
+
+add-search-pivot : tie.Need-add-search-pivot
+add-search-pivot c = omega (arith, room c)
+
+add-search-pivot-2 : tie.Need-add-search-pivot-2
+add-search-pivot-2 c = omega (arith, room c)
+
+add-search-pivot-3 : tie.Need-add-search-pivot-3
+add-search-pivot-3 c = search needs
+
+search-pivot-requires : tie.Need-search-pivot-requires
+search-pivot-requires c κs = omega (arith, c .before .pre .0, c .before .pre .1, room-here c)
+
+returns : tie.Need-returns
+returns c =
+    let a = c .before .before .args in
+    let b = c .before .before .pre .0 in
+    c .search-pivot .ensures ∙ couple-search (a .t) (a .c) (a .u) (a .d) (c .before .before .pre .1) (now (a .m)) (b .upper-room) (b .lower-room) _ _ refl refl
+
+pub couple-pivot-spec : {M : Type 1} → statement M
+couple-pivot-spec =
+    tie.close
+    (tie.spec
+    mul-search-pivot
+    add-search-pivot
+    add-search-pivot-2
+    add-search-pivot-3
+    search-pivot-requires
+    returns)

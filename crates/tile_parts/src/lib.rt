@@ -1,0 +1,19 @@
+// A tile as a part of the matrix.
+ghost use mathlib.Core.Path.{_≡_};
+ghost use Prim.Native.Nat.{_*_, _<_, _≤_};
+ghost use lib.ListN.{length};
+ghost use Rattle.model.specs.Buffer.{tile as tileOf};
+use model::Sizes;
+use places::place::tile_start;
+
+// The t² numbers of tile (i,j).
+pub fn tile(matrix: &[f64], z: Sizes, i: usize, j: usize) -> &[f64]
+    requires { ⌜ (z .tiles ≤ 16) × (z .side ≤ 16) × (i < z .tiles) × (j < z .tiles) × (length (now matrix) ≡ z .tiles * z .side * (z .tiles * z .side)) ⌝ }
+    ensures { λ r. ⌜ now r ≡ tileOf (z .tiles) (z .side) (now (matrix .entry)) i j ⌝ }
+{
+    let n = z.tiles;
+    let t = z.side;
+    let s = t * t;
+    let a = tile_start(n, t, i, j);
+    &matrix[a..a + s]
+}
