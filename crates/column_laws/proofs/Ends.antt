@@ -18,7 +18,7 @@ use Rattle.model.specs.Task.{Task, T-1, T-2, T-3, T-4}
 use Rattle.model.specs.Links.{taken, done, failed}
 use Rattle.model.specs.Plan.{Plan, plan}
 use Rattle.model.specs.Buffer.{Buffers, tile, putTile, putRows, tileOf, withTile, withRows, worked, sound, fillTile, fillRows, upperFilled, fillUpper, filled, columnEnds}
-use Rattle.fills.specs.Zeroed.{upperZeroed}
+use Rattle.upper_fills.specs.Zeroed.{upperZeroed}
 use Rattle.laws.proofs.Parts.{Apart, Fits, length-put, part-put, put-put}
 use Rattle.laws.proofs.Blocks.{block-cong}
 use Rattle.column_laws.specs.Steps.{tileStart, listStart, RowsApplied, applied, appliedComputes, RowsPaired, paired, pairedComputes, upperAt, lowerAt, withTwo, TileFactored, factored, exchangedAt, TilesCoupled, eliminatedRows}

@@ -15,7 +15,7 @@ use Rattle.model.specs.Lists.{run, below, table, part}
 use Rattle.model.specs.Num.{finite, isZero, quotient}
 use Rattle.model.specs.Tile.{at, swapped, exchanged, allFinite}
 use Rattle.model.specs.Column.{search, factorCandidates, factorPivot, coupleCandidates, couplePivot, upperExchanged, lowerExchanged}
-use Rattle.numbers.specs.Candidates.{candidates}
+use Rattle.pivot_search.specs.Candidates.{candidates}
 use Rattle.laws.proofs.Blocks.{length-table, getD-table, at-block}
 use Rattle.float_laws.proofs.Rounding.{within}
 use Rattle.float_laws.proofs.Quotient.{within-finite}

@@ -7,13 +7,13 @@ ghost use Rattle.column_laws.specs.Workable.{Workable};
 use couple_tiles::couple_rows;
 use fills::fill::fill_entries;
 use fills::fill::fill_numbers;
-use fills::fill::fill_upper;
 use model::ColumnEnd;
 use model::Sizes;
 use pivots::couple_pivot;
 use places::place::ended;
 use places::place::list_start;
 use places::place::tile_start;
+use upper_fills::fill_upper;
 
 // Works column c of T-3(k,i).
 pub fn couple_column(

@@ -8,11 +8,11 @@ ghost use Rattle.model.specs.Buffer.{tile, putTile, putRows, upperFilled, fille
 ghost use Rattle.checks.specs.Checks.{Sized, MatrixFits, ListsFit, Inside, taskFrom};
 use fills::fill::fill_entries;
 use fills::fill::fill_numbers;
-use fills::fill::fill_upper;
 use model::Sizes;
 use model::TaskRecord;
 use places::place::list_start;
 use places::place::tile_start;
+use upper_fills::fill_upper;
 
 // Fills tile (i,j).
 fn fill_tile(z: Sizes, matrix: &mut [f64], i: usize, j: usize)

@@ -1,3 +1,2 @@
-// Single numbers, and the pivot search.
+// Single numbers.
 pub mod number;
-pub mod search;

@@ -5,7 +5,7 @@ ghost use Rattle.model.specs.Lists.{part};
 ghost use Rattle.model.specs.Column.{factorPivot, couplePivot};
 ghost use Rattle.column_laws.specs.Room.{Block, TwoBlocks};
 use model::Pivot;
-use numbers::search::search_pivot;
+use pivot_search::search_pivot;
 
 // T-1's pivot of column c of the tile at a: its row counts from c.
 pub fn factor_pivot(m: &[f64], t: usize, a: usize, c: usize) -> Pivot

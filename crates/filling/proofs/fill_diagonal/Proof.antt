@@ -6,7 +6,7 @@ use borrow.Author.Needs.{needs}
 use Rattle.model.specs.Lists.{part, withPart}
 use Rattle.model.specs.Plan.{plan}
 use Rattle.model.specs.Buffer.{tile, putTile, upperFilled}
-use Rattle.fills.specs.Zeroed.{upperZeroed}
+use Rattle.upper_fills.specs.Zeroed.{upperZeroed}
 use Rattle.checks.proofs.Laws.{tile-fits}
 use Rattle.filling.proofs.fill_diagonal.Statement.{statement}
 use Rattle.filling.proofs.fill_diagonal.Tie as tie

@@ -1,4 +1,4 @@
--- `numbers::search::search_pivot` meets its contract: the search from the best so far on is the whole search. Assumes nothing.
+-- `search_pivot` meets its contract: the search from the best so far on is the whole search. Assumes nothing.
 use mathlib.Core.Path.{_≡_, sym, ap, _∙_}
 use mathlib.Core.Logic.{inl, inr}
 use mathlib.Core.Bool.{true, false}
@@ -16,9 +16,9 @@ use Rattle.model.specs.Lists.{run, below, table}
 use Rattle.model.specs.Num.{magnitude, exceeds}
 use Rattle.model.specs.Column.{better, searchFrom, search}
 use Rattle.float_laws.proofs.Finite.{magnitude-twice}
-use Rattle.numbers.specs.Candidates.{candidates}
-use Rattle.numbers.proofs.search.search_pivot.Statement.{statement}
-use Rattle.numbers.proofs.search.search_pivot.Tie as tie
+use Rattle.pivot_search.specs.Candidates.{candidates}
+use Rattle.pivot_search.proofs.search_pivot.Statement.{statement}
+use Rattle.pivot_search.proofs.search_pivot.Tie as tie
 
 -- the search over the candidates from i on, with the best so far
 unfoldable searchedOn : List Float → ℕ → ℕ → ℕ → ℕ → Pivot → Pivot

@@ -1,4 +1,4 @@
--- `fills::fill::fill_upper` meets its contract: after r turns the first r rows are done. Assumes nothing.
+-- `fill_upper` meets its contract: after r turns the first r rows are done. Assumes nothing.
 use mathlib.Core.Path.{_≡_, sym, ap, _∙_, subst}
 use mathlib.Core.Logic.{inr, ⊎-elim}
 use mathlib.Core.Bool.{cond}
@@ -17,10 +17,10 @@ use Rattle.model.specs.Tile.{at, block, zeros}
 use Rattle.laws.proofs.Tests.{lt-or-le}
 use Rattle.laws.proofs.Blocks.{getD-table, length-block, row-of, column-of, in-block, row-below, column-below, row-end}
 use Rattle.laws.proofs.Parts.{Fits, length-put, get-in, get-before, get-after}
-use Rattle.fills.specs.Zeroed.{upperZeroed}
+use Rattle.upper_fills.specs.Zeroed.{upperZeroed}
 use Rattle.fills.proofs.Stores.{Stored, stored-none, stored-join, stored-is, getD-part}
-use Rattle.fills.proofs.fill.fill_upper.Statement.{statement}
-use Rattle.fills.proofs.fill.fill_upper.Tie as tie
+use Rattle.upper_fills.proofs.fill_upper.Statement.{statement}
+use Rattle.upper_fills.proofs.fill_upper.Tie as tie
 
 -- row r, column q of the tile at start: +0 on the diagonal and above
 abbrev cell : ℕ → ℕ → List Float → ℕ → ℕ → Float

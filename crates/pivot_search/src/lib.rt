@@ -1,11 +1,11 @@
-// The pivot search.
+// The pivot search, on a slice with offsets.
 ghost use mathlib.Core.Path.{_≡_};
 ghost use Prim.Native.Nat.{_+_, _*_, _<_, _≤_};
 ghost use lib.ListN.{length};
 ghost use Rattle.model.specs.Column.{search};
-ghost use Rattle.numbers.specs.Candidates.{candidates};
-use crate::number::magnitude_of;
+ghost use Rattle.pivot_search.specs.Candidates.{candidates};
 use model::Pivot;
+use numbers::number::magnitude_of;
 
 // The candidate of largest magnitude, the first on a tie, among the number at first and count numbers from rest on, stride apart.
 pub fn search_pivot(m: &[f64], first: usize, rest: usize, stride: usize, count: usize) -> Pivot
