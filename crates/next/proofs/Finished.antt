@@ -10,8 +10,8 @@ use Rattle.model.specs.Lists.{below, every, some, keep, firstOr}
 use Rattle.model.specs.Links.{mark, finished}
 use Rattle.records.specs.Records.{marksFrom}
 use Rattle.records.proofs.Laws.{length-marks}
-use Rattle.checks.specs.declared.elements.Lowest.{Lowest}
-use Rattle.checks.specs.declared.elements.Lowest.the-variants.{None, At}
+use Rattle.finite_numbers.specs.declared.Lowest.{Lowest}
+use Rattle.finite_numbers.specs.declared.Lowest.the-variants.{None, At}
 use Rattle.checks.proofs.Searches.{every-places, every-is-none}
 
 -- whether something was found

@@ -9,7 +9,7 @@ ghost use Rattle.model.specs.Links.{taken, finished};
 ghost use Rattle.model.specs.Calls.{holding, marked};
 ghost use Rattle.records.specs.Records.{recordsFrom, marksFrom};
 ghost use Rattle.next.specs.Next.{Passed, LowestReady, NextBusy};
-use checks::elements::Lowest;
+use finite_numbers::Lowest;
 use graph::is_ready;
 use model::RunAnswer;
 use model::Worker;

@@ -29,8 +29,8 @@ use Rattle.numbering.specs.declared.Triple.{Triple}
 use Rattle.records.specs.Records.{recordsFrom, lent}
 use Rattle.records.proofs.Laws.{length-records}
 use Rattle.checks.specs.Checks.{Sized}
-use Rattle.checks.specs.declared.elements.Lowest.{Lowest}
-use Rattle.checks.specs.declared.elements.Lowest.the-variants.{None, At}
+use Rattle.finite_numbers.specs.declared.Lowest.{Lowest}
+use Rattle.finite_numbers.specs.declared.Lowest.the-variants.{None, At}
 use Rattle.checks.proofs.Laws.{sized}
 use Rattle.answers.specs.Answers.{accepts}
 use Rattle.answers.proofs.Refusals.{refuses, passes, is-accepted, not-accepted, Fit, lengths-fit}

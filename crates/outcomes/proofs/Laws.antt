@@ -24,8 +24,8 @@ use Rattle.model.specs.Refusal.{outcomeReplied, badSizes, badLengths, unfinishe
 use Rattle.laws.proofs.Blocks.{in-block, row-below, column-below}
 use Rattle.records.specs.Records.{marksFrom, lent}
 use Rattle.checks.specs.Checks.{Sized}
-use Rattle.checks.specs.declared.elements.Lowest.{Lowest}
-use Rattle.checks.specs.declared.elements.Lowest.the-variants.{None, At}
+use Rattle.finite_numbers.specs.declared.Lowest.{Lowest}
+use Rattle.finite_numbers.specs.declared.Lowest.the-variants.{None, At}
 use Rattle.checks.proofs.Laws.{small, tile-fits}
 use Rattle.answers.proofs.Refusals.{refuses, passes, Fit, lengths-fit}
 

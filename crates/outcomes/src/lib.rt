@@ -4,7 +4,7 @@ ghost use Rattle.model.specs.Refusal.{outcomeCall};
 ghost use Rattle.records.specs.Records.{lent};
 use crate::found::first_unfinished;
 use crate::found::outcome_of;
-use checks::elements::Lowest;
+use finite_numbers::Lowest;
 use checks::sizes::bad_lengths;
 use checks::sizes::bad_sizes;
 use model::OutcomeAnswer;

@@ -3,7 +3,7 @@ ghost use mathlib.Core.Path.{_≡_};
 ghost use lib.ListN.{drop};
 ghost use Rattle.model.specs.Refusal.{runAnswer, runCall};
 ghost use Rattle.records.specs.Records.{lent};
-use checks::elements::all_finite;
+use finite_numbers::all_finite;
 use checks::sizes::bad_lengths;
 use checks::sizes::bad_sizes;
 use damage::damaged;

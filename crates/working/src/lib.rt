@@ -5,7 +5,7 @@ ghost use Rattle.model.specs.Refusal.{columnAnswer, columnCall};
 ghost use Rattle.records.specs.Records.{lent};
 use advancing::advance_worker;
 use answers::accepted;
-use checks::elements::bad_tiles;
+use task_tiles::bad_tiles;
 use model::Answer;
 use model::CallReply;
 use model::Sizes;

@@ -11,7 +11,7 @@ use Rattle.model.specs.Links.{mark, failed}
 use Rattle.model.specs.Loops.{failedTasks}
 use Rattle.records.specs.Records.{marksFrom}
 use Rattle.records.proofs.Laws.{length-marks}
-use Rattle.checks.specs.declared.elements.Lowest.the-variants.{None, At}
+use Rattle.finite_numbers.specs.declared.Lowest.the-variants.{None, At}
 use Rattle.outcomes.proofs.Laws.{firstFrom, first-begins, first-stops, first-goes-on, first-ends}
 use Rattle.outcomes.proofs.found.first_failed.Statement.{statement}
 use Rattle.outcomes.proofs.found.first_failed.Tie as tie

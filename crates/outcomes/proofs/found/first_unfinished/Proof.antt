@@ -8,7 +8,7 @@ use lib.ListN.{length}
 use Rattle.model.specs.Lists.{below, keep, firstOr}
 use Rattle.model.specs.Links.{mark, finished}
 use Rattle.records.specs.Records.{marksFrom}
-use Rattle.checks.specs.declared.elements.Lowest.the-variants.{None, At}
+use Rattle.finite_numbers.specs.declared.Lowest.the-variants.{None, At}
 use Rattle.outcomes.proofs.Laws.{firstFrom, first-begins, first-stops, first-goes-on, first-ends}
 use Rattle.outcomes.proofs.found.first_unfinished.Statement.{statement}
 use Rattle.outcomes.proofs.found.first_unfinished.Tie as tie

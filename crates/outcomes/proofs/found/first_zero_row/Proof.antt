@@ -9,7 +9,7 @@ use Rattle.model.specs.Num.{isZero}
 use Rattle.model.specs.Plan.{plan, planOf, order}
 use Rattle.model.specs.Buffer.{element}
 use Rattle.model.specs.Loops.{zeroRows}
-use Rattle.checks.specs.declared.elements.Lowest.the-variants.{None, At}
+use Rattle.finite_numbers.specs.declared.Lowest.the-variants.{None, At}
 use Rattle.checks.proofs.Laws.{small}
 use Rattle.outcomes.proofs.Laws.{firstFrom, first-begins, first-stops, first-goes-on, first-ends}
 use Rattle.outcomes.proofs.found.first_zero_row.Statement.{statement}

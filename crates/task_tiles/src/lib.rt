@@ -1,47 +1,15 @@
-// Refusal 3, and what refusal 4 says of elements: numbers that aren't finite.
+// Refusal 4's test of the tiles that a task touches: an element that isn't finite.
 ghost use mathlib.Core.Path.{_≡_};
-ghost use mathlib.Core.Bool.{cond, not, _&&_};
+ghost use mathlib.Core.Bool.{not, _&&_};
 ghost use mathlib.Core.List.{List};
 ghost use Prim.Native.Nat.{ℕ, _<_};
 ghost use Rattle.model.specs.Tile.{allFinite};
 ghost use Rattle.model.specs.Plan.{planOf};
 ghost use Rattle.model.specs.Buffer.{tile, finiteTiles};
-ghost use Rattle.model.specs.Refusal.{firstNotFinite};
-ghost use Rattle.checks.specs.declared.elements.Lowest.the-variants.{None, At};
 ghost use Rattle.checks.specs.Checks.{Sized, MatrixFits, Inside, taskFrom};
+use finite_numbers::all_finite;
 use model::Sizes;
 use model::TaskRecord;
-use numbers::number::is_finite;
-
-// The lowest offset of a number that isn't finite, where there is one.
-pub enum Lowest {
-    None,
-    At(usize),
-}
-
-pub fn first_not_finite(numbers: &[f64]) -> Lowest
-    ensures { λ r. ⌜ r ≡ cond (allFinite (now (numbers .entry))) None (At (firstNotFinite (now (numbers .entry)))) ⌝ }
-{
-    let mut x = 0;
-    while x < numbers.len() {
-        if !is_finite(numbers[x]) {
-            return Lowest::At(x);
-        }
-        x += 1;
-    }
-    Lowest::None
-}
-
-// Whether every number is finite.
-pub fn all_finite(numbers: &[f64]) -> bool
-    ensures { λ r. ⌜ r ≡ allFinite (now (numbers .entry)) ⌝ }
-{
-    let found = first_not_finite(numbers);
-    match found {
-        Lowest::None => true,
-        Lowest::At(_) => false,
-    }
-}
 
 // Whether every element of tile A(i,j) is finite.
 fn finite_tile(z: Sizes, matrix: &[f64], i: usize, j: usize) -> bool

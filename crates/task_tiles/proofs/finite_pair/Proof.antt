@@ -2,8 +2,8 @@
 use mathlib.Core.Path.{sym, _∙_}
 use borrow.Author.Tests.{not-true, not-false}
 use borrow.Author.Needs.{needs}
-use Rattle.checks.proofs.elements.finite_pair.Statement.{statement}
-use Rattle.checks.proofs.elements.finite_pair.Tie as tie
+use Rattle.task_tiles.proofs.finite_pair.Statement.{statement}
+use Rattle.task_tiles.proofs.finite_pair.Tie as tie
 
 finite-tile-requires : tie.Need-finite-tile-requires
 finite-tile-requires c κs = search needs

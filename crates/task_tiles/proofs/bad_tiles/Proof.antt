@@ -1,9 +1,9 @@
 -- Each kind's tiles are looked at once. Assumes nothing.
 use borrow.Author.Tests.{not-true, not-false}
 use borrow.Author.Needs.{needs}
-use Rattle.checks.proofs.Laws.{tiles-1, tiles-2, tiles-3, tiles-4, tiles-5}
-use Rattle.checks.proofs.elements.bad_tiles.Statement.{statement}
-use Rattle.checks.proofs.elements.bad_tiles.Tie as tie
+use Rattle.task_tiles.proofs.Laws.{tiles-1, tiles-2, tiles-3, tiles-4, tiles-5}
+use Rattle.task_tiles.proofs.bad_tiles.Statement.{statement}
+use Rattle.task_tiles.proofs.bad_tiles.Tie as tie
 
 cast-k : tie.Need-cast-k
 cast-k c = search needs

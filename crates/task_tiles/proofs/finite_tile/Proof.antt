@@ -2,9 +2,10 @@
 use native.Mathlib.Omega.{arith}
 use borrow.Author.Needs.{needs}
 use Rattle.laws.proofs.Blocks.{in-block}
-use Rattle.checks.proofs.Laws.{small, tile-fits, tile-cut}
-use Rattle.checks.proofs.elements.finite_tile.Statement.{statement}
-use Rattle.checks.proofs.elements.finite_tile.Tie as tie
+use Rattle.checks.proofs.Laws.{small, tile-fits}
+use Rattle.task_tiles.proofs.Laws.{tile-cut}
+use Rattle.task_tiles.proofs.finite_tile.Statement.{statement}
+use Rattle.task_tiles.proofs.finite_tile.Tie as tie
 
 mul-size : tie.Need-mul-size
 mul-size c = omega (arith, small _ _ (c .before .before .pre .0 .few-tiles) (c .before .before .pre .0 .small-side))

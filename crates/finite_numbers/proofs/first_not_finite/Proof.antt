@@ -8,10 +8,10 @@ use borrow.Author.Needs.{needs}
 use Rattle.model.specs.Refusal.{firstNotFinite}
 use Rattle.model.specs.Tile.{allFinite}
 use Rattle.model.specs.Lists.{run}
-use Rattle.checks.specs.declared.elements.Lowest.the-variants.{None, At}
-use Rattle.checks.proofs.Laws.{isBroken, lowest, lowest-begins, lowest-stops, lowest-goes-on, lowest-ends}
-use Rattle.checks.proofs.elements.first_not_finite.Statement.{statement}
-use Rattle.checks.proofs.elements.first_not_finite.Tie as tie
+use Rattle.finite_numbers.specs.declared.Lowest.the-variants.{None, At}
+use Rattle.finite_numbers.proofs.Laws.{isBroken, lowest, lowest-begins, lowest-stops, lowest-goes-on, lowest-ends}
+use Rattle.finite_numbers.proofs.first_not_finite.Statement.{statement}
+use Rattle.finite_numbers.proofs.first_not_finite.Tie as tie
 
 abbrev Inv-loop : tie.InvT-loop
 Inv-loop numbers x₀ x =

@@ -1,8 +1,8 @@
 -- What was found tells whether all are finite. Assumes nothing.
 use borrow.Author.Needs.{needs}
-use Rattle.checks.proofs.Laws.{found-none, found-at}
-use Rattle.checks.proofs.elements.all_finite.Statement.{statement}
-use Rattle.checks.proofs.elements.all_finite.Tie as tie
+use Rattle.finite_numbers.proofs.Laws.{found-none, found-at}
+use Rattle.finite_numbers.proofs.all_finite.Statement.{statement}
+use Rattle.finite_numbers.proofs.all_finite.Tie as tie
 
 first-not-finite-requires : tie.Need-first-not-finite-requires
 first-not-finite-requires c κs = search needs
