@@ -7,7 +7,7 @@ use model::Sizes;
 use model::Worker;
 use numbering::task_count;
 use opening::open;
-use outcomes::found::outcome_of;
+use failures::outcome_of;
 use runs::run;
 
 // Worker slots for an opening.

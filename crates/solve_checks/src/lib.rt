@@ -21,8 +21,8 @@ use model::Answer;
 use model::Outcome;
 use model::Sizes;
 use model::Worker;
-use outcomes::found::first_unfinished;
-use outcomes::found::outcome_of;
+use unfinished::first_unfinished;
+use failures::outcome_of;
 
 // Refusal 3.
 fn right_answer(right: &[f64]) -> Answer

@@ -4,7 +4,7 @@ ghost use lib.ListN.{drop};
 ghost use Rattle.model.specs.Refusal.{takeAnswer, takeCall};
 ghost use Rattle.records.specs.Records.{lent};
 use answers::accepted;
-use graph::is_ready;
+use readiness::is_ready;
 use model::Answer;
 use model::CallReply;
 use model::Sizes;
