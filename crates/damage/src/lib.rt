@@ -20,7 +20,7 @@ use numbering::next;
 use numbering::record_of;
 use numbering::task_count;
 use records::record_at;
-use workers::bad_holds;
+use holds::bad_holds;
 use workers::bad_workers;
 
 // Whether a record differs from the one due in more than its mark, or its mark exceeds 4.

@@ -2,9 +2,9 @@
 use mathlib.Core.Path.{sym, _∙_}
 use borrow.Author.Needs.{needs}
 use Rattle.checks.proofs.Laws.{sized}
-use Rattle.opening.proofs.Laws.{answer-1, answer-2, answer-3, answer-4}
-use Rattle.opening.proofs.open_answer.Statement.{statement}
-use Rattle.opening.proofs.open_answer.Tie as tie
+use Rattle.open_checks.proofs.Laws.{answer-1, answer-2, answer-3, answer-4}
+use Rattle.open_checks.proofs.open_answer.Statement.{statement}
+use Rattle.open_checks.proofs.open_answer.Tie as tie
 
 bad-sizes-requires : tie.Need-bad-sizes-requires
 bad-sizes-requires c κs = search needs

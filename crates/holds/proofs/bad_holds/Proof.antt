@@ -10,9 +10,9 @@ use Rattle.model.specs.Task.{tasks}
 use Rattle.model.specs.Lists.{run, below, some}
 use Rattle.checks.proofs.Searches.{some-begins, some-stops, some-goes-on, some-ends}
 use Rattle.checks.specs.Checks.{held}
-use Rattle.workers.proofs.Laws.{hold-free, hold-bad, hold-good}
-use Rattle.workers.proofs.bad_holds.Statement.{statement}
-use Rattle.workers.proofs.bad_holds.Tie as tie
+use Rattle.holds.proofs.Laws.{hold-free, hold-bad, hold-good}
+use Rattle.holds.proofs.bad_holds.Statement.{statement}
+use Rattle.holds.proofs.bad_holds.Tie as tie
 
 abbrev Inv-loop : tie.InvT-loop
 Inv-loop z records workers count p₀ p =

@@ -1,9 +1,9 @@
 -- A busy worker holds the task that it names. Assumes nothing.
 use borrow.Author.Tests.{not-true, not-false}
 use borrow.Author.Needs.{needs}
-use Rattle.workers.proofs.Laws.{holds-not, holds-this}
-use Rattle.workers.proofs.holds.Statement.{statement}
-use Rattle.workers.proofs.holds.Tie as tie
+use Rattle.holds.proofs.Laws.{holds-not, holds-this}
+use Rattle.holds.proofs.holds.Statement.{statement}
+use Rattle.holds.proofs.holds.Tie as tie
 
 returns : tie.Need-returns
 returns c = holds-not _ (c .before .before .args .h) (not-true _ (c .if1 .taken))

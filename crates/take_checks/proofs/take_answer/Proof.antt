@@ -5,9 +5,9 @@ use borrow.Author.Needs.{needs}
 use borrow.Author.Tests.{not-true, not-false}
 use lib.ListN.{length}
 use Rattle.call_laws.proofs.Undamaged.{recorded}
-use Rattle.taking.proofs.Laws.{state-stops, is-sound, no-worker, busy-worker, no-task, not-ready, is-ready}
-use Rattle.taking.proofs.take_answer.Statement.{statement}
-use Rattle.taking.proofs.take_answer.Tie as tie
+use Rattle.take_checks.proofs.Laws.{state-stops, is-sound, no-worker, busy-worker, no-task, not-ready, is-ready}
+use Rattle.take_checks.proofs.take_answer.Statement.{statement}
+use Rattle.take_checks.proofs.take_answer.Tie as tie
 
 state-answer-requires : tie.Need-state-answer-requires
 state-answer-requires c κs = search needs

@@ -7,9 +7,9 @@ use lib.ListN.{length}
 use Rattle.records.specs.Records.{recordsFrom}
 use Rattle.records.proofs.Laws.{length-records}
 use Rattle.links.specs.Closed.{key, In, number}
-use Rattle.opening.proofs.Laws.{Numbered, number-first, in-first, numbered-step, numbered-all}
-use Rattle.opening.proofs.number_records.Statement.{statement}
-use Rattle.opening.proofs.number_records.Tie as tie
+use Rattle.opened.proofs.Laws.{Numbered, number-first, in-first, numbered-step, numbered-all}
+use Rattle.opened.proofs.number_records.Statement.{statement}
+use Rattle.opened.proofs.number_records.Tie as tie
 
 abbrev Inv-loop : tie.InvT-loop
 Inv-loop records₀ n count a₀ p₀ records a p =

@@ -9,8 +9,8 @@ use Rattle.model.specs.Refusal.{holds}
 use Rattle.model.specs.Calls.{idle}
 use Rattle.model.specs.Lists.{run, below, keep}
 use Rattle.checks.proofs.Searches.{keep-begins, keep-counts, keep-passes, keep-ends, keep-places}
-use Rattle.workers.proofs.holders.Statement.{statement}
-use Rattle.workers.proofs.holders.Tie as tie
+use Rattle.holds.proofs.holders.Statement.{statement}
+use Rattle.holds.proofs.holders.Tie as tie
 
 abbrev Inv-loop : tie.InvT-loop
 Inv-loop w p workers n₀ v₀ n v =

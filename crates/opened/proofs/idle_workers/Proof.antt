@@ -6,9 +6,9 @@ use borrow.Author.Needs.{needs}
 use lib.ListN.{length, take, drop, replicate, length-set}
 use lib.Seq.{drop-set-lt}
 use Rattle.model.specs.Calls.{idle}
-use Rattle.opening.proofs.Laws.{idle-more}
-use Rattle.opening.proofs.idle_workers.Statement.{statement}
-use Rattle.opening.proofs.idle_workers.Tie as tie
+use Rattle.opened.proofs.Laws.{idle-more}
+use Rattle.opened.proofs.idle_workers.Statement.{statement}
+use Rattle.opened.proofs.idle_workers.Tie as tie
 
 abbrev Inv-loop : tie.InvT-loop
 Inv-loop w left₀ v₀ left v = (v ≤ w) × (length left ≡ 32) × (take v left ≡ replicate v idle) × (drop w left ≡ drop w left₀)
