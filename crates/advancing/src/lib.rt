@@ -12,7 +12,7 @@ ghost use Rattle.advancing.specs.Advancing.{Advanced, Working};
 use marks::is_finished;
 use model::Sizes;
 use model::Worker;
-use records::set_mark;
+use record_changes::set_mark;
 use task_columns::work_task;
 
 // The worker after a column that left its task with this mark.

@@ -9,7 +9,7 @@ ghost use Rattle.records.specs.Records.{recordsFrom};
 ghost use Rattle.next_task.specs.NextTask.{Passed, LowestReady};
 use model::Worker;
 use readiness::is_ready;
-use records::set_mark;
+use record_changes::set_mark;
 
 // The lowest ready task, where none below `from` is ready: the number of tasks where there is none.
 pub fn lowest_ready(n: usize, records: &[[u8; 5]], from: usize) -> usize

@@ -13,7 +13,7 @@ use numbering::first;
 use numbering::next;
 use numbering::record_of;
 use numbering::task_count;
-use records::put_record;
+use record_changes::put_record;
 
 // Sets the records to the numbering and waiting.
 pub fn number_records(z: Sizes, records: &mut [[u8; 5]])

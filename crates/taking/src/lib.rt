@@ -7,7 +7,7 @@ use answers::accepted;
 use model::CallReply;
 use model::Sizes;
 use model::Worker;
-use records::set_mark;
+use record_changes::set_mark;
 use take_checks::take_answer;
 
 // Worker w takes task p. Of the 32 worker slots the first z.workers are lent, and the others stay as they are.

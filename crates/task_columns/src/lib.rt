@@ -19,11 +19,11 @@ use columns::couple::couple_column;
 use columns::factor::factor_column;
 use columns::pair::pair_column;
 use filling::fill_task;
-use spoiling::is_spoiled;
 use model::ColumnEnd;
 use model::Sizes;
 use model::TaskRecord;
 use records::record_at;
+use spoiling::is_spoiled;
 
 // The mark that a column's end gives its task.
 fn mark_after(end: ColumnEnd) -> u8

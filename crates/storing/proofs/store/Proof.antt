@@ -1,4 +1,4 @@
--- `task_records::store` meets its contract: a walk of its MIR, by hand, with a loop. The records are opened once, before the loop, and closed once, after it; each turn calls `record_at`, which is covered, and stores what it returns.
+-- `storing::store` meets its contract: a walk of its MIR, by hand, with a loop. The records are opened once, before the loop, and closed once, after it; each turn calls `record_at`, which is covered, and stores what it returns.
 -- Assumes nothing.
 use mathlib.Core.Path.{_≡_, refl, sym, _∙_, ap, subst}
 use Prim.Native.Nat.{ℕ, zero, suc, _+_, _-_, _*_, _<_, _≤_, _^_, zero-le}
@@ -52,18 +52,18 @@ use denote.Triple.Walked.{says, needs, Stays, stay-slice, stay-none-slice, stay-
 use denote.Exit.{yes}
 use Rattle.model.specs.declared.TaskRecord.{TaskRecord}
 use Rattle.records.specs.Records.{blank, recordsFrom}
 use Rattle.task_records.specs.Copies.{copied}
 use Rattle.model.proofs.TaskRecord.Laws as T′
 use Rattle.task_records.proofs.Shelf.{R, P, Typed, val, vals, tells, sh, mk, typed, place-5, offset-fits}
 use Rattle.records.proofs.record_at as get
 use Rattle.records.proofs.record_at.Symbol as get-def
 use Rattle.records.proofs.record_at.Symbol.{name as #get}
 use Rattle.records.proofs.record_at.Met as get-thm
-use Rattle.task_records.proofs.store.Key.{name as #f}
-use Rattle.task_records.proofs.store as f
-use Rattle.task_records.proofs.store.Statement as stated
-use Rattle.task_records.proofs.store.Code as code
-use Rattle.task_records.proofs.store.Code.Mir as text
+use Rattle.storing.proofs.store.Key.{name as #f}
+use Rattle.storing.proofs.store as f
+use Rattle.storing.proofs.store.Statement as stated
+use Rattle.storing.proofs.store.Code as code
+use Rattle.storing.proofs.store.Code.Mir as text
 
 -- five bytes
 abbrev B : RattleType

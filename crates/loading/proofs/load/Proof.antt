@@ -1,4 +1,4 @@
--- `task_records::load` meets its contract: a walk of its MIR, by hand, with a loop. The records are looked into once, before the loop, and shut once, after it; each turn reads a record and lends the bytes to `put_record`, which is covered, for a lifetime that is made for the call.
+-- `loading::load` meets its contract: a walk of its MIR, by hand, with a loop. The records are looked into once, before the loop, and shut once, after it; each turn reads a record and lends the bytes to `put_record`, which is covered, for a lifetime that is made for the call.
 -- Assumes nothing.
 use mathlib.Core.Path.{_≡_, refl, sym, _∙_, ap, subst}
 use Prim.Native.Nat.{ℕ, zero, suc, _+_, _-_, _*_, _<_, _≤_, _^_, zero-le}
@@ -54,19 +54,19 @@ use denote.Triple.Walked.{says, needs, Stays, stay-slice, stay-none-slice, stay-
 use denote.Exit.{yes}
 use Rattle.model.specs.declared.TaskRecord.{TaskRecord}
 use Rattle.records.specs.Records.{blank, recordsFrom}
 use Rattle.task_records.specs.Copies.{copied}
 use Rattle.model.proofs.TaskRecord.Laws as T′
-use Rattle.task_records.proofs.Again.{LentAgain, lends-at, back-at}
+use Rattle.loading.proofs.Again.{LentAgain, lends-at, back-at}
 use Rattle.task_records.proofs.Shelf.{R, P, vals, tells, sh, mk, cp, typed, place-5, offset-fits}
-use Rattle.records.proofs.put_record as put
-use Rattle.records.proofs.put_record.Symbol as put-def
-use Rattle.records.proofs.put_record.Symbol.{name as #put}
-use Rattle.records.proofs.put_record.Met as put-thm
-use Rattle.task_records.proofs.load.Key.{name as #f}
-use Rattle.task_records.proofs.load as f
-use Rattle.task_records.proofs.load.Statement as stated
-use Rattle.task_records.proofs.load.Code as code
-use Rattle.task_records.proofs.load.Code.Mir as text
+use Rattle.record_changes.proofs.put_record as put
+use Rattle.record_changes.proofs.put_record.Symbol as put-def
+use Rattle.record_changes.proofs.put_record.Symbol.{name as #put}
+use Rattle.record_changes.proofs.put_record.Met as put-thm
+use Rattle.loading.proofs.load.Key.{name as #f}
+use Rattle.loading.proofs.load as f
+use Rattle.loading.proofs.load.Statement as stated
+use Rattle.loading.proofs.load.Code as code
+use Rattle.loading.proofs.load.Code.Mir as text
 
 -- five bytes
 abbrev B : RattleType
@@ -318,4 +318,4 @@ load-spec 𝓤 H 𝓜 𝓖 𝓡 =
     entered 𝓤 H (tripleOf 𝓤 H (𝓖 .A) f.signature (f.spec 𝓤 H (𝓖 .A) (𝓜 .mem) (𝓡 .run)))
     (tables 𝓤 H 𝓜 𝓡 code.env .C) (tables 𝓤 H 𝓜 𝓡 code.env .Λ) #f code.function (code.unfolded 𝓤 H 𝓜 𝓡)
     (meets 𝓤 H (𝓖 .A) (givenOf 𝓤 H 𝓜 𝓖) (𝓜 .mem) (𝓡 .run) (tablesOf 𝓤 H 𝓜 (tables 𝓤 H 𝓜 𝓡 code.env))
-    (cited 𝓤 H (Put 𝓤 H (𝓖 .A) (𝓜 .mem) (𝓡 .run)) 𝓜 𝓡 code.env #put put-def.routine code.calls-records·put-record (put-thm.met 𝓤 H 𝓜 𝓖 𝓡)))
+    (cited 𝓤 H (Put 𝓤 H (𝓖 .A) (𝓜 .mem) (𝓡 .run)) 𝓜 𝓡 code.env #put put-def.routine code.calls-record-changes·put-record (put-thm.met 𝓤 H 𝓜 𝓖 𝓡)))

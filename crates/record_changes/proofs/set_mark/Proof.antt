@@ -3,10 +3,11 @@ use mathlib.Core.Path.{sym, ap, _∙_}
 use lib.ListN.{length-set, set}
 use borrow.Author.Needs.{needs}
 use Rattle.model.specs.Calls.{withMark}
 use Rattle.records.specs.Records.{recordFrom, recordsFrom}
-use Rattle.records.proofs.Laws.{get-record, set-record, marked-is}
-use Rattle.records.proofs.set_mark.Statement.{statement}
-use Rattle.records.proofs.set_mark.Tie as tie
+use Rattle.records.proofs.Laws.{get-record}
+use Rattle.record_changes.proofs.Laws.{set-record, marked-is}
+use Rattle.record_changes.proofs.set_mark.Statement.{statement}
+use Rattle.record_changes.proofs.set_mark.Tie as tie
 
 mul-b : tie.Need-mul-b
 mul-b c = search needs

@@ -1,10 +1,10 @@
 -- Storing the five bytes stores the record. Assumes nothing.
 use lib.ListN.{length-set}
 use borrow.Author.Needs.{needs}
 use Rattle.records.specs.Records.{recordFrom}
-use Rattle.records.proofs.Laws.{set-record}
-use Rattle.records.proofs.put_record.Statement.{statement}
-use Rattle.records.proofs.put_record.Tie as tie
+use Rattle.record_changes.proofs.Laws.{set-record}
+use Rattle.record_changes.proofs.put_record.Statement.{statement}
+use Rattle.record_changes.proofs.put_record.Tie as tie
 
 mul-t5 : tie.Need-mul-t5
 mul-t5 c = search needs
