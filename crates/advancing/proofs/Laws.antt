@@ -5,8 +5,8 @@ use mathlib.Core.Path.{_≡_, refl, sym, ap, _∙_}
 use mathlib.Core.List.{List}
 use native.Mathlib.Omega.{arith}
 use lib.Ieee.{Float}
-use lib.ListN.{length, getD, set, take, drop}
-use lib.Seq.{take-set-lt, drop-set-lt}
+use lib.ListN.{length, getD, set, take}
+use lib.Seq.{take-set-lt}
 use borrow.Author.Tests.{eq-eqb, ne-eqb, lt-ltb}
 use Rattle.model.specs.declared.Sizes.{Sizes}
 use Rattle.model.specs.declared.Worker.{Worker}
@@ -126,6 +126,3 @@ module _ (z : Sizes) (m : List Float) (l : List ℕ) (r : List (List ℕ)) (ws :
       ∙ ap (moved h) f
       ∙ ap (λ v. moved v (columnOf (planOf z) old (v .task) (v .column))) (e ∙ sym (worker-lent m l r ws (z .workers) w here))
       ∙ advanced-is
-
-  pub others-after : (h : Worker) → drop (z .workers) (set ws w h) ≡ drop (z .workers) ws
-  others-after h = drop-set-lt (z .workers) ws w h here

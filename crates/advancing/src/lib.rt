@@ -9,10 +9,10 @@ ghost use Rattle.model.specs.Calls.{idle, holding, advanced};
 ghost use Rattle.records.specs.Records.{lent};
 ghost use Rattle.task_columns.specs.Due.{ColumnDue};
 ghost use Rattle.advancing.specs.Advancing.{Advanced, Working};
-use graph::is_finished;
+use marks::is_finished;
 use model::Sizes;
 use model::Worker;
-use records::set_mark;
+use record_changes::set_mark;
 use task_columns::work_task;
 
 // The worker after a column that left its task with this mark.

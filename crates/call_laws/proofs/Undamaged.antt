@@ -17,7 +17,7 @@ use Rattle.model.specs.Refusal.{damaged}
 use Rattle.records.specs.Records.{recordsFrom, marksFrom, blank, lent}
 use Rattle.records.proofs.Laws.{length-records}
 use Rattle.links.proofs.Order.{Within, length-tasks, task-within}
-use Rattle.graph.specs.Graph.{Recorded}
+use Rattle.marks.specs.Marks.{Recorded}
 use Rattle.checks.specs.Checks.{Sized, RecordsFit, Inside, taskFrom}
 use Rattle.run_laws.proofs.Undamaged.{Due, Held, due-any, held}
 use Rattle.call_laws.proofs.Named.{named, inside}

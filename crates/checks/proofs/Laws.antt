@@ -1,33 +1,25 @@
--- What the sizes, the lengths, the numbers and a record's kind say, in the form that the code tests them. Assumes nothing.
-use Prim.Native.Nat.{ℕ, suc, _+_, _-_, _*_, _≤_, _<_}
-use mathlib.Core.Path.{_≡_, refl, sym, ap, _∙_}
-use mathlib.Core.Bool.{Bool, true, false, not, cond, _&&_}
+-- What the sizes and the lengths say, in the form that the code tests them, and where a tile ends. Assumes nothing.
+use Prim.Native.Nat.{ℕ, _+_, _*_, _≤_, _<_}
+use mathlib.Core.Path.{_≡_, refl, sym, _∙_}
+use mathlib.Core.Bool.{Bool, true, false, not, _&&_}
 use mathlib.Core.List.{List}
-use native.Mathlib.Nat.{mul-le-mul, mul-le-mul-right, add-sub-cancel-left}
+use native.Mathlib.Nat.{mul-le-mul, mul-le-mul-right}
 use native.Mathlib.Omega.{arith}
 use lib.Dec.{eqb, leb}
-use lib.Ieee.{Float, nan}
-use lib.ListN.{length, getD, take, drop}
-use lib.Seq.{length-take-le, take-length}
+use lib.Ieee.{Float}
+use lib.ListN.{length, take}
+use lib.Seq.{length-take-le}
 use borrow.Author.Tests.{eqb-true, leb-true, lt-leb, le-leb, eq-eqb, ne-eqb, not-false}
 use Rattle.model.specs.declared.Sizes.{Sizes}
-use Rattle.model.specs.declared.TaskRecord.{TaskRecord}
 use Rattle.model.specs.declared.Worker.{Worker}
-use Rattle.model.specs.Lists.{run, below, some, every, keep, firstOr, Lists·open}
-use Rattle.model.specs.Num.{finite}
-use Rattle.model.specs.Tile.{allFinite}
-use Rattle.model.specs.Task.{T-1, T-2, T-3, T-4, tasks, isList, reads, writes, touches}
+use Rattle.model.specs.Task.{tasks}
 use Rattle.model.specs.Plan.{plan, planOf, order}
-use Rattle.model.specs.Buffer.{Buffers, tile, tileOf, finiteIn, finiteTiles}
-use Rattle.model.specs.Refusal.{inside, badSizes, badLengths, firstNotFinite}
+use Rattle.model.specs.Refusal.{inside, badSizes, badLengths}
 use Rattle.laws.proofs.Tests.{and-left, and-right}
 use Rattle.laws.proofs.Blocks.{in-block}
 use Rattle.records.specs.Records.{lent}
 use Rattle.records.proofs.Laws.{length-records}
-use Rattle.checks.specs.Checks.{Sized, MatrixFits, ListsFit, RecordsFit, taskFrom}
-use Rattle.checks.specs.declared.elements.Lowest.{Lowest}
-use Rattle.checks.specs.declared.elements.Lowest.the-variants.{None, At}
-use Rattle.checks.proofs.Searches.{every-places, every-is-none}
+use Rattle.checks.specs.Checks.{Sized, MatrixFits, ListsFit, RecordsFit}
 
 -- ---- sizes
 
@@ -120,126 +112,7 @@ module _ (z : Sizes) (m : List Float) (l : List ℕ) (r : List (List ℕ)) (slot
       let ab = and-left (a && b) c abc in
       (eqb-true _ _ (and-left a b ab), eqb-true _ _ (and-right a b ab), eqb-true _ _ (and-right (a && b) c abc))
 
--- ---- numbers that aren't finite
-
-abbrev pub isBroken : List Float → ℕ → Bool
-isBroken m x = not (finite (getD m x nan))
-
-unfoldable pub lowest : (ℕ → Bool) → List ℕ → Lowest
-lowest f xs = cond (not (some f xs)) None (At (firstOr (keep f xs) (λ x. x) 0))
-
-pub lowest-begins : (m : List Float) → lowest (isBroken m) (run 0 (length m - 0)) ≡ cond (allFinite m) None (At (firstNotFinite m))
-unfolding lowest allFinite firstNotFinite below
-lowest-begins m =
-    let z : length m - 0 ≡ length m = omega arith in
-    let e : every finite m ≡ every (λ x. finite (getD m x nan)) (below (length m)) = rw take-length at (every-places finite (length m) m nan (omega arith)) in
-    rw (z, e, every-is-none (λ x. finite (getD m x nan)) (below (length m)))
-
-module _ (f : ℕ → Bool) (n j : ℕ) (whole : Lowest) where
-  pub lowest-stops : j < n → lowest f (run j (n - j)) ≡ whole → f j ≡ true → At j ≡ whole
-  unfolding lowest Lists·open
-  lowest-stops h e q = let s : n - j ≡ suc (n - suc j) = omega arith in rw (s, q) at e
-
-  pub lowest-goes-on : j < n → lowest f (run j (n - j)) ≡ whole → f j ≡ false → lowest f (run (j + 1) (n - (j + 1))) ≡ whole
-  unfolding lowest Lists·open
-  lowest-goes-on h e q =
-      let s : n - j ≡ suc (n - suc j) = omega arith in
-      let u : j + 1 ≡ suc j = omega arith in
-      rw u (rw (s, q) at e)
-
-  pub lowest-ends : n ≤ j → lowest f (run j (n - j)) ≡ whole → None ≡ whole
-  unfolding lowest Lists·open
-  lowest-ends h e = let s : n - j ≡ 0 = omega arith in rw s at e
-
--- what was found tells whether every number is finite
-pub found-none : (b : Bool) (x : ℕ) (r : Lowest) → r ≡ cond b None (At x) → r ≡ None → true ≡ b
-found-none true x r e q = refl
-found-none false x r e q = let z : _≡_ {A = ℕ} 0 1 = cc in absurd (omega arith)
-
-pub found-at : (b : Bool) (x y : ℕ) (r : Lowest) → r ≡ cond b None (At x) → r ≡ At y → false ≡ b
-found-at true x y r e q = let z : _≡_ {A = ℕ} 0 1 = cc in absurd (omega arith)
-found-at false x y r e q = refl
-
 -- ---- tiles
 
 pub tile-fits : (N t i j : ℕ) → i < N → j < N → (i * N + j) * (t * t) + t * t ≤ N * t * (N * t)
 tile-fits N t i j h g = omega (arith, mul-le-mul-right (t * t) (in-block N N i j h g))
-
--- a part of s numbers from a on, as the code cuts it
-cut : (m : List Float) (a s : ℕ) → take (a + s - a) (drop a m) ≡ take s (drop a m)
-cut m a s = rw (add-sub-cancel-left a s)
-
-pub tile-cut : (N t : ℕ) (m : List Float) (i j : ℕ) (v : Bool)
-    → v ≡ allFinite (take ((i * N + j) * (t * t) + t * t - (i * N + j) * (t * t)) (drop ((i * N + j) * (t * t)) m)) → v ≡ allFinite (tile N t m i j)
-unfolding tile
-tile-cut N t m i j v e = e ∙ ap allFinite (cut m ((i * N + j) * (t * t)) (t * t))
-
-module _ (z : Sizes) (m : List Float) (l : List ℕ) where
-  abbrev F : ℕ → ℕ → Bool
-  F i j = allFinite (tile (z .tiles) (z .side) m i j)
-
-  abbrev s : Buffers
-  s = record { matrix = m; lists = l }
-
-  -- the tiles that each kind touches, each once
-  finite-1 : (k : ℕ) → finiteTiles (planOf z) (T-1 k) s ≡ F k k
-  unfolding finiteTiles finiteIn tileOf touches reads writes isList every plan
-  finite-1 k = go (F k k)
-    where
-      go : (x : Bool) → (x && (true && (x && (true && true)))) ≡ x
-      go true = refl
-      go false = refl
-
-  finite-2 : (k j : ℕ) → finiteTiles (planOf z) (T-2 k j) s ≡ (F k k && F k j)
-  unfolding finiteTiles finiteIn tileOf touches reads writes isList every plan
-  finite-2 k j = go (F k k) (F k j)
-    where
-      go : (x y : Bool) → (x && (true && (y && (y && true)))) ≡ (x && y)
-      go true true = refl
-      go true false = refl
-      go false y = refl
-
-  finite-3 : (k i : ℕ) → finiteTiles (planOf z) (T-3 k i) s ≡ (F k k && F i k)
-  unfolding finiteTiles finiteIn tileOf touches reads writes isList every plan
-  finite-3 k i = go (F k k) (F i k)
-    where
-      go : (x y : Bool) → (x && (y && (true && (x && (y && (true && true)))))) ≡ (x && y)
-      go true true = refl
-      go true false = refl
-      go false y = refl
-
-  finite-4 : (k i j : ℕ) → finiteTiles (planOf z) (T-4 k i j) s ≡ (F i k && (F k j && F i j))
-  unfolding finiteTiles finiteIn tileOf touches reads writes isList every plan
-  finite-4 k i j = go (F i k) (F k j) (F i j)
-    where
-      go : (x y w : Bool) → (x && (true && (y && (w && (y && (w && true)))))) ≡ (x && (y && w))
-      go true true true = refl
-      go true true false = refl
-      go true false w = refl
-      go false y w = refl
-
-  module _ (r : TaskRecord) where
-    pub tiles-1 : r .kind ≡ 1 → (v : Bool) → v ≡ F (r .k) (r .k) → not v ≡ not (finiteTiles (planOf z) (taskFrom r) s)
-    unfolding taskFrom
-    tiles-1 e v q = rw (eq-eqb (r .kind) 1 e) (ap not (q ∙ sym (finite-1 (r .k))))
-
-    module _ (a : r .kind ≡ 1 → ⊥) where
-      pub tiles-2 : r .kind ≡ 2 → (v : Bool) → v ≡ (F (r .k) (r .k) && F (r .k) (r .j)) → not v ≡ not (finiteTiles (planOf z) (taskFrom r) s)
-      unfolding taskFrom
-      tiles-2 e v q = rw (ne-eqb (r .kind) 1 a, eq-eqb (r .kind) 2 e) (ap not (q ∙ sym (finite-2 (r .k) (r .j))))
-
-      module _ (b : r .kind ≡ 2 → ⊥) where
-        pub tiles-3 : r .kind ≡ 3 → (v : Bool) → v ≡ (F (r .k) (r .k) && F (r .i) (r .k)) → not v ≡ not (finiteTiles (planOf z) (taskFrom r) s)
-        unfolding taskFrom
-        tiles-3 e v q = rw (ne-eqb (r .kind) 1 a, ne-eqb (r .kind) 2 b, eq-eqb (r .kind) 3 e) (ap not (q ∙ sym (finite-3 (r .k) (r .i))))
-
-        module _ (c : r .kind ≡ 3 → ⊥) where
-          four : finiteTiles (planOf z) (taskFrom r) s ≡ (F (r .i) (r .k) && (F (r .k) (r .j) && F (r .i) (r .j)))
-          unfolding taskFrom
-          four = rw (ne-eqb (r .kind) 1 a, ne-eqb (r .kind) 2 b, ne-eqb (r .kind) 3 c) (finite-4 (r .k) (r .i) (r .j))
-
-          pub tiles-4 : (v : Bool) → v ≡ F (r .i) (r .k) → v ≡ false → true ≡ not (finiteTiles (planOf z) (taskFrom r) s)
-          tiles-4 v q e = rw (four, sym q ∙ e)
-
-          pub tiles-5 : (v w : Bool) → v ≡ F (r .i) (r .k) → v ≡ true → w ≡ (F (r .k) (r .j) && F (r .i) (r .j)) → not w ≡ not (finiteTiles (planOf z) (taskFrom r) s)
-          tiles-5 v w q e p = rw (four, sym q ∙ e) (ap not p)

@@ -1,3 +1,2 @@
-// The tests behind refusals 1 to 3, and refusal 4's of a task's tiles. Each answers what the definition of its refusal says.
-pub mod elements;
+// The tests behind refusals 1 and 2: each answers what the definition of its refusal says. And what the checks may count on.
 pub mod sizes;

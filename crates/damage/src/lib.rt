@@ -12,6 +12,7 @@ ghost use Rattle.model.specs.Refusal.{badRecord, damaged as isDamaged};
 ghost use Rattle.records.specs.Records.{lent};
 ghost use Rattle.checks.specs.Checks.{Sized, RecordsFit, ListsFit, recordsAlone};
 use entries::bad_entries;
+use holds::bad_holds;
 use model::Sizes;
 use model::TaskRecord;
 use model::Worker;
@@ -20,7 +21,6 @@ use numbering::next;
 use numbering::record_of;
 use numbering::task_count;
 use records::record_at;
-use workers::bad_holds;
 use workers::bad_workers;
 
 // Whether a record differs from the one due in more than its mark, or its mark exceeds 4.

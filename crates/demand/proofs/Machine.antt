@@ -4,7 +4,7 @@ use Prim.Native.Nat.{ℕ, zero, suc, _*_, _≤_, _<_}
 use mathlib.Core.Bool.{Bool, true, false, cond, _&&_}
 use mathlib.Core.Path.{_≡_, refl, sym, ap, _∙_, subst, fun-ext}
 use mathlib.Core.Logic.{_⊎_, inl, inr, _≢_}
-use mathlib.Core.List.{List, [], _∷_, map}
+use mathlib.Core.List.{List, map}
 use native.Mathlib.Omega.{arith}
 use lib.Dec.{eqb}
 use lib.Ieee.{Float}
@@ -13,7 +13,7 @@ use lib.ListN as L
 use lib.Seq.{getD-set-same, getD-set-other}
 use Rattle.model.specs.declared.Sizes.{Sizes}
 use Rattle.model.specs.declared.Worker as MW
-use Rattle.model.specs.Task.{Task, T-1, tasks}
+use Rattle.model.specs.Task.{T-1, tasks}
 use Rattle.model.specs.Plan.{plan, planOf}
 use Rattle.model.specs.Links.{task, mark}
 use Rattle.model.specs.Links as ML
@@ -33,7 +33,7 @@ use Rattle.demand.specs.Cells.{Val, view, system}
 use Rattle.demand.proofs.Elements.{map-set, getD-same}
 use Rattle.demand.proofs.View.{Sized, Same}
 use Rattle.demand.proofs.Columns.{worked-same, filled-same, sound-same}
-use Rattle.demand.proofs.Marks.{toMark, big, marks-set}
+use Rattle.demand.proofs.Marks.{toMark, big, marks-set, opened-marks}
 use Rattle.demand.proofs.Spoils.{spoils-is}
 use Rattle.demand.proofs.Loops.{Ends, either-ends, σ₀, start-same}
 
@@ -167,12 +167,6 @@ module _ (z : Sizes) where
 
   -- ---- opening
 
-  zero-marks : (ts : List Task) (p : ℕ) → mark (map (λ r. r .mark) (map recordOf ts)) p ≡ 0
-  unfolding mark recordOf
-  zero-marks [] p = refl
-  zero-marks (x ∷ ts) zero = refl
-  zero-marks (x ∷ ts) (suc p) = zero-marks ts p
-
   module _ (m : List Float) (hm : length m ≡ z .tiles * z .tiles * (z .side * z .side)) where
     pub opened-stated : Stated z (opened (planOf z) (z .workers) m)
     unfolding opened plan
@@ -187,6 +181,6 @@ module _ (z : Sizes) where
     unfolding abs opened plan OM.start σ₀ marksOf worker
     opened-is = λ i. record {
       cells = view (z .tiles) (z .side) (start (planOf z) m .buffers);
-      marks = λ p. toMark (zero-marks (tasks (z .tiles)) p i);
+      marks = λ p. toMark (opened-marks (tasks (z .tiles)) p i);
       workers = λ w. workerOf (getD-same (z .workers) w MC.idle i);
     }

@@ -29,6 +29,7 @@ use Rattle.demand.proofs.Elements.{getD-same}
 use Rattle.demand.proofs.Single.{Single}
 use Rattle.demand.proofs.View.{tile-cell, rows-cell}
 use Rattle.demand.proofs.Kept.{Tiles, Rows}
+use Rattle.demand.proofs.Marks.{opened-marks}
 use Rattle.demand.proofs.Machine.{count, Stated, opened-stated}
 
 -- r is a record of task a
@@ -92,12 +93,6 @@ unfolding recordOf task
 opened-records [] p h = absurd (omega arith)
 opened-records (a ∷ ts) zero h = record { kind = refl; k = refl; i = refl; j = refl; most = omega arith }
 opened-records (a ∷ ts) (suc p) h = opened-records ts p (omega arith)
-
-opened-marks : (ts : List Task) (p : ℕ) → mark (map (λ r. r .mark) (map recordOf ts)) p ≡ 0
-unfolding mark recordOf
-opened-marks [] p = refl
-opened-marks (a ∷ ts) zero = refl
-opened-marks (a ∷ ts) (suc p) = opened-marks ts p
 
 zeros-zero : (n : ℕ) → every (λ x. eqb x 0) (replicate n 0) ≡ true
 unfolding every

@@ -2,12 +2,12 @@
 ghost use mathlib.Core.Path.{_≡_};
 ghost use Rattle.model.specs.Plan.{plan};
 ghost use Rattle.one_worker.specs.Alone.{Lendable, alone, published};
+use failures::outcome_of;
 use model::Outcome;
 use model::Sizes;
 use model::Worker;
 use numbering::task_count;
 use opening::open;
-use outcomes::found::outcome_of;
 use runs::run;
 
 // Worker slots for an opening.

@@ -2,16 +2,14 @@
 ghost use mathlib.Core.Path.{_≡_};
 ghost use Rattle.model.specs.Refusal.{outcomeCall};
 ghost use Rattle.records.specs.Records.{lent};
-use crate::found::first_unfinished;
-use crate::found::outcome_of;
-use checks::elements::Lowest;
 use checks::sizes::bad_lengths;
 use checks::sizes::bad_sizes;
+use failures::outcome_of;
+use finite_numbers::Lowest;
 use model::OutcomeAnswer;
 use model::Sizes;
 use model::Worker;
-
-pub mod found;
+use unfinished::first_unfinished;
 
 // The outcome once every task is finished, and before that the lowest unfinished task. Nothing is changed.
 pub fn outcome(

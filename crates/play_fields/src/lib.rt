@@ -4,7 +4,7 @@ ghost use lib.ListN.{length};
 use model::Sizes;
 use model::TaskRecord;
 use model::Worker;
-use records::put_record;
+use record_changes::put_record;
 use script::float;
 use script::number;
 

@@ -24,9 +24,10 @@ use Rattle.model.specs.Refusal.{refuse, badSizes, badLengths, damaged, firstNot
 use Rattle.model.specs.Solve.{unlessGood, solveAnswer}
 use Rattle.records.specs.Records.{marksFrom, lent}
 use Rattle.checks.specs.Checks.{Sized, RecordsFit}
-use Rattle.checks.specs.declared.elements.Lowest.{Lowest}
-use Rattle.checks.specs.declared.elements.Lowest.the-variants.{None, At}
-use Rattle.checks.proofs.Laws.{sized, found-none}
+use Rattle.finite_numbers.specs.declared.Lowest.{Lowest}
+use Rattle.finite_numbers.specs.declared.Lowest.the-variants.{None, At}
+use Rattle.checks.proofs.Laws.{sized}
+use Rattle.finite_numbers.proofs.Laws.{found-none}
 use Rattle.answers.proofs.Refusals.{refuses, passes, Fit, lengths-fit}
 use Rattle.solve_checks.specs.Rest.{restAnswer}
 

@@ -11,18 +11,18 @@ ghost use Rattle.model.specs.Solve.{solveAnswer};
 ghost use Rattle.records.specs.Records.{lent};
 ghost use Rattle.checks.specs.Checks.{Sized, MatrixFits, RecordsFit};
 ghost use Rattle.solve_checks.specs.Rest.{restAnswer};
-use checks::elements::Lowest;
-use checks::elements::all_finite;
-use checks::elements::first_not_finite;
 use checks::sizes::bad_lengths;
 use checks::sizes::bad_sizes;
 use damage::damaged;
+use failures::outcome_of;
+use finite_numbers::Lowest;
+use finite_numbers::all_finite;
+use finite_numbers::first_not_finite;
 use model::Answer;
 use model::Outcome;
 use model::Sizes;
 use model::Worker;
-use outcomes::found::first_unfinished;
-use outcomes::found::outcome_of;
+use unfinished::first_unfinished;
 
 // Refusal 3.
 fn right_answer(right: &[f64]) -> Answer

@@ -1,49 +1,14 @@
 // A worker takes a task.
 ghost use mathlib.Core.Path.{_≡_};
 ghost use lib.ListN.{drop};
-ghost use Rattle.model.specs.Refusal.{takeAnswer, takeCall};
+ghost use Rattle.model.specs.Refusal.{takeCall};
 ghost use Rattle.records.specs.Records.{lent};
 use answers::accepted;
-use graph::is_ready;
-use model::Answer;
 use model::CallReply;
 use model::Sizes;
 use model::Worker;
-use numbering::task_count;
-use records::set_mark;
-use states::state_answer;
-
-// What the take of task p by worker w answers.
-fn take_answer(
-    z: Sizes,
-    matrix: &[f64],
-    lists: &[u8],
-    records: &[[u8; 5]],
-    workers: [Worker; 32],
-    w: usize,
-    p: usize,
-) -> Answer
-    ensures { λ r. ⌜ r ≡ takeAnswer z w p (lent (now (matrix .entry)) (now (lists .entry)) (now (records .entry)) workers (z .workers)) ⌝ }
-{
-    let state = state_answer(z, matrix, lists, records, workers);
-    if !accepted(state) {
-        return state;
-    }
-    if z.workers <= w {
-        return Answer::Refused(5, w);
-    }
-    let h = workers[w];
-    if h.busy {
-        return Answer::Refused(5, w);
-    }
-    if task_count(z.tiles) <= p {
-        return Answer::Refused(6, 0);
-    }
-    if !is_ready(z.tiles, records, p) {
-        return Answer::Refused(7, p);
-    }
-    Answer::Accepted
-}
+use record_changes::set_mark;
+use take_checks::take_answer;
 
 // Worker w takes task p. Of the 32 worker slots the first z.workers are lent, and the others stay as they are.
 pub fn take(

@@ -7,7 +7,7 @@ use lib.ListN.{getD}
 use Rattle.model.specs.declared.Sizes.{Sizes}
 use Rattle.model.specs.Task.{tasks}
 use Rattle.model.specs.Links.{task}
-use Rattle.graph.specs.Graph.{Recorded}
+use Rattle.marks.specs.Marks.{Recorded}
 use Rattle.column_laws.specs.Workable.{Workable}
 use Rattle.records.specs.Records.{recordsFrom, blank}
 use Rattle.checks.specs.Checks.{Sized, Inside, taskFrom}

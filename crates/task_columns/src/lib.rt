@@ -9,7 +9,7 @@ ghost use Rattle.model.specs.Plan.{planOf};
 ghost use Rattle.model.specs.Links.{spoils};
 ghost use Rattle.model.specs.Buffer.{markOf, columnEnds};
 ghost use Rattle.model.specs.Calls.{columnOf};
-ghost use Rattle.graph.specs.Graph.{Recorded};
+ghost use Rattle.marks.specs.Marks.{Recorded};
 ghost use Rattle.column_laws.specs.Workable.{Workable};
 ghost use Rattle.records.specs.Records.{marksFrom, lent};
 ghost use Rattle.checks.specs.Checks.{taskFrom};
@@ -18,12 +18,12 @@ use apply_columns::apply_column;
 use couple_columns::couple_column;
 use factor_columns::factor_column;
 use filling::fill_task;
-use graph::is_spoiled;
 use model::ColumnEnd;
 use model::Sizes;
 use model::TaskRecord;
 use pair_columns::pair_column;
 use records::record_at;
+use spoiling::is_spoiled;
 
 // The mark that a column's end gives its task.
 fn mark_after(end: ColumnEnd) -> u8

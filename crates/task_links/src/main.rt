@@ -3,7 +3,7 @@
 use model::Answer;
 use model::Sizes;
 use model::Worker;
-use records::set_mark;
+use record_changes::set_mark;
 
 fn sizes() -> Sizes {
     Sizes {

@@ -1,4 +1,3 @@
-pub mod Again
 pub mod Arrays
 pub mod Big
 pub mod Laws

@@ -37,12 +37,13 @@ use Rattle.demand.proofs.Limits.{good-tiles}
 use Rattle.demand.proofs.Whole.{Whole, in-range}
 use Rattle.demand.proofs.Steps.{took-whole, advanced-whole}
 use Rattle.demand.proofs.Answers.{run-whole, run-accepted}
-use Rattle.next.specs.Next.{Passed, LowestReady, NextBusy, busy-after, all-idle}
+use Rattle.next_task.specs.NextTask.{Passed, LowestReady}
+use Rattle.next_worker.specs.NextWorker.{NextBusy, busy-after, all-idle}
 use Rattle.task_columns.specs.Due.{ColumnDue}
 use Rattle.advancing.specs.Advancing.{Advanced}
 use Rattle.advancing.proofs.Laws.{due, state-after}
-use Rattle.next.proofs.Rounds.{round}
-use Rattle.next.proofs.Steps.{takes, works, passes, over, finishes, ends}
+use Rattle.next_worker.proofs.Rounds.{round}
+use Rattle.next_worker.proofs.Steps.{takes, works, passes, over, finishes, ends}
 
 pub record Going (z : Sizes) (budget : ℕ) (s₀ : Lent) (ws₀ : List Worker) (m : List Float) (l : List ℕ) (r : List (List ℕ)) (ws : List Worker) (n w from : ℕ) : Type 0 where
   pub whole : Whole z (lent m l r ws (z .workers))

@@ -11,12 +11,12 @@ use model::RunAnswer;
 use model::RunReply;
 use model::Sizes;
 use model::Worker;
-use next::after;
-use next::answer_after;
-use next::lowest_ready;
-use next::next_busy;
-use next::search_from;
-use next::take_task;
+use next_task::lowest_ready;
+use next_task::search_from;
+use next_task::take_task;
+use next_worker::after;
+use next_worker::next_busy;
+use unfinished::answer_after;
 
 // Workers take turns until every task is finished or the budget is spent. Below `from` no task is ready, so a search begins there.
 pub fn take_turns(

@@ -1,49 +1,23 @@
--- What a task's mark and a worker's fields say of a hold, in the order in which the code tests them. Assumes nothing.
+-- What a worker's fields and its task's mark say of its hold, in the order in which the code tests them. Assumes nothing.
 use Prim.Native.Nat.{ℕ, _≤_, _<_}
 use mathlib.Core.Path.{_≡_, sym, _∙_}
 use mathlib.Core.Logic.{_⊎_, inl, inr}
 use mathlib.Core.Bool.{true, false, not}
 use mathlib.Core.List.{List}
 use native.Mathlib.Omega.{arith}
-use lib.Dec.{eqb, leb, ltb}
-use lib.ListN.{length, take}
+use lib.Dec.{leb, ltb}
+use lib.ListN.{length}
 use borrow.Author.Tests.{ltb-true, ltb-false, lt-ltb, le-ltb, le-leb, lt-leb, eq-eqb, ne-eqb}
 use Rattle.model.specs.declared.Sizes.{Sizes}
 use Rattle.model.specs.declared.Worker.{Worker}
-use Rattle.model.specs.Lists.{keep}
 use Rattle.model.specs.Task.{tasks}
 use Rattle.model.specs.Plan.{plan, planOf}
 use Rattle.model.specs.Links.{mark}
 use Rattle.model.specs.Calls.{marksOf}
-use Rattle.model.specs.Refusal.{holds, badHold, badWorker}
+use Rattle.model.specs.Refusal.{badWorker}
 use Rattle.laws.proofs.Tests.{true-or-false}
 use Rattle.records.specs.Records.{marksFrom, lent}
-use Rattle.checks.specs.Checks.{recordsAlone, held}
-
--- ---- holds
-
-module _ (z : Sizes) (r : List (List ℕ)) (h : List Worker) (W p m : ℕ) (e : m ≡ mark (marksFrom r) p) where
-  pub hold-free : (m ≡ 1 → ⊥) → badHold (planOf z) (held r h W) p ≡ false
-  unfolding badHold lent marksOf marksFrom
-  hold-free q = rw (ne-eqb (mark (marksFrom r) p) 1 (λ a. q (e ∙ a)))
-
-  module _ (q : m ≡ 1) (n : ℕ) (c : n ≡ length (keep (holds p) (take W h))) where
-    pub hold-bad : (n ≡ 1 → ⊥) → badHold (planOf z) (held r h W) p ≡ true
-    unfolding badHold lent marksOf marksFrom
-    hold-bad a = rw (eq-eqb (mark (marksFrom r) p) 1 (sym e ∙ q), ne-eqb (length (keep (holds p) (take W h))) 1 (λ b. a (c ∙ b)))
-
-    pub hold-good : n ≡ 1 → badHold (planOf z) (held r h W) p ≡ false
-    unfolding badHold lent marksOf marksFrom
-    hold-good a = rw (eq-eqb (mark (marksFrom r) p) 1 (sym e ∙ q), eq-eqb (length (keep (holds p) (take W h))) 1 (sym c ∙ a))
-
-module _ (p : ℕ) (h : Worker) where
-  pub holds-not : h .busy ≡ false → false ≡ holds p h
-  unfolding holds
-  holds-not e = rw e
-
-  pub holds-this : h .busy ≡ true → eqb (h .task) p ≡ holds p h
-  unfolding holds
-  holds-this e = rw e
+use Rattle.checks.specs.Checks.{recordsAlone}
 
 le-as-lt : (a b : ℕ) → leb b a ≡ not (ltb a b)
 le-as-lt a b = go (true-or-false (ltb a b))
@@ -51,8 +25,6 @@ le-as-lt a b = go (true-or-false (ltb a b))
     go : (ltb a b ≡ true) ⊎ (ltb a b ≡ false) → leb b a ≡ not (ltb a b)
     go (inl e) = rw (e, lt-leb b a (ltb-true a b e))
     go (inr e) = rw (e, le-leb b a (ltb-false a b e))
-
--- ---- workers
 
 module _ (z : Sizes) (r : List (List ℕ)) (h : Worker) where
   pub worker-idle : h .busy ≡ false → false ≡ badWorker (planOf z) (recordsAlone r) h

@@ -1,60 +1,14 @@
-// Refusal 4's tests of what the workers hold.
+// Refusal 4's test of what each worker holds.
 ghost use mathlib.Core.Path.{_≡_};
-ghost use Prim.Native.Nat.{_≤_};
-ghost use lib.ListN.{length, take};
-ghost use Rattle.model.specs.Lists.{below, some, keep};
-ghost use Rattle.model.specs.Task.{tasks};
+ghost use lib.ListN.{take};
+ghost use Rattle.model.specs.Lists.{some};
 ghost use Rattle.model.specs.Plan.{planOf};
-ghost use Rattle.model.specs.Refusal.{holds as holdsTask, badHold, badWorker as badWorkerIn};
-ghost use Rattle.checks.specs.Checks.{Sized, RecordsFit, recordsAlone, held};
+ghost use Rattle.model.specs.Refusal.{badWorker as badWorkerIn};
+ghost use Rattle.checks.specs.Checks.{Sized, RecordsFit, recordsAlone};
 use model::Sizes;
 use model::Worker;
 use numbering::task_count;
 use records::mark_of;
-
-// Whether the worker holds task p.
-fn holds(h: Worker, p: usize) -> bool
-    ensures { λ r. ⌜ r ≡ holdsTask p h ⌝ }
-{
-    if !h.busy {
-        return false;
-    }
-    h.task as usize == p
-}
-
-// How many of the first w workers hold task p.
-fn holders(workers: [Worker; 32], w: usize, p: usize) -> usize
-    requires { ⌜ w ≤ 32 ⌝ }
-    ensures { λ r. ⌜ r ≡ length (keep (holdsTask p) (take w workers)) ⌝ }
-{
-    let mut n = 0;
-    let mut v = 0;
-    while v < w {
-        if holds(workers[v], p) {
-            n += 1;
-        }
-        v += 1;
-    }
-    n
-}
-
-// Whether a task with mark 1 isn't held by exactly one worker. At most one more task with mark 1 is looked at than there are workers.
-pub fn bad_holds(z: Sizes, records: &[[u8; 5]], workers: [Worker; 32]) -> bool
-    requires { ⌜ Sized z × RecordsFit z (now records) ⌝ }
-    ensures { λ r. ⌜ r ≡ some (badHold (planOf z) (held (now (records .entry)) workers (z .workers))) (below (length (tasks (z .tiles)))) ⌝ }
-{
-    let count = task_count(z.tiles);
-    let mut p = 0;
-    while p < count {
-        if mark_of(records, p) == 1 {
-            if holders(workers, z.workers, p) != 1 {
-                return true;
-            }
-        }
-        p += 1;
-    }
-    false
-}
 
 // Whether the worker holds a task that doesn't exist or lacks mark 1, or a column not below t.
 fn bad_worker(z: Sizes, records: &[[u8; 5]], h: Worker) -> bool

@@ -5,13 +5,13 @@ ghost use Rattle.model.specs.Refusal.{columnAnswer, columnCall};
 ghost use Rattle.records.specs.Records.{lent};
 use advancing::advance_worker;
 use answers::accepted;
-use checks::elements::bad_tiles;
 use model::Answer;
 use model::CallReply;
 use model::Sizes;
 use model::Worker;
 use records::record_at;
 use states::state_answer;
+use task_tiles::bad_tiles;
 
 // What a column call of worker w answers. A worker that is idle or doesn't exist has no task, whose tiles could be bad.
 fn column_answer(

@@ -2,7 +2,8 @@
 use mathlib.Core.Path.{_≡_, refl}
 use borrow.Author.Needs.{needs}
 use lib.ListN.{length}
-use Rattle.advancing.proofs.Laws.{due, state-after, others-after}
+use lib.Seq.{drop-set-lt}
+use Rattle.advancing.proofs.Laws.{due, state-after}
 use Rattle.advancing.proofs.advance_worker.Statement.{statement}
 use Rattle.advancing.proofs.advance_worker.Tie as tie
 
@@ -38,7 +39,7 @@ returns c =
     let d = c .before .before .before .before .before .before .before .before .before .before .before .before in
     let a = c .before .before .before .before .before .advance .ensures in (
       state-after (d .args .z) _ _ _ (d .args .t5) _ (d .pre .exists) _ refl _ _ _ _ _ (a .ends (d .args .t5)) (a .records) (a .worker),
-      others-after (d .args .z) (d .args .matrix .now) (d .args .lists .now) (d .args .records .now) _ _ (d .pre .exists) _,
+      drop-set-lt _ _ _ _ (d .pre .exists),
     )
 
 pub advance-worker-spec : {M : Type 1} → statement M

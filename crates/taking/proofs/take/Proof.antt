@@ -4,8 +4,9 @@ use native.Mathlib.Omega.{arith}
 use borrow.Author.Needs.{needs}
 use borrow.Author.Tests.{not-true, not-false}
 use lib.ListN.{length}
+use lib.Seq.{drop-set-lt}
 use Rattle.numbering.proofs.Laws.{few-tasks}
-use Rattle.taking.proofs.Laws.{refused, accepts-then, taken-by, others-kept}
+use Rattle.taking.proofs.Laws.{refused, accepts-then, taken-by}
 use Rattle.taking.proofs.take.Statement.{statement}
 use Rattle.taking.proofs.take.Tie as tie
 
@@ -75,7 +76,13 @@ returns-2 : tie.Need-returns-2
 returns-2 c =
     let d = c .before .before .before .before .before .before .before .before .before .before .before in
     let slots : length (d .args .workers) ≡ 32 = search needs in
-    (taken-by (d .args .z) _ _ _ (d .args .workers) _ _ _ (c .before .before .before .before .before .before .before .take-answer .ensures) _ (c .before .before .before .before .before .before .accepted .ensures) (not-false _ (c .before .before .before .before .before .if1 .left)) slots _ _ (c .before .before .before .set-mark .ensures .0) (c .take .ensures), others-kept (d .args .z) _ _ _ (d .args .workers) _ _ _ (c .before .before .before .before .before .before .before .take-answer .ensures) _ (c .before .before .before .before .before .before .accepted .ensures) (not-false _ (c .before .before .before .before .before .if1 .left)) slots _)
+    let answered = c .before .before .before .before .before .before .before .take-answer .ensures in
+    let tested = c .before .before .before .before .before .before .accepted .ensures in
+    let passed = not-false _ (c .before .before .before .before .before .if1 .left) in
+    let a = accepts-then (d .args .z) _ _ _ (d .args .workers) _ _ _ answered _ tested passed slots in (
+      taken-by (d .args .z) _ _ _ (d .args .workers) _ _ _ answered _ tested passed slots _ _ (c .before .before .before .set-mark .ensures .0) (c .take .ensures),
+      drop-set-lt _ _ _ _ (a .worker-exists),
+    )
 
 pub take-spec : {M : Type 1} → statement M
 take-spec =

@@ -1,0 +1,68 @@
+-- Those counted and those left are all. Assumes nothing.
+use Prim.Native.Nat.{_+_, _-_, _≤_}
+use mathlib.Core.Logic.{⊎-elim}
+use mathlib.Core.Path.{_≡_, sym, _∙_}
+use native.Mathlib.Omega.{arith}
+use lib.ListN.{length, getD}
+use borrow.Author.Needs.{needs}
+use Rattle.model.specs.Refusal.{holds}
+use Rattle.model.specs.Calls.{idle}
+use Rattle.model.specs.Lists.{run, below, keep}
+use Rattle.checks.proofs.Searches.{keep-begins, keep-counts, keep-passes, keep-ends, keep-places}
+use Rattle.holds.proofs.holders.Statement.{statement}
+use Rattle.holds.proofs.holders.Tie as tie
+
+abbrev Inv-loop : tie.InvT-loop
+Inv-loop w p workers n₀ v₀ n v =
+    (v ≤ w) × (n ≤ v)
+    × (n + length (keep (λ x. holds p (getD workers x idle)) (run v (w - v))) ≡ length (keep (λ x. holds p (getD workers x idle)) (below w)))
+
+abbrev μ-loop : tie.MeasureT-loop
+μ-loop w p workers n₀ v₀ n v = w - v
+
+loop-holds : tie.Need-loop-holds Inv-loop μ-loop
+loop-holds c = (omega arith, omega arith, keep-begins _ _)
+
+mul-holds : tie.Need-mul-holds Inv-loop μ-loop
+mul-holds c = omega arith
+
+array-copy-out-holds : tie.Need-array-copy-out-holds Inv-loop μ-loop
+array-copy-out-holds c = omega arith
+
+holds-requires : tie.Need-holds-requires Inv-loop μ-loop
+holds-requires c κs = search needs
+
+add-n : tie.Need-add-n Inv-loop μ-loop
+add-n c = omega arith
+
+add-v : tie.Need-add-v Inv-loop μ-loop
+add-v c = omega arith
+
+loop-less : tie.Need-loop-less Inv-loop μ-loop
+loop-less c = omega arith
+
+loop-again : tie.Need-loop-again Inv-loop μ-loop
+loop-again c = ⊎-elim
+    (λ u. (omega arith, omega arith, keep-counts _ _ _ _ _ _ (c .before .before .before .loop-test .taken) (c .before .before .before .before .loop .inv .2) (sym (c .before .holds .ensures) ∙ u .0 .taken) (u .1)))
+    (λ u. (omega arith, omega arith, keep-passes _ _ _ _ _ _ (c .before .before .before .loop-test .taken) (c .before .before .before .before .loop .inv .2) (sym (c .before .holds .ensures) ∙ u .0 .left) (u .1)))
+    (c .if1 .came)
+
+returns : tie.Need-returns Inv-loop μ-loop
+returns c = let e : length (c .before .before .args .t1) ≡ 32 = c .before .before .good .0 .1 .0 .1 in
+    keep-ends _ _ _ _ _ (c .loop-test .left) (c .before .loop .inv .2) ∙ sym (keep-places (holds (c .before .before .args .p)) (c .before .before .args .w) (c .before .before .args .t1) idle (omega arith))
+
+pub holders-spec : {M : Type 1} → statement M
+holders-spec =
+    tie.close
+    (tie.spec
+    Inv-loop
+    μ-loop
+    loop-holds
+    mul-holds
+    array-copy-out-holds
+    holds-requires
+    add-n
+    add-v
+    loop-less
+    loop-again
+    returns)

@@ -1,0 +1,80 @@
+-- The count of tasks, numbers and marks, in the form that the code tests them. Assumes nothing.
+use Prim.Native.Nat.{ℕ, _+_, _-_, _*_, _≤_, _<_}
+use mathlib.Core.Bool.{Bool, true, false}
+use mathlib.Core.List.{List}
+use mathlib.Core.Path.{_≡_, sym, ap, _∙_}
+use native.Mathlib.Nat.{mul-le-mul}
+use native.Mathlib.Omega.{arith}
+use lib.Dec.{eqb}
+use borrow.Author.Tests.{eq-eqb, ne-eqb}
+use Rattle.model.specs.Task.{taskCount}
+use Rattle.model.specs.Links.{mark, finished, broken}
+use Rattle.laws.proofs.Blocks.{in-block}
+use Rattle.links.specs.Closed.{Key, In, number, markAt}
+use Rattle.links.proofs.Order.{offset-squares, six-squares, number-of}
+use Rattle.links.proofs.Summary.{offset-is, numbered}
+use Rattle.marks.specs.Marks.{Triple, Numbered}
+
+-- ---- the count of tasks, and numbers
+
+pub small : (n : ℕ) → n ≤ 16 → (n * (n + 1) ≤ 272) × (n * (n + 1) * (2 * n + 1) ≤ 8976)
+small n h =
+    let p : n + 1 ≤ 17 = omega arith in
+    let q : 2 * n + 1 ≤ 33 = omega arith in
+    let a : n * (n + 1) ≤ 272 = mul-le-mul h p in
+    (a, mul-le-mul a q)
+
+pub count-small : (n : ℕ) → n ≤ 16 → taskCount n ≤ 1496
+unfolding taskCount
+count-small n h = omega (arith, small n h)
+
+pub count-mono : (n k : ℕ) → k ≤ n → taskCount (n - k) ≤ taskCount n
+unfolding taskCount
+count-mono n k h = omega (arith, offset-squares n k h, six-squares n, six-squares (n - k))
+
+module _ (n : ℕ) (b : Key) (t : Triple n b) where
+  pub cell-small : (b .i - b .k) * (n - b .k) + (b .j - b .k) < 256
+  cell-small =
+      let v : In n b = t .inside in
+      let h : n ≤ 16 = t .small in
+      let m : n - b .k ≤ 16 = omega arith in
+      let s : (n - b .k) * (n - b .k) ≤ 256 = mul-le-mul m m in
+      omega (arith, in-block (n - b .k) (n - b .k) (b .i - b .k) (b .j - b .k) (omega arith) (omega arith))
+
+  number-is : taskCount n - taskCount (n - b .k) + ((b .i - b .k) * (n - b .k) + (b .j - b .k)) ≡ number n b
+  unfolding number
+  number-is = let v : In n b = t .inside in rw (offset-is n (b .k) (omega arith))
+
+  pub is-numbered : (p : ℕ) → p ≡ taskCount n - taskCount (n - b .k) + ((b .i - b .k) * (n - b .k) + (b .j - b .k)) → Numbered n p b
+  is-numbered p e = let (f, g, _) = numbered n b (t .inside) in rw (e ∙ number-is) (record { below = f; task-is = g })
+
+-- the mark at a number is the mark of its triple
+pub mark-is : (n p m : ℕ) (b : Key) (ms : List ℕ) → Numbered n p b → m ≡ mark ms p → m ≡ markAt n ms b
+unfolding markAt
+mark-is n p m b ms h e = e ∙ ap (mark ms) (number-of n p (h .below) b (h .task-is))
+
+-- ---- marks
+
+pub finished-2 : (m : ℕ) → m ≡ 2 → true ≡ finished m
+unfolding finished
+finished-2 m e = rw (eq-eqb m 2 e)
+
+pub finished-not-2 : (m : ℕ) → (m ≡ 2 → ⊥) → broken m ≡ finished m
+unfolding finished broken
+finished-not-2 m d = rw (ne-eqb m 2 d)
+
+pub broken-3 : (m : ℕ) → m ≡ 3 → true ≡ broken m
+unfolding broken
+broken-3 m e = rw (eq-eqb m 3 e)
+
+pub broken-not-3 : (m : ℕ) → (m ≡ 3 → ⊥) → eqb m 4 ≡ broken m
+unfolding broken
+broken-not-3 m d = rw (ne-eqb m 3 d)
+
+-- what a test of a mark that was read says of the mark
+module _ (test : ℕ → Bool) {s : Bool} {x m : ℕ} (e : s ≡ test x) (f : x ≡ m) where
+  pub passed : s ≡ true → test m ≡ true
+  passed g = ap test (sym f) ∙ sym e ∙ g
+
+  pub failed : s ≡ false → test m ≡ false
+  failed g = ap test (sym f) ∙ sym e ∙ g

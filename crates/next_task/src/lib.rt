@@ -1,0 +1,52 @@
+// The task that is next in a run: the lowest ready one, where the search for it begins, and how a worker takes it.
+ghost use mathlib.Core.Path.{_≡_};
+ghost use mathlib.Core.Bool.{cond};
+ghost use Prim.Native.Nat.{suc, min, _<_};
+ghost use lib.ListN.{length};
+ghost use Rattle.model.specs.Links.{taken};
+ghost use Rattle.model.specs.Calls.{holding, marked};
+ghost use Rattle.records.specs.Records.{recordsFrom};
+ghost use Rattle.next_task.specs.NextTask.{Passed, LowestReady};
+use model::Worker;
+use readiness::is_ready;
+use record_changes::set_mark;
+
+// The lowest ready task, where none below `from` is ready: the number of tasks where there is none.
+pub fn lowest_ready(n: usize, records: &[[u8; 5]], from: usize) -> usize
+    requires { ⌜ Passed n (now records) from ⌝ }
+    ensures { λ r. ⌜ LowestReady n (now (records .entry)) r ⌝ }
+{
+    let mut p = from;
+    while p < records.len() {
+        if is_ready(n, records, p) {
+            return p;
+        }
+        p += 1;
+    }
+    p
+}
+
+// The worker h takes task p.
+pub fn take_task(records: &mut [[u8; 5]], p: usize, h: Worker) -> Worker
+    requires { ⌜ (p < length (now records)) × (p < 65536) ⌝ }
+    ensures { λ r. ⌜ r ≡ holding p 0 ⌝ }
+    ensures { λ _. ⌜ recordsFrom (now (records .exit)) ≡ marked p taken (recordsFrom (now (records .entry))) ⌝ }
+    ensures { λ _. ⌜ length (now (records .exit)) ≡ length (now (records .entry)) ⌝ }
+{
+    set_mark(records, p, 1);
+    h.take(p as u16)
+}
+
+// Where the search for a ready task begins once task p was worked at: p's end may have made a task above it ready.
+pub fn search_from(from: usize, busy: bool, p: usize) -> usize
+    requires { ⌜ p < 65536 ⌝ }
+    ensures { λ r. ⌜ r ≡ cond busy from (min from (suc p)) ⌝ }
+{
+    if busy {
+        return from;
+    }
+    if p < from {
+        return p + 1;
+    }
+    from
+}

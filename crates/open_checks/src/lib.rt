@@ -1,0 +1,31 @@
+// The refusals of an opening.
+ghost use mathlib.Core.Path.{_≡_};
+ghost use mathlib.Core.List.{List};
+ghost use lib.ListN.{length};
+ghost use Rattle.model.specs.declared.Worker.{Worker as SomeWorker};
+ghost use Rattle.model.specs.Refusal.{openAnswer};
+ghost use Rattle.records.specs.Records.{lent};
+use checks::sizes::bad_lengths;
+use checks::sizes::bad_sizes;
+use finite_numbers::Lowest;
+use finite_numbers::first_not_finite;
+use model::Answer;
+use model::Sizes;
+
+// What the opening answers.
+pub fn open_answer(z: Sizes, matrix: &[f64], lists: &[u8], records: &[[u8; 5]]) -> Answer
+    ensures { λ r. ⌜ ((slots : List SomeWorker) → length slots ≡ 32
+        → r ≡ openAnswer z (lent (now (matrix .entry)) (now (lists .entry)) (now (records .entry)) slots (z .workers))) ⌝ }
+{
+    if bad_sizes(z) {
+        return Answer::Refused(1, 0);
+    }
+    if bad_lengths(z, matrix, lists, records) {
+        return Answer::Refused(2, 0);
+    }
+    let found = first_not_finite(matrix);
+    match found {
+        Lowest::At(x) => Answer::Refused(3, x),
+        Lowest::None => Answer::Accepted,
+    }
+}

@@ -1,0 +1,47 @@
+// The records and the workers of a system that was just opened.
+ghost use mathlib.Core.Path.{_≡_};
+ghost use mathlib.Core.List.{map};
+ghost use Prim.Native.Nat.{_≤_};
+ghost use lib.ListN.{take, drop, replicate};
+ghost use Rattle.model.specs.Task.{tasks};
+ghost use Rattle.model.specs.Calls.{recordOf, idle};
+ghost use Rattle.records.specs.Records.{recordsFrom};
+ghost use Rattle.checks.specs.Checks.{Sized, RecordsFit};
+use model::Sizes;
+use model::Worker;
+use numbering::first;
+use numbering::next;
+use numbering::record_of;
+use numbering::task_count;
+use record_changes::put_record;
+
+// Sets the records to the numbering and waiting.
+pub fn number_records(z: Sizes, records: &mut [[u8; 5]])
+    requires { ⌜ Sized z × RecordsFit z (now records) ⌝ }
+    ensures { λ _. ⌜ recordsFrom (now (records .exit)) ≡ map recordOf (tasks (z .tiles)) ⌝ }
+{
+    let n = z.tiles as u8;
+    let count = task_count(z.tiles);
+    let mut a = first();
+    let mut p = 0;
+    while p < count {
+        put_record(records, p, record_of(a));
+        a = next(n, a);
+        p += 1;
+    }
+}
+
+// Sets the first w workers to idle.
+pub fn idle_workers(workers: [Worker; 32], w: usize) -> [Worker; 32]
+    requires { ⌜ w ≤ 32 ⌝ }
+    ensures { λ r. ⌜ take w r ≡ replicate w idle ⌝ }
+    ensures { λ r. ⌜ drop w r ≡ drop w workers ⌝ }
+{
+    let mut left = workers;
+    let mut v = 0;
+    while v < w {
+        left[v] = Worker::idle();
+        v += 1;
+    }
+    left
+}
