@@ -2,8 +2,8 @@
 use mathlib.Core.Path.{sym}
 use lib.Seq.{length-take-le}
 use borrow.Author.Needs.{needs}
-use Rattle.solve_call.proofs.solve_part.Statement.{statement}
-use Rattle.solve_call.proofs.solve_part.Tie as tie
+use Rattle.solve_part.proofs.solve_part.Statement.{statement}
+use Rattle.solve_part.proofs.solve_part.Tie as tie
 
 slice-aggregate-solve : tie.Need-slice-aggregate-solve
 slice-aggregate-solve c = sym (length-take-le (c .before .before .before .before .before .args .n) (c .before .before .before .before .before .args .flat .now) (c .before .before .before .before .before .pre))

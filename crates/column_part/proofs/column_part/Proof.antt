@@ -3,8 +3,8 @@ use mathlib.Core.Path.{_≡_, sym, _∙_}
 use lib.ListN.{length, take, drop}
 use lib.Seq.{length-take-le, take-at}
 use borrow.Author.Needs.{needs}
-use Rattle.column_call.proofs.column_part.Statement.{statement}
-use Rattle.column_call.proofs.column_part.Tie as tie
+use Rattle.column_part.proofs.column_part.Statement.{statement}
+use Rattle.column_part.proofs.column_part.Tie as tie
 
 slice-relend-prefix-column : tie.Need-slice-relend-prefix-column
 slice-relend-prefix-column c = search needs

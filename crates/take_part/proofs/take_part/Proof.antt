@@ -3,8 +3,8 @@ use mathlib.Core.Path.{_≡_, sym, _∙_}
 use lib.ListN.{length, take, drop}
 use lib.Seq.{length-take-le, take-at}
 use borrow.Author.Needs.{needs}
-use Rattle.take_call.proofs.take_part.Statement.{statement}
-use Rattle.take_call.proofs.take_part.Tie as tie
+use Rattle.take_part.proofs.take_part.Statement.{statement}
+use Rattle.take_part.proofs.take_part.Tie as tie
 
 slice-relend-prefix-take : tie.Need-slice-relend-prefix-take
 slice-relend-prefix-take c = search needs

@@ -3,8 +3,8 @@ use mathlib.Core.Path.{_≡_, sym, _∙_}
 use lib.ListN.{length, take, drop}
 use lib.Seq.{length-take-le, take-at}
 use borrow.Author.Needs.{needs}
-use Rattle.run_call.proofs.run_part.Statement.{statement}
-use Rattle.run_call.proofs.run_part.Tie as tie
+use Rattle.run_part.proofs.run_part.Statement.{statement}
+use Rattle.run_part.proofs.run_part.Tie as tie
 
 slice-relend-prefix-run : tie.Need-slice-relend-prefix-run
 slice-relend-prefix-run c = search needs

@@ -2,8 +2,8 @@
 use mathlib.Core.Path.{sym}
 use lib.Seq.{length-take-le}
 use borrow.Author.Needs.{needs}
-use Rattle.outcome_call.proofs.outcome_part.Statement.{statement}
-use Rattle.outcome_call.proofs.outcome_part.Tie as tie
+use Rattle.outcome_part.proofs.outcome_part.Statement.{statement}
+use Rattle.outcome_part.proofs.outcome_part.Tie as tie
 
 slice-aggregate-outcome : tie.Need-slice-aggregate-outcome
 slice-aggregate-outcome c = sym (length-take-le (c .before .before .before .args .n) (c .before .before .before .args .flat .now) (c .before .before .before .pre))

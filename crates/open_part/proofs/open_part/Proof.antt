@@ -3,8 +3,8 @@ use mathlib.Core.Path.{_≡_, sym, _∙_}
 use lib.ListN.{length, take, drop}
 use lib.Seq.{length-take-le, take-at}
 use borrow.Author.Needs.{needs}
-use Rattle.open_call.proofs.open_part.Statement.{statement}
-use Rattle.open_call.proofs.open_part.Tie as tie
+use Rattle.open_part.proofs.open_part.Statement.{statement}
+use Rattle.open_part.proofs.open_part.Tie as tie
 
 slice-relend-prefix-open : tie.Need-slice-relend-prefix-open
 slice-relend-prefix-open c = search needs
