@@ -9,9 +9,9 @@ use Rattle.model.specs.declared.TaskRecord.{TaskRecord}
 use Rattle.model.specs.Plan.{planOf}
 use Rattle.model.specs.Buffer.{finiteTiles}
 use Rattle.checks.specs.Checks.{Inside, taskFrom}
-use Rattle.working.proofs.Laws.{state-stops, is-sound, no-worker, idle-worker, task-exists, tiles-there, tiles-bad, tiles-good}
-use Rattle.working.proofs.column_answer.Statement.{statement}
-use Rattle.working.proofs.column_answer.Tie as tie
+use Rattle.column_checks.proofs.Laws.{state-stops, is-sound, no-worker, idle-worker, task-exists, tiles-there, tiles-bad, tiles-good}
+use Rattle.column_checks.proofs.column_answer.Statement.{statement}
+use Rattle.column_checks.proofs.column_answer.Tie as tie
 
 state-answer-requires : tie.Need-state-answer-requires
 state-answer-requires c κs = search needs

@@ -1,26 +1,22 @@
--- A run's answer, and what a run replies. Assumes nothing.
+-- A run's answer, refusal by refusal. Assumes nothing.
 use Prim.Native.Nat.{ℕ}
 use mathlib.Core.Bool.{Bool, true, false, not, _||_}
-use mathlib.Core.Path.{_≡_, sym, ap, _∙_}
+use mathlib.Core.Path.{_≡_, sym, _∙_}
 use mathlib.Core.List.{List}
 use lib.Ieee.{Float}
 use Rattle.model.specs.declared.Sizes.{Sizes}
 use Rattle.model.specs.declared.Worker.{Worker}
-use Rattle.model.specs.declared.Answer.{Answer}
 use Rattle.model.specs.declared.Answer.the-variants.{Accepted, Refused}
-use Rattle.model.specs.declared.RunAnswer.the-variants.{RunRefused}
 use Rattle.model.specs.Tile.{allFinite}
 use Rattle.model.specs.Plan.{planOf}
-use Rattle.model.specs.Calls.{Lent, RunEnd, wholeRun}
-use Rattle.model.specs.Refusal.{refuse, runReplied, badSizes, badLengths, damaged, runAnswer, runCall}
+use Rattle.model.specs.Calls.{Lent}
+use Rattle.model.specs.Refusal.{refuse, badSizes, badLengths, damaged, runAnswer}
 use Rattle.records.specs.Records.{lent}
 use Rattle.answers.proofs.Refusals.{refuses, passes}
 
 module _ (z : Sizes) (m : List Float) (l : List ℕ) (r : List (List ℕ)) (ws : List Worker) where
   abbrev s : Lent
   s = lent m l r ws (z .workers)
-
-  -- ---- the answer
 
   pub answer-1 : (a : Bool) → a ≡ badSizes z → a ≡ true → Refused 1 0 ≡ runAnswer z s
   unfolding runAnswer
@@ -45,14 +41,3 @@ module _ (z : Sizes) (m : List Float) (l : List ℕ) (r : List (List ℕ)) (ws :
 
         pub answer-5 : (x : Bool) → x ≡ allFinite m → x ≡ true → Accepted ≡ runAnswer z s
         answer-5 x i j = sym (passes 4 0 (damaged (planOf z) s || not (allFinite m)) Accepted (rw (sym g ∙ h, sym i ∙ j))) ∙ last
-
--- ---- the reply
-
-module _ (z : Sizes) (budget : ℕ) (s : Lent) (a : Answer) (e : a ≡ runAnswer z s) where
-  pub refused : (number place : ℕ) → a ≡ Refused number place → _≡_ {A = RunEnd} (record { answer = RunRefused number place; left = s }) (runCall z budget s)
-  unfolding runCall runReplied
-  refused number place q = ap (λ (x : Answer). runReplied x s (wholeRun (planOf z) (z .workers) budget s)) (sym q ∙ e)
-
-  pub accepted : a ≡ Accepted → wholeRun (planOf z) (z .workers) budget s ≡ runCall z budget s
-  unfolding runCall runReplied
-  accepted q = ap (λ (x : Answer). runReplied x s (wholeRun (planOf z) (z .workers) budget s)) (sym q ∙ e)

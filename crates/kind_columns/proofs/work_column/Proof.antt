@@ -1,9 +1,9 @@
 -- Each kind has its column. Assumes nothing.
 use borrow.Author.Needs.{needs}
 use Rattle.call_laws.proofs.Named.{named-1, named-2, named-3, named-4}
-use Rattle.task_columns.proofs.Laws.{workable-as, ends-as}
-use Rattle.task_columns.proofs.work_column.Statement.{statement}
-use Rattle.task_columns.proofs.work_column.Tie as tie
+use Rattle.kind_columns.proofs.Laws.{workable-as, ends-as}
+use Rattle.kind_columns.proofs.work_column.Statement.{statement}
+use Rattle.kind_columns.proofs.work_column.Tie as tie
 
 cast-k : tie.Need-cast-k
 cast-k c = search needs
