@@ -1,4 +1,4 @@
--- What holds at each turn of a run's loop: what is left to do from here is the whole run. Assumes nothing.
+-- What holds at each turn of a run's loop: what is left to do from here ends as all from the first turn on. Assumes nothing.
 use Prim.Native.Nat.{ℕ, zero, suc, _+_, _-_, _*_, _%_, _≤_, _<_, min}
 use mathlib.Core.Bool.{Bool, true, false, cond}
 use mathlib.Core.Path.{_≡_, refl, sym, ap, _∙_, subst}
@@ -19,7 +19,7 @@ use Rattle.model.specs.Task.{tasks}
 use Rattle.model.specs.Plan.{plan, planOf}
 use Rattle.model.specs.Links.{task, mark, finished, ready}
 use Rattle.model.specs.Buffer.{Ended, finiteTiles}
-use Rattle.model.specs.Calls.{Lent, RunEnd, marksOf, withMark, marked, worker, idle, holding, took, advanced, allFinished, runFrom, wholeRun}
+use Rattle.model.specs.Calls.{Lent, RunEnd, marksOf, withMark, marked, worker, idle, holding, took, advanced, allFinished, runFrom}
 use Rattle.model.specs.Refusal.{damaged, badTiles, runAnswer}
 use Rattle.laws.proofs.Refusals.{passed}
 use Rattle.laws.proofs.Tests.{never, or-false}
@@ -34,24 +34,25 @@ use Rattle.call_laws.proofs.Undamaged.{worker-lent, recorded}
 use Rattle.demand.proofs.Elements.{map-set}
 use Rattle.demand.proofs.Machine.{count, column-ends}
 use Rattle.demand.proofs.Limits.{good-tiles}
-use Rattle.demand.proofs.Whole.{Whole, in-range}
+use Rattle.demand.proofs.Whole.{Whole}
 use Rattle.demand.proofs.Steps.{took-whole, advanced-whole}
 use Rattle.demand.proofs.Answers.{run-whole, run-accepted}
 use Rattle.next.specs.Next.{Passed, LowestReady, NextBusy, busy-after, all-idle}
 use Rattle.task_columns.specs.Due.{ColumnDue}
 use Rattle.advancing.specs.Advancing.{Advanced}
 use Rattle.advancing.proofs.Laws.{due, state-after}
+use Rattle.turns_from.specs.Underway.{Underway}
 use Rattle.next.proofs.Rounds.{round}
 use Rattle.next.proofs.Steps.{takes, works, passes, over, finishes, ends}
 
-pub record Going (z : Sizes) (budget : ℕ) (s₀ : Lent) (ws₀ : List Worker) (m : List Float) (l : List ℕ) (r : List (List ℕ)) (ws : List Worker) (n w from : ℕ) : Type 0 where
+pub record Going (z : Sizes) (budget : ℕ) (all : RunEnd) (ws₀ : List Worker) (m : List Float) (l : List ℕ) (r : List (List ℕ)) (ws : List Worker) (n w from : ℕ) : Type 0 where
   pub whole : Whole z (lent m l r ws (z .workers))
   pub none : NoneReady (tasks (z .tiles)) (marksFrom r) from
   pub reached : from ≤ length r
   pub slots : length ws ≡ 32
   pub turn-of : w < z .workers
   pub within : n ≤ budget
-  pub left-to-do : runFrom (planOf z) (z .workers) (budget - n) n w (lent m l r ws (z .workers)) ≡ wholeRun (planOf z) (z .workers) budget s₀
+  pub left-to-do : runFrom (planOf z) (z .workers) (budget - n) n w (lent m l r ws (z .workers)) ≡ all
   pub others : drop (z .workers) ws ≡ drop (z .workers) ws₀
 
 -- ---- lengths
@@ -99,8 +100,8 @@ onward z budget n w u v s s' t R h e f step all =
     let b : suc (budget - (n + 1)) ≡ budget - n = omega arith in
     rw (k, e, f) (rw k at (sym (step (budget - (n + 1))) ∙ ap (λ (x : ℕ). runFrom (planOf z) (z .workers) x n w s) b ∙ all))
 
-module _ {z : Sizes} {budget : ℕ} {s₀ : Lent} {ws₀ : List Worker} {m : List Float} {l : List ℕ} {r : List (List ℕ)} {ws : List Worker} {n w from : ℕ}
-    (g : Going z budget s₀ ws₀ m l r ws n w from) where
+module _ {z : Sizes} {budget : ℕ} {all : RunEnd} {ws₀ : List Worker} {m : List Float} {l : List ℕ} {r : List (List ℕ)} {ws : List Worker} {n w from : ℕ}
+    (g : Going z budget all ws₀ m l r ws n w from) where
   abbrev W : ℕ
   W = z .workers
 
@@ -144,7 +145,7 @@ module _ {z : Sizes} {budget : ℕ} {s₀ : Lent} {ws₀ : List Worker} {m : Lis
     none-now = subst (λ (ms : List ℕ). NoneReady (tasks (z .tiles)) ms p) (sym (marks-lent m l r ws W)) (low .none)
 
     pub take-goes : p < length r → n < budget → (h : Worker) → h ≡ holding p 0 → (r' : List (List ℕ)) → recordsFrom r' ≡ marked p 1 (recordsFrom r)
-        → length r' ≡ length r → (u : ℕ) → u ≡ suc w % W → Going z budget s₀ ws₀ m l r' (set ws w h) (n + 1) u (p + 1)
+        → length r' ≡ length r → (u : ℕ) → u ≡ suc w % W → Going z budget all ws₀ m l r' (set ws w h) (n + 1) u (p + 1)
     unfolding lent took
     take-goes hp hn h e r' q k u f =
         let c : p < count z = subst (λ (x : ℕ). p < x) (records-long z m l r ws (g .whole)) hp in
@@ -174,10 +175,10 @@ module _ {z : Sizes} {budget : ℕ} {s₀ : Lent} {ws₀ : List Worker} {m : Lis
       as-lent : (x : ℕ) (f : Bool) → getD ws (x % W) idle .busy ≡ f → worker s (x % W) .busy ≡ f
       as-lent x f e = ap (λ (y : Worker). y .busy) (worker-lent m l r ws W (x % W) (mod-lt x (omega (arith, g .turn-of)))) ∙ e
 
-      pub pass-goes : (v ≡ W → ⊥) → Going z budget s₀ ws₀ m l r ws n v p
+      pub pass-goes : (v ≡ W → ⊥) → Going z budget all ws₀ m l r ws n v p
       pass-goes d = go v next d
         where
-          go : (v : ℕ) → NextBusy ws W w v → (v ≡ W → ⊥) → Going z budget s₀ ws₀ m l r ws n v p
+          go : (v : ℕ) → NextBusy ws W w v → (v ≡ W → ⊥) → Going z budget all ws₀ m l r ws n v p
           go v (all-idle quiet) d = absurd (d refl)
           go v (busy-after e h b before) d = record {
             whole = g .whole;
@@ -201,7 +202,7 @@ module _ {z : Sizes} {budget : ℕ} {s₀ : Lent} {ws₀ : List Worker} {m : Lis
 
       -- ---- or the run is over
 
-      pub run-over : v ≡ W → _≡_ {A = RunEnd} (record { answer = Finished n; left = s }) (wholeRun (planOf z) W budget s₀)
+      pub run-over : v ≡ W → _≡_ {A = RunEnd} (record { answer = Finished n; left = s }) all
       run-over e = sym (finishes z s (budget - n) n w (over z s (g .whole) no-task (quiet v next e))) ∙ g .left-to-do
         where
           quiet : (v : ℕ) → NextBusy ws W w v → v ≡ W → (x : ℕ) → x < W → worker s x .busy ≡ false
@@ -279,7 +280,7 @@ module _ {z : Sizes} {budget : ℕ} {s₀ : Lent} {ws₀ : List Worker} {m : Lis
               )
 
       pub work-goes : n < budget → (f : ℕ) → f ≡ cond (k .busy) from (min from (suc (h .task))) → (u : ℕ) → u ≡ suc w % W
-          → Going z budget s₀ ws₀ m' l' r' (set ws w k) (n + 1) u f
+          → Going z budget all ws₀ m' l' r' (set ws w k) (n + 1) u f
       work-goes hn f e u q =
           let i : Whole z (lent m' l' r' (set ws w k) W) = subst (Whole z) (sym advanced-is) (advanced-whole z s (g .whole) w (g .turn-of) busy-now) in
           let x = none-then f e in
@@ -297,7 +298,7 @@ module _ {z : Sizes} {budget : ℕ} {s₀ : Lent} {ws₀ : List Worker} {m : Lis
   -- ---- the budget is spent
 
   pub run-ends : budget ≤ n → (a : RunAnswer) → a ≡ cond (every finished (marksFrom r)) (Finished n) (Spent n)
-      → _≡_ {A = RunEnd} (record { answer = a; left = s }) (wholeRun (planOf z) W budget s₀)
+      → _≡_ {A = RunEnd} (record { answer = a; left = s }) all
   unfolding allFinished
   run-ends h a e =
       let k : 0 ≡ budget - n = omega arith in
@@ -307,27 +308,24 @@ module _ {z : Sizes} {budget : ℕ} {s₀ : Lent} {ws₀ : List Worker} {m : Lis
 
 -- ---- the first turn
 
-pub starts : (z : Sizes) (budget : ℕ) (m : List Float) (l : List ℕ) (r : List (List ℕ)) (ws : List Worker) → length ws ≡ 32
-    → runAnswer z (lent m l r ws (z .workers)) ≡ Accepted → Going z budget (lent m l r ws (z .workers)) ws m l r ws 0 0 0
-unfolding wholeRun
-starts z budget m l r ws h e =
-    let i : Whole z (lent m l r ws (z .workers)) = run-whole z (lent m l r ws (z .workers)) e in
-    record {
-      whole = i;
-      none = λ q k. absurd (omega arith);
-      reached = omega arith;
-      slots = h;
-      turn-of = in-range z (i .fit) .some-workers;
-      within = omega arith;
-      left-to-do = ap (λ (x : ℕ). runFrom (planOf z) (z .workers) x 0 0 (lent m l r ws (z .workers))) (omega arith);
-      others = refl;
-    }
+pub starts : (z : Sizes) (budget : ℕ) (m : List Float) (l : List ℕ) (r : List (List ℕ)) (ws : List Worker) (n w from : ℕ) → length ws ≡ 32
+    → Underway z budget m l r ws n w from → Going z budget (runFrom (planOf z) (z .workers) (budget - n) n w (lent m l r ws (z .workers))) ws m l r ws n w from
+starts z budget m l r ws n w from h d = record {
+  whole = run-whole z (lent m l r ws (z .workers)) (d .accepted);
+  none = d .none;
+  reached = d .reached;
+  slots = h;
+  turn-of = d .turn-of;
+  within = d .within;
+  left-to-do = refl;
+  others = refl;
+}
 
 -- ---- lengths stay, and the loop ends: with each call the budget left gets smaller, and a turn that passes goes from an idle worker to a busy one
 
-module _ {z : Sizes} {budget : ℕ} (m₀ : List Float) (l₀ : List ℕ) (r₀ : List (List ℕ)) (ws₀ : List Worker) (a : runAnswer z (lent m₀ l₀ r₀ ws₀ (z .workers)) ≡ Accepted)
+module _ {z : Sizes} {budget : ℕ} {all : RunEnd} (m₀ : List Float) (l₀ : List ℕ) (r₀ : List (List ℕ)) (ws₀ : List Worker) (a : runAnswer z (lent m₀ l₀ r₀ ws₀ (z .workers)) ≡ Accepted)
     {m : List Float} {l : List ℕ} {r : List (List ℕ)} {ws : List Worker} {n w from : ℕ}
-    (g : Going z budget (lent m₀ l₀ r₀ ws₀ (z .workers)) ws₀ m l r ws n w from) where
+    (g : Going z budget all ws₀ m l r ws n w from) where
   pub matrix-kept : length m ≡ length m₀
   matrix-kept = matrix-long z m l r ws (g .whole) ∙ sym (matrix-long z m₀ l₀ r₀ ws₀ (run-whole z (lent m₀ l₀ r₀ ws₀ (z .workers)) a))
 
