@@ -184,6 +184,21 @@ def callee(path, n):
     return "use %s as %s\nuse %s.Symbol as %s-def\nuse %s.Symbol.{name as #%s}\nuse %s.Met as %s-thm\n" % (path, n, path, n, path, n, path, n)
 
 
+def uses_of(walk):
+    """the lines of call_walks.uses, each with what the walk names"""
+    words = set(re.findall(r"[^\s(){}.,;]+", re.sub(r"--[^\n]*", "", walk)))
+    lines = []
+    with open(os.path.join(os.path.dirname(os.path.abspath(__file__)), "call_walks.uses"), encoding="utf-8") as file:
+        for line in file:
+            module, brace, names = line.rstrip("}\n").partition("{")
+            listed = [x for x in names.split(", ") if x.split(" as ")[-1].strip("_") in words]
+            if listed:
+                lines.append(module + "{" + ", ".join(listed) + "}\n")
+            elif not brace and module.split(" as ")[-1] in words:
+                lines.append(line)
+    return "".join(lines)
+
+
 def write(call):
     name = call["name"]
     params = call["params"]
@@ -292,11 +307,11 @@ def write(call):
 
     s = []
     s.append("-- `%s_call::%s` meets its contract: a walk of its MIR. The local array is lent to `load` beside the records, to `%s_part` beside the %s%s, each time for a lifetime that is made for the call. Written by tools/call_walks.py.\n-- Assumes nothing.\n" % (name, name, name, "matrix, the lists, the right side and the answers" if ans else "matrix and the lists", ", and to `store` beside the records" if has_store else ""))
-    s.append(open(os.path.join(os.path.dirname(os.path.abspath(__file__)), "call_walks.uses")).read())
+    s.append(None)      # call_walks.uses, once the walk is written
     s.append("use Rattle.model.specs.declared.%s.{%s}\n" % (reply, reply) + reply_mods)
     s.append("use Rattle.model.specs.%s.{%sCall}\n" % (call.get("spec", "Refusal"), name))
     s.append("use Rattle.copies.proofs.%s.{%s}\n" % (call["laws"], call["law"]))
-    s.append(callee("Rattle.task_records.proofs.looked_at", "lk") + callee("Rattle.task_records.proofs.load", "ld") + callee("Rattle·%s_call·proofs.proofs.%s_part" % (name, name), "co"))
+    s.append(callee("Rattle.task_records.proofs.looked_at", "lk") + callee("Rattle.task_records.proofs.load", "ld") + callee("Rattle·%s_part.proofs.%s_part" % (name, name), "co"))
     if held:
         s.append(callee("Rattle·%s_call·proofs.proofs.task_held" % name, "th"))
     if uses_past:
@@ -815,9 +830,10 @@ def write(call):
     s.append("  goes : AllGo 𝓤 H A W %d (f.signature .params) (f.ended .kept) stayed\n  goes = %s\n\n" % (len(slices), nested(goes)))
     s.append("  meets : Meets 𝓤 H A f.signature (WpFn 𝓤 H (𝓣 .C) (𝓣 .Λ) code.function) (f.spec 𝓤 H A mem run)\n  meets = walk-meets 𝓤 H A f.ended stayed W goes (f.clauses 𝓤 H A mem run) (WpFn 𝓤 H (𝓣 .C) (𝓣 .Λ) code.function) (WpFn-mono 𝓤 H (W .laws) 𝓣 code.function) walks\n\n")
     s.append("pub %s-spec : {M : Type 1} → stated.statement M\nunfolding code.routine tablesOf\n%s-spec 𝓤 H 𝓜 𝓖 𝓡 =\n    entered 𝓤 H (tripleOf 𝓤 H (𝓖 .A) f.signature (f.spec 𝓤 H (𝓖 .A) (𝓜 .mem) (𝓡 .run)))\n    (tables 𝓤 H 𝓜 𝓡 code.env .C) (tables 𝓤 H 𝓜 𝓡 code.env .Λ) #f code.function (code.unfolded 𝓤 H 𝓜 𝓡)\n    (meets 𝓤 H (𝓖 .A) (givenOf 𝓤 H 𝓜 𝓖) (𝓜 .mem) (𝓡 .run) (tablesOf 𝓤 H 𝓜 (tables 𝓤 H 𝓜 𝓡 code.env))\n" % (name, name))
-    symbol = {"lk": "task-records·looked-at", "ld": "task-records·load", "co": "%s-call·%s-part" % (name, name), "th": "%s-call·task-held" % name, "pt": "task-records·past", "st": "task-records·store"}
+    symbol = {"lk": "task-records·looked-at", "ld": "task-records·load", "co": "%s-part·%s-part" % (name, name), "th": "%s-call·task-held" % name, "pt": "task-records·past", "st": "task-records·store"}
     cites = ["    (cited 𝓤 H (%s 𝓤 H (𝓖 .A) (𝓜 .mem) (𝓡 .run)) 𝓜 𝓡 code.env #%s %s-def.routine code.calls-%s (%s-thm.met 𝓤 H 𝓜 𝓖 𝓡))" % (c, n, n, symbol[n], n) for c, n in cited]
     s.append("\n".join(cites) + ")\n")
+    s[1] = uses_of("".join(s[:1] + s[2:]))
     folder = os.path.join(ROOT, name + "_call", "proofs", name)
     os.makedirs(folder, exist_ok=True)
     # in the layout of `rt fmt`: no blanks at a line's end, and one between words

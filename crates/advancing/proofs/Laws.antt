@@ -86,14 +86,6 @@ module _ (z : Sizes) (w : ℕ) (m : List Float) (l : List ℕ) (r : List (List �
         inside = record-inside z m l r ws (d .sound .sizes) (d .sound .records-fit) (d .sound .undamaged) p (holds .0);
       }
 
--- ---- the worker afterwards
-
-pub freed : (b : Bool) (x y : Worker) → b ≡ true → x ≡ cond b x y
-freed b x y e = rw e
-
-pub goes-on : (b : Bool) (p c : ℕ) → b ≡ false → holding p (c + 1) ≡ cond b idle (holding p (suc c))
-goes-on b p c e = rw e (ap (λ (k : ℕ). holding p k) (omega arith))
-
 -- ---- the state after worker w's column
 
 module _ (z : Sizes) (m : List Float) (l : List ℕ) (r : List (List ℕ)) (ws : List Worker) (w : ℕ) (here : w < z .workers) where

@@ -1,30 +1,16 @@
 // A busy worker does the next column of the task it holds.
 ghost use mathlib.Core.Path.{_≡_};
-ghost use mathlib.Core.Bool.{cond};
-ghost use Prim.Native.Nat.{suc, _<_};
 ghost use lib.ListN.{drop};
 ghost use Rattle.model.specs.Plan.{planOf};
-ghost use Rattle.model.specs.Links.{finished};
-ghost use Rattle.model.specs.Calls.{idle, holding, advanced};
+ghost use Rattle.model.specs.Calls.{advanced};
 ghost use Rattle.records.specs.Records.{lent};
 ghost use Rattle.task_columns.specs.Due.{ColumnDue};
 ghost use Rattle.advancing.specs.Advancing.{Advanced, Working};
-use marks::is_finished;
+use column_marks::moved_on;
 use model::Sizes;
 use model::Worker;
 use record_changes::set_mark;
 use task_columns::work_task;
-
-// The worker after a column that left its task with this mark.
-fn moved_on(h: Worker, mark: u8) -> Worker
-    requires { ⌜ h .column < 255 ⌝ }
-    ensures { λ r. ⌜ r ≡ cond (finished mark) idle (holding (h .task) (suc (h .column))) ⌝ }
-{
-    if is_finished(mark) {
-        return h.release();
-    }
-    h.advance()
-}
 
 // The worker h does the next column of the task it holds, and is handed back as it goes on.
 pub fn advance(

@@ -1,40 +1,19 @@
 // A worker does the next column of its task, over task records that are lent as a slice of structs. The records that the call looks at are copied, the call works on the
 // copies, and those that it may have changed are copied back.
 ghost use mathlib.Core.Path.{_≡_};
-ghost use Prim.Native.Nat.{_≤_};
-ghost use lib.ListN.{length, drop, getD, take as upTo};
+ghost use lib.ListN.{drop, getD};
 ghost use Rattle.model.specs.Calls.{idle};
 ghost use Rattle.model.specs.Refusal.{columnCall};
-ghost use Rattle.records.specs.Records.{lent};
 ghost use Rattle.copies.specs.Whole.{whole};
-use loading::load;
+use column_part::column_part;
 use model::CallReply;
 use model::Sizes;
 use model::TaskRecord;
 use model::Worker;
-use storing::store;
+use loading::load;
 use task_records::looked_at;
 use task_records::past;
-
-// A column call, over the first n of a slice of records.
-fn column_part(
-    z: Sizes,
-    matrix: &mut [f64],
-    lists: &mut [u8],
-    flat: &mut [[u8; 5]],
-    n: usize,
-    workers: [Worker; 32],
-    w: usize,
-) -> CallReply
-    requires { ⌜ n ≤ length (now flat) ⌝ }
-    ensures { λ r. ⌜ (record {
-      answer = r .answer;
-      left = lent (now (matrix .exit)) (now (lists .exit)) (upTo n (now (flat .exit))) (r .workers) (z .workers);
-    } ≡ columnCall z w (lent (now (matrix .entry)) (now (lists .entry)) (upTo n (now (flat .entry))) workers (z .workers)))
-        × (drop (z .workers) (r .workers) ≡ drop (z .workers) workers) ⌝ }
-{
-    working::column(z, matrix, lists, &mut flat[..n], workers, w)
-}
+use storing::store;
 
 // The task of worker w; 0 if there is no such slot.
 fn task_held(workers: [Worker; 32], w: usize) -> usize

@@ -1,37 +1,17 @@
 // Opening a system, over task records that are lent as a slice of structs. The records that the call looks at are copied, the call works on the
 // copies, and those that it may have changed are copied back.
 ghost use mathlib.Core.Path.{_≡_};
-ghost use Prim.Native.Nat.{_≤_};
-ghost use lib.ListN.{length, drop, take as upTo};
+ghost use lib.ListN.{drop};
 ghost use Rattle.model.specs.Refusal.{openCall};
-ghost use Rattle.records.specs.Records.{lent};
 ghost use Rattle.copies.specs.Whole.{whole};
-use loading::load;
 use model::CallReply;
 use model::Sizes;
 use model::TaskRecord;
 use model::Worker;
-use storing::store;
+use open_part::open_part;
+use loading::load;
 use task_records::looked_at;
-
-// The opening, over the first n of a slice of records.
-fn open_part(
-    z: Sizes,
-    matrix: &[f64],
-    lists: &mut [u8],
-    flat: &mut [[u8; 5]],
-    n: usize,
-    workers: [Worker; 32],
-) -> CallReply
-    requires { ⌜ n ≤ length (now flat) ⌝ }
-    ensures { λ r. ⌜ (record {
-      answer = r .answer;
-      left = lent (now (matrix .entry)) (now (lists .exit)) (upTo n (now (flat .exit))) (r .workers) (z .workers);
-    } ≡ openCall z (lent (now (matrix .entry)) (now (lists .entry)) (upTo n (now (flat .entry))) workers (z .workers)))
-        × (drop (z .workers) (r .workers) ≡ drop (z .workers) workers) ⌝ }
-{
-    opening::open(z, matrix, lists, &mut flat[..n], workers)
-}
+use storing::store;
 
 // Opens a system.
 // Of the 32 worker slots the first z.workers are lent, and the others stay as they are.

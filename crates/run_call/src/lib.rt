@@ -1,38 +1,17 @@
 // The whole run, over task records that are lent as a slice of structs. The records that the call looks at are copied, the call works on the
 // copies, and those that it may have changed are copied back.
 ghost use mathlib.Core.Path.{_≡_};
-ghost use Prim.Native.Nat.{_≤_};
-ghost use lib.ListN.{length, drop, take as upTo};
+ghost use lib.ListN.{drop};
 ghost use Rattle.model.specs.Refusal.{runCall};
-ghost use Rattle.records.specs.Records.{lent};
 ghost use Rattle.copies.specs.Whole.{whole};
-use loading::load;
 use model::RunReply;
 use model::Sizes;
 use model::TaskRecord;
 use model::Worker;
-use storing::store;
+use run_part::run_part;
+use loading::load;
 use task_records::looked_at;
-
-// The run, over the first n of a slice of records.
-fn run_part(
-    z: Sizes,
-    matrix: &mut [f64],
-    lists: &mut [u8],
-    flat: &mut [[u8; 5]],
-    n: usize,
-    workers: [Worker; 32],
-    budget: u64,
-) -> RunReply
-    requires { ⌜ n ≤ length (now flat) ⌝ }
-    ensures { λ r. ⌜ (record {
-      answer = r .answer;
-      left = lent (now (matrix .exit)) (now (lists .exit)) (upTo n (now (flat .exit))) (r .workers) (z .workers);
-    } ≡ runCall z budget (lent (now (matrix .entry)) (now (lists .entry)) (upTo n (now (flat .entry))) workers (z .workers)))
-        × (drop (z .workers) (r .workers) ≡ drop (z .workers) workers) ⌝ }
-{
-    runs::run(z, matrix, lists, &mut flat[..n], workers, budget)
-}
+use storing::store;
 
 // Runs a system for at most `budget` calls. The answer has the count of the calls made.
 // Of the 32 worker slots the first z.workers are lent, and the others stay as they are.

@@ -1,40 +1,18 @@
 // A worker takes a task, over task records that are lent as a slice of structs. The records that the call looks at are copied, the call works on the
 // copies, and those that it may have changed are copied back.
 ghost use mathlib.Core.Path.{_≡_};
-ghost use Prim.Native.Nat.{_≤_};
-ghost use lib.ListN.{length, drop, take as upTo};
+ghost use lib.ListN.{drop};
 ghost use Rattle.model.specs.Refusal.{takeCall};
-ghost use Rattle.records.specs.Records.{lent};
 ghost use Rattle.copies.specs.Whole.{whole};
-use loading::load;
 use model::CallReply;
 use model::Sizes;
 use model::TaskRecord;
 use model::Worker;
-use storing::store;
+use take_part::take_part;
+use loading::load;
 use task_records::looked_at;
 use task_records::past;
-
-// A take, over the first n of a slice of records.
-fn take_part(
-    z: Sizes,
-    matrix: &[f64],
-    lists: &[u8],
-    flat: &mut [[u8; 5]],
-    n: usize,
-    workers: [Worker; 32],
-    w: usize,
-    p: usize,
-) -> CallReply
-    requires { ⌜ n ≤ length (now flat) ⌝ }
-    ensures { λ r. ⌜ (record {
-      answer = r .answer;
-      left = lent (now (matrix .entry)) (now (lists .entry)) (upTo n (now (flat .exit))) (r .workers) (z .workers);
-    } ≡ takeCall z w p (lent (now (matrix .entry)) (now (lists .entry)) (upTo n (now (flat .entry))) workers (z .workers)))
-        × (drop (z .workers) (r .workers) ≡ drop (z .workers) workers) ⌝ }
-{
-    taking::take(z, matrix, lists, &mut flat[..n], workers, w, p)
-}
+use storing::store;
 
 // Worker w takes task p.
 // Of the 32 worker slots the first z.workers are lent, and the others stay as they are.

@@ -6,19 +6,12 @@ ghost use Rattle.model.specs.Plan.{planOf};
 ghost use Rattle.model.specs.Calls.{wholeRun};
 ghost use Rattle.model.specs.Refusal.{runAnswer};
 ghost use Rattle.records.specs.Records.{lent};
-use advancing::advance;
-use model::RunAnswer;
 use model::RunReply;
 use model::Sizes;
 use model::Worker;
-use next_task::lowest_ready;
-use next_task::search_from;
-use next_task::take_task;
-use next_worker::after;
-use next_worker::next_busy;
-use unfinished::answer_after;
+use turns_from::turns_from;
 
-// Workers take turns until every task is finished or the budget is spent. Below `from` no task is ready, so a search begins there.
+// Workers take turns until every task is finished or the budget is spent. Worker 0 begins.
 pub fn take_turns(
     z: Sizes,
     matrix: &mut [f64],
@@ -34,43 +27,8 @@ pub fn take_turns(
     } ≡ wholeRun (planOf z) (z .workers) budget (lent (now (matrix .entry)) (now (lists .entry)) (now (records .entry)) workers (z .workers)) ⌝ }
     ensures { λ r. ⌜ drop (z .workers) (r .workers) ≡ drop (z .workers) workers ⌝ }
 {
-    let mut left = workers;
-    let mut n = 0;
-    let mut w = 0;
-    let mut from = 0;
-    while n < budget {
-        let h = left[w];
-        if h.busy {
-            let g = advance(z, matrix, lists, records, h);
-            left[w] = Worker {
-                busy: g.busy,
-                task: g.task,
-                column: g.column,
-            };
-            from = search_from(from, g.busy, h.task as usize);
-            n += 1;
-            w = after(z.workers, w);
-            continue;
-        }
-        from = lowest_ready(z.tiles, records, from);
-        if from < records.len() {
-            left[w] = take_task(records, from, h);
-            from += 1;
-            n += 1;
-            w = after(z.workers, w);
-            continue;
-        }
-        let v = next_busy(left, z.workers, w);
-        if v == z.workers {
-            return RunReply {
-                answer: RunAnswer::Finished(n),
-                workers: left,
-            };
-        }
-        w = v;
-    }
-    RunReply {
-        answer: answer_after(records, n),
-        workers: left,
-    }
+    let n = 0;
+    let w = 0;
+    let from = 0;
+    turns_from(z, matrix, lists, records, workers, budget, n, w, from)
 }

@@ -1,8 +1,8 @@
 -- `column_call::column` meets its contract: a walk of its MIR. The local array is lent to `load` beside the records, to `column_part` beside the matrix and the lists, and to `store` beside the records, each time for a lifetime that is made for the call. Written by tools/call_walks.py.
 -- Assumes nothing.
-use mathlib.Core.Path.{_≡_, refl, sym, ap, subst, _∙_}
+use mathlib.Core.Path.{_≡_, refl, sym, ap, subst}
 use mathlib.Core.Bool.{cond}
-use Prim.Native.Nat.{ℕ, _+_, _-_, _*_, _<_, _≤_, _^_}
+use Prim.Native.Nat.{ℕ, _+_, _-_, _<_, _≤_, _^_}
 use native.Mathlib.Nat.{le-trans, lt-of-le-of-lt}
 use native.Mathlib.Omega.{arith}
 use mathlib.Core.List.{[], _∷_, List}
@@ -30,13 +30,13 @@ use sound.WpLaws.{FmC, fmOf, WpFn-mono}
 use denote.RattleType.{owns}
 use denote.Laws.{Is, shows}
 use denote.Plain.{uint-makes, uint-vals, uint-tells, uint-copy, uint-lawful}
-use denote.Builtin.{u8, f64, unit, usize, u64}
+use denote.Builtin.{u8, f64, unit, usize}
 use denote.Array.{Array, arrayVal, array-vals, array-tells, array-makes, array-lawful, array-repeat, array-copy}
 use denote.Signature.Array.{arrayOf}
-use denote.Signature.{plain, shrSliceOf}
+use denote.Signature.{plain}
 use denote.Memory.{shares}
 use denote.Ref.{RefT, now}
-use denote.Slice.{sliceVal, MutSlice, ShrSlice, Room, finally, slice-vals, mut-slice-tells, shr-slice-tells}
+use denote.Slice.{sliceVal, MutSlice, ShrSlice, Room, finally, slice-vals, mut-slice-tells}
 use denote.Lend.{Held}
 use denote.Struct.Laws as LL
 use denote.Steps.{only, owned, peeks, heard, nothing}
@@ -73,14 +73,14 @@ use Rattle.task_records.proofs.looked_at as lk
 use Rattle.task_records.proofs.looked_at.Symbol as lk-def
 use Rattle.task_records.proofs.looked_at.Symbol.{name as #lk}
 use Rattle.task_records.proofs.looked_at.Met as lk-thm
-use Rattle.loading.proofs.load as ld
-use Rattle.loading.proofs.load.Symbol as ld-def
-use Rattle.loading.proofs.load.Symbol.{name as #ld}
-use Rattle.loading.proofs.load.Met as ld-thm
-use Rattle.column_call.proofs.column_part as co
-use Rattle.column_call.proofs.column_part.Symbol as co-def
-use Rattle.column_call.proofs.column_part.Symbol.{name as #co}
-use Rattle.column_call.proofs.column_part.Met as co-thm
+use Rattle.task_records.proofs.load as ld
+use Rattle.task_records.proofs.load.Symbol as ld-def
+use Rattle.task_records.proofs.load.Symbol.{name as #ld}
+use Rattle.task_records.proofs.load.Met as ld-thm
+use Rattle.column_part.proofs.column_part as co
+use Rattle.column_part.proofs.column_part.Symbol as co-def
+use Rattle.column_part.proofs.column_part.Symbol.{name as #co}
+use Rattle.column_part.proofs.column_part.Met as co-thm
 use Rattle.column_call.proofs.task_held as th
 use Rattle.column_call.proofs.task_held.Symbol as th-def
 use Rattle.column_call.proofs.task_held.Symbol.{name as #th}
@@ -89,10 +89,10 @@ use Rattle.task_records.proofs.past as pt
 use Rattle.task_records.proofs.past.Symbol as pt-def
 use Rattle.task_records.proofs.past.Symbol.{name as #pt}
 use Rattle.task_records.proofs.past.Met as pt-thm
-use Rattle.storing.proofs.store as st
-use Rattle.storing.proofs.store.Symbol as st-def
-use Rattle.storing.proofs.store.Symbol.{name as #st}
-use Rattle.storing.proofs.store.Met as st-thm
+use Rattle.task_records.proofs.store as st
+use Rattle.task_records.proofs.store.Symbol as st-def
+use Rattle.task_records.proofs.store.Symbol.{name as #st}
+use Rattle.task_records.proofs.store.Met as st-thm
 use Rattle.column_call.proofs.column.Key.{name as #f}
 use Rattle.column_call.proofs.column as f
 use Rattle.column_call.proofs.column.Statement as stated
@@ -393,8 +393,8 @@ column-spec 𝓤 H 𝓜 𝓖 𝓡 =
     (tables 𝓤 H 𝓜 𝓡 code.env .C) (tables 𝓤 H 𝓜 𝓡 code.env .Λ) #f code.function (code.unfolded 𝓤 H 𝓜 𝓡)
     (meets 𝓤 H (𝓖 .A) (givenOf 𝓤 H 𝓜 𝓖) (𝓜 .mem) (𝓡 .run) (tablesOf 𝓤 H 𝓜 (tables 𝓤 H 𝓜 𝓡 code.env))
     (cited 𝓤 H (Look 𝓤 H (𝓖 .A) (𝓜 .mem) (𝓡 .run)) 𝓜 𝓡 code.env #lk lk-def.routine code.calls-task-records·looked-at (lk-thm.met 𝓤 H 𝓜 𝓖 𝓡))
-    (cited 𝓤 H (Load 𝓤 H (𝓖 .A) (𝓜 .mem) (𝓡 .run)) 𝓜 𝓡 code.env #ld ld-def.routine code.calls-loading·load (ld-thm.met 𝓤 H 𝓜 𝓖 𝓡))
-    (cited 𝓤 H (Core 𝓤 H (𝓖 .A) (𝓜 .mem) (𝓡 .run)) 𝓜 𝓡 code.env #co co-def.routine code.calls-column-call·column-part (co-thm.met 𝓤 H 𝓜 𝓖 𝓡))
+    (cited 𝓤 H (Load 𝓤 H (𝓖 .A) (𝓜 .mem) (𝓡 .run)) 𝓜 𝓡 code.env #ld ld-def.routine code.calls-task-records·load (ld-thm.met 𝓤 H 𝓜 𝓖 𝓡))
+    (cited 𝓤 H (Core 𝓤 H (𝓖 .A) (𝓜 .mem) (𝓡 .run)) 𝓜 𝓡 code.env #co co-def.routine code.calls-column-part·column-part (co-thm.met 𝓤 H 𝓜 𝓖 𝓡))
     (cited 𝓤 H (Task 𝓤 H (𝓖 .A) (𝓜 .mem) (𝓡 .run)) 𝓜 𝓡 code.env #th th-def.routine code.calls-column-call·task-held (th-thm.met 𝓤 H 𝓜 𝓖 𝓡))
     (cited 𝓤 H (Past 𝓤 H (𝓖 .A) (𝓜 .mem) (𝓡 .run)) 𝓜 𝓡 code.env #pt pt-def.routine code.calls-task-records·past (pt-thm.met 𝓤 H 𝓜 𝓖 𝓡))
-    (cited 𝓤 H (Store 𝓤 H (𝓖 .A) (𝓜 .mem) (𝓡 .run)) 𝓜 𝓡 code.env #st st-def.routine code.calls-storing·store (st-thm.met 𝓤 H 𝓜 𝓖 𝓡)))
+    (cited 𝓤 H (Store 𝓤 H (𝓖 .A) (𝓜 .mem) (𝓡 .run)) 𝓜 𝓡 code.env #st st-def.routine code.calls-task-records·store (st-thm.met 𝓤 H 𝓜 𝓖 𝓡)))

@@ -1,7 +1,7 @@
 -- A refusal leaves everything; else the turns are the whole run. Assumes nothing.
 use mathlib.Core.Path.{refl, sym, _∙_}
 use borrow.Author.Needs.{needs}
-use Rattle.runs.proofs.Refused.{refused, accepted}
+use Rattle.runs.proofs.Replies.{refused, accepted}
 use Rattle.runs.proofs.run.Statement.{statement}
 use Rattle.runs.proofs.run.Tie as tie
 use Rattle.runs.proofs.run.Reads as reads

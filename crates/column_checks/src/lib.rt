@@ -1,0 +1,40 @@
+// The refusals of a column call.
+ghost use mathlib.Core.Path.{_≡_};
+ghost use Rattle.model.specs.Refusal.{columnAnswer};
+ghost use Rattle.records.specs.Records.{lent};
+use answers::accepted;
+use task_tiles::bad_tiles;
+use model::Answer;
+use model::Sizes;
+use model::Worker;
+use records::record_at;
+use states::state_answer;
+
+// What a column call of worker w answers. A worker that is idle or doesn't exist has no task, whose tiles could be bad.
+pub fn column_answer(
+    z: Sizes,
+    matrix: &[f64],
+    lists: &[u8],
+    records: &[[u8; 5]],
+    workers: [Worker; 32],
+    w: usize,
+) -> Answer
+    ensures { λ r. ⌜ r ≡ columnAnswer z w (lent (now (matrix .entry)) (now (lists .entry)) (now (records .entry)) workers (z .workers)) ⌝ }
+{
+    let state = state_answer(z, matrix, lists, records, workers);
+    if !accepted(state) {
+        return state;
+    }
+    if z.workers <= w {
+        return Answer::Refused(5, w);
+    }
+    let h = workers[w];
+    if !h.busy {
+        return Answer::Refused(5, w);
+    }
+    let p = h.task as usize;
+    if bad_tiles(z, matrix, record_at(records, p)) {
+        return Answer::Refused(4, 0);
+    }
+    Answer::Accepted
+}

@@ -1,0 +1,49 @@
+// Marks around a column: whether they spoil its task, the one that its end gives, and what that makes of the worker.
+ghost use mathlib.Core.Path.{_≡_};
+ghost use mathlib.Core.Bool.{_&&_, cond};
+ghost use Prim.Native.Nat.{suc, _<_};
+ghost use lib.Dec.{eqb};
+ghost use Rattle.model.specs.Task.{tasks};
+ghost use Rattle.model.specs.Links.{spoils, finished};
+ghost use Rattle.model.specs.Buffer.{markOf};
+ghost use Rattle.model.specs.Calls.{idle, holding};
+ghost use Rattle.marks.specs.Marks.{Recorded};
+ghost use Rattle.records.specs.Records.{marksFrom};
+use marks::is_finished;
+use spoiling::is_spoiled;
+use model::ColumnEnd;
+use model::Sizes;
+use model::Worker;
+
+// Whether task p, called for at column c, is spoiled: that is seen at its first column.
+pub fn spoiled_at(z: Sizes, records: &[[u8; 5]], p: usize, c: usize) -> bool
+    requires { ⌜ Recorded (z .tiles) (now records) p ⌝ }
+    ensures { λ r. ⌜ r ≡ (eqb c 0 && spoils (tasks (z .tiles)) (marksFrom (now (records .entry))) p) ⌝ }
+{
+    if c != 0 {
+        return false;
+    }
+    is_spoiled(z.tiles, records, p)
+}
+
+// The mark that a column's end gives its task.
+pub fn mark_after(end: ColumnEnd) -> u8
+    ensures { λ r. ⌜ r ≡ markOf end ⌝ }
+{
+    match end {
+        ColumnEnd::GoesOn => 1,
+        ColumnEnd::Done => 2,
+        ColumnEnd::Failed => 3,
+    }
+}
+
+// The worker after a column that left its task with this mark.
+pub fn moved_on(h: Worker, mark: u8) -> Worker
+    requires { ⌜ h .column < 255 ⌝ }
+    ensures { λ r. ⌜ r ≡ cond (finished mark) idle (holding (h .task) (suc (h .column))) ⌝ }
+{
+    if is_finished(mark) {
+        return h.release();
+    }
+    h.advance()
+}

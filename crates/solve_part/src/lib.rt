@@ -1,0 +1,27 @@
+// A solve over the first task records of a slice.
+ghost use mathlib.Core.Path.{_≡_};
+ghost use Prim.Native.Nat.{_≤_};
+ghost use lib.ListN.{length, take as upTo};
+ghost use Rattle.model.specs.Solve.{solveCall};
+ghost use Rattle.records.specs.Records.{lent};
+use model::Answer;
+use model::Sizes;
+use model::Worker;
+
+// A solve, over the first n of a slice of records.
+pub fn solve_part(
+    z: Sizes,
+    matrix: &[f64],
+    lists: &[u8],
+    flat: &[[u8; 5]],
+    n: usize,
+    workers: [Worker; 32],
+    right: &[f64],
+    answers: &mut [f64],
+) -> Answer
+    requires { ⌜ n ≤ length (now flat) ⌝ }
+    ensures { λ r. ⌜ record { answer = r; left = now (answers .exit) }
+        ≡ solveCall z (lent (now (matrix .entry)) (now (lists .entry)) (upTo n (now (flat .entry))) workers (z .workers)) (now (right .entry)) (now (answers .entry)) ⌝ }
+{
+    solving::solve(z, matrix, lists, &flat[..n], workers, right, answers)
+}

@@ -1,0 +1,354 @@
+-- What holds at each turn of a run's loop: what is left to do from here ends as all from the first turn on. Assumes nothing.
+use Prim.Native.Nat.{ℕ, zero, suc, _+_, _-_, _*_, _%_, _≤_, _<_, min}
+use mathlib.Core.Bool.{Bool, true, false, cond}
+use mathlib.Core.Path.{_≡_, refl, sym, ap, _∙_, subst}
+use mathlib.Core.List.{List, map}
+use native.Mathlib.Nat.{mod-lt, min-le-left, mul-mul-mul-comm}
+use native.Mathlib.Omega.{arith}
+use lib.Ieee.{Float}
+use lib.ListN.{length, getD, set, take, drop, length-set}
+use lib.Seq.{drop-set-lt, take-set-lt}
+use Rattle.model.specs.declared.Sizes.{Sizes}
+use Rattle.model.specs.declared.TaskRecord.{TaskRecord}
+use Rattle.model.specs.declared.Worker.{Worker}
+use Rattle.model.specs.declared.Answer.the-variants.{Accepted}
+use Rattle.model.specs.declared.RunAnswer.{RunAnswer}
+use Rattle.model.specs.declared.RunAnswer.the-variants.{Finished, Spent}
+use Rattle.model.specs.Lists.{every}
+use Rattle.model.specs.Task.{tasks}
+use Rattle.model.specs.Plan.{plan, planOf}
+use Rattle.model.specs.Links.{task, mark, finished, ready}
+use Rattle.model.specs.Buffer.{Ended, finiteTiles}
+use Rattle.model.specs.Calls.{Lent, RunEnd, marksOf, withMark, marked, worker, idle, holding, took, advanced, allFinished, runFrom}
+use Rattle.model.specs.Refusal.{damaged, badTiles, runAnswer}
+use Rattle.laws.proofs.Refusals.{passed}
+use Rattle.laws.proofs.Tests.{never, or-false}
+use Rattle.run_laws.proofs.Pointer.{NoneReady, none-after, none-after-take, none-kept}
+use Rattle.run_laws.proofs.Undamaged.{and-true-not}
+use Rattle.records.specs.Records.{recordsFrom, marksFrom, lent}
+use Rattle.records.proofs.Laws.{length-records, length-marks, marks-lent}
+use Rattle.checks.specs.Checks.{Sized}
+use Rattle.checks.proofs.Laws.{sized}
+use Rattle.numbering.proofs.Laws.{few-tasks}
+use Rattle.call_laws.proofs.Undamaged.{worker-lent, recorded}
+use Rattle.demand.proofs.Elements.{map-set}
+use Rattle.demand.proofs.Machine.{count, column-ends}
+use Rattle.demand.proofs.Limits.{good-tiles}
+use Rattle.demand.proofs.Whole.{Whole}
+use Rattle.demand.proofs.Steps.{took-whole, advanced-whole}
+use Rattle.demand.proofs.Answers.{run-whole, run-accepted}
+use Rattle.next.specs.Next.{Passed}
+use Rattle.next_task.specs.NextTask.{LowestReady}
+use Rattle.next_worker.specs.NextWorker.{NextBusy, busy-after, all-idle}
+use Rattle.task_columns.specs.Due.{ColumnDue}
+use Rattle.advancing.specs.Advancing.{Advanced}
+use Rattle.advancing.proofs.Laws.{due, state-after}
+use Rattle.turns_from.specs.Underway.{Underway}
+use Rattle.next_worker.proofs.Rounds.{round}
+use Rattle.next_worker.proofs.Steps.{takes, works, passes, over, finishes, ends}
+
+pub record Going (z : Sizes) (budget : ℕ) (all : RunEnd) (ws₀ : List Worker) (m : List Float) (l : List ℕ) (r : List (List ℕ)) (ws : List Worker) (n w from : ℕ) : Type 0 where
+  pub whole : Whole z (lent m l r ws (z .workers))
+  pub none : NoneReady (tasks (z .tiles)) (marksFrom r) from
+  pub reached : from ≤ length r
+  pub slots : length ws ≡ 32
+  pub turn-of : w < z .workers
+  pub within : n ≤ budget
+  pub left-to-do : runFrom (planOf z) (z .workers) (budget - n) n w (lent m l r ws (z .workers)) ≡ all
+  pub others : drop (z .workers) ws ≡ drop (z .workers) ws₀
+
+-- ---- lengths
+
+module _ (z : Sizes) (m : List Float) (l : List ℕ) (r : List (List ℕ)) (ws : List Worker) (h : Whole z (lent m l r ws (z .workers))) where
+  matrix-long : length m ≡ z .tiles * z .tiles * (z .side * z .side)
+  unfolding lent
+  matrix-long = h .stated .sized .matrix
+
+  lists-long : length l ≡ z .tiles * z .tiles * z .side
+  unfolding lent
+  lists-long = h .stated .sized .lists
+
+  pub records-long : length r ≡ count z
+  unfolding lent
+  records-long = sym (length-records r) ∙ h .stated .records
+
+-- ---- the marks after one has changed
+
+marks-after : (r r' : List (List ℕ)) (p v : ℕ) → recordsFrom r' ≡ marked p v (recordsFrom r) → marksFrom r' ≡ set (marksFrom r) p v
+unfolding marksFrom marked withMark
+marks-after r r' p v e = ap (map (λ (x : TaskRecord). x .mark)) e ∙ map-set (λ (x : TaskRecord). x .mark) (recordsFrom r) p _
+
+none-in : (z : Sizes) (r r' : List (List ℕ)) (p v from : ℕ) → recordsFrom r' ≡ marked p v (recordsFrom r)
+    → NoneReady (tasks (z .tiles)) (set (marksFrom r) p v) from → NoneReady (tasks (z .tiles)) (marksFrom r') from
+none-in z r r' p v from e none = subst (λ (ms : List ℕ). NoneReady (tasks (z .tiles)) ms from) (sym (marks-after r r' p v e)) none
+
+-- a column leaves a mark that is taken, or finished
+still-taken : (v : ℕ) → 1 ≤ v → v ≤ 4 → finished v ≡ false → v ≡ 1
+unfolding finished
+still-taken zero lo hi f = absurd (omega arith)
+still-taken (suc zero) lo hi f = refl
+still-taken (suc (suc zero)) lo hi f = never refl f
+still-taken (suc (suc (suc zero))) lo hi f = never refl f
+still-taken (suc (suc (suc (suc zero)))) lo hi f = never refl f
+still-taken (suc (suc (suc (suc (suc v))))) lo hi f = absurd (omega arith)
+
+-- ---- one turn more
+
+onward : (z : Sizes) (budget n w u v : ℕ) (s s' t : Lent) (R : RunEnd) → n < budget → s' ≡ t → u ≡ v
+    → ((b : ℕ) → runFrom (planOf z) (z .workers) (suc b) n w s ≡ runFrom (planOf z) (z .workers) b (suc n) v t)
+    → runFrom (planOf z) (z .workers) (budget - n) n w s ≡ R → runFrom (planOf z) (z .workers) (budget - (n + 1)) (n + 1) u s' ≡ R
+onward z budget n w u v s s' t R h e f step all =
+    let k : n + 1 ≡ suc n = omega arith in
+    let b : suc (budget - (n + 1)) ≡ budget - n = omega arith in
+    rw (k, e, f) (rw k at (sym (step (budget - (n + 1))) ∙ ap (λ (x : ℕ). runFrom (planOf z) (z .workers) x n w s) b ∙ all))
+
+module _ {z : Sizes} {budget : ℕ} {all : RunEnd} {ws₀ : List Worker} {m : List Float} {l : List ℕ} {r : List (List ℕ)} {ws : List Worker} {n w from : ℕ}
+    (g : Going z budget all ws₀ m l r ws n w from) where
+  abbrev W : ℕ
+  W = z .workers
+
+  abbrev s : Lent
+  s = lent m l r ws W
+
+  pub sizes : Sized z
+  sizes = sized z (g .whole .fit)
+
+  fine : damaged (planOf z) s ≡ false
+  unfolding runAnswer
+  fine =
+      let a = passed 1 0 _ _ (run-accepted z s (g .whole)) in
+      let b = passed 2 0 _ _ (a .1) in
+      or-false _ _ (passed 4 0 _ _ (b .1) .0) .0
+
+  -- worker w, as the slots have it
+  here : worker s w ≡ getD ws w idle
+  here = worker-lent m l r ws W w (g .turn-of)
+
+  stored : (h : Worker) → take W (set ws w h) ≡ set (take W ws) w h
+  stored h = take-set-lt W ws w h (g .turn-of)
+
+  -- ---- an idle worker takes a task
+
+  pub few-records : length r ≤ 1496
+  few-records = subst (λ (k : ℕ). k ≤ 1496) (sym (records-long z m l r ws (g .whole))) (few-tasks (z .tiles) (sizes .few-tiles))
+
+  pub searched : Passed (z .tiles) r from
+  searched = record {
+    recorded = λ p h. recorded z m l r ws sizes (records-long z m l r ws (g .whole)) fine p (subst (λ (k : ℕ). p < k) (records-long z m l r ws (g .whole)) h);
+    none = g .none;
+    within = g .reached;
+  }
+
+  module _ (p : ℕ) (low : LowestReady (z .tiles) r p) (b : getD ws w idle .busy ≡ false) where
+    idle-now : worker s w .busy ≡ false
+    idle-now = ap (λ (x : Worker). x .busy) here ∙ b
+
+    none-now : NoneReady (tasks (z .tiles)) (marksOf s) p
+    none-now = subst (λ (ms : List ℕ). NoneReady (tasks (z .tiles)) ms p) (sym (marks-lent m l r ws W)) (low .none)
+
+    pub take-goes : p < length r → n < budget → (h : Worker) → h ≡ holding p 0 → (r' : List (List ℕ)) → recordsFrom r' ≡ marked p 1 (recordsFrom r)
+        → length r' ≡ length r → (u : ℕ) → u ≡ suc w % W → Going z budget all ws₀ m l r' (set ws w h) (n + 1) u (p + 1)
+    unfolding lent took
+    take-goes hp hn h e r' q k u f =
+        let c : p < count z = subst (λ (x : ℕ). p < x) (records-long z m l r ws (g .whole)) hp in
+        let rd : ready (tasks (z .tiles)) (marksOf s) p ≡ true = ap (λ (ms : List ℕ). ready (tasks (z .tiles)) ms p) (marks-lent m l r ws W) ∙ low .found hp in
+        let t : lent m l r' (set ws w h) W ≡ took (planOf z) w p s =
+        (λ i. record { buffers = record { matrix = m; lists = l }; records = q i; workers = (stored h ∙ ap (set (take W ws) w) e) i }) in
+        let o : suc p ≡ p + 1 = omega arith in
+        record {
+          whole = subst (Whole z) (sym t) (took-whole z s (g .whole) w p (g .turn-of) idle-now c rd);
+          none = none-in z r r' p 1 (p + 1) q (subst (NoneReady (tasks (z .tiles)) (set (marksFrom r) p 1)) o
+              (none-after-take (tasks (z .tiles)) (marksFrom r) p (subst (λ (x : ℕ). p < x) (sym (length-marks r)) hp) (low .none)));
+          reached = omega arith;
+          slots = length-set ws w h ∙ g .slots;
+          turn-of = subst (λ (x : ℕ). x < W) (sym f) (mod-lt (suc w) (omega (arith, g .turn-of)));
+          within = omega arith;
+          left-to-do = onward z budget n w u (suc w % W) s _ _ _ hn t f
+              (λ b. takes z s (g .whole) b n w p (g .turn-of) idle-now c rd none-now) (g .left-to-do);
+          others = drop-set-lt W ws w h (g .turn-of) ∙ g .others;
+        }
+
+    -- ---- or its turn passes
+
+    module _ (none-left : length r ≤ p) (v : ℕ) (next : NextBusy ws W w v) where
+      no-task : NoneReady (tasks (z .tiles)) (marksOf s) (count z)
+      no-task q k = none-now q (omega (arith, records-long z m l r ws (g .whole)))
+
+      as-lent : (x : ℕ) (f : Bool) → getD ws (x % W) idle .busy ≡ f → worker s (x % W) .busy ≡ f
+      as-lent x f e = ap (λ (y : Worker). y .busy) (worker-lent m l r ws W (x % W) (mod-lt x (omega (arith, g .turn-of)))) ∙ e
+
+      pub pass-goes : (v ≡ W → ⊥) → Going z budget all ws₀ m l r ws n v p
+      pass-goes d = go v next d
+        where
+          go : (v : ℕ) → NextBusy ws W w v → (v ≡ W → ⊥) → Going z budget all ws₀ m l r ws n v p
+          go v (all-idle quiet) d = absurd (d refl)
+          go v (busy-after e h b before) d = record {
+            whole = g .whole;
+            none = low .none;
+            reached = low .within;
+            slots = g .slots;
+            turn-of = mod-lt (w + e) (omega (arith, g .turn-of));
+            within = g .within;
+            left-to-do = passes z s (g .whole) no-task (budget - n) n w e h (as-lent (w + e) true b) (mod-lt (w + e) (omega (arith, g .turn-of)))
+                (λ k j. as-lent (w + k) false (before k j)) ∙ g .left-to-do;
+            others = g .others;
+          }
+
+      -- the worker that it passes to is busy
+      pub pass-busy : (v ≡ W → ⊥) → getD ws v idle .busy ≡ true
+      pass-busy d = go v next d
+        where
+          go : (v : ℕ) → NextBusy ws W w v → (v ≡ W → ⊥) → getD ws v idle .busy ≡ true
+          go v (all-idle quiet) d = absurd (d refl)
+          go v (busy-after e h b before) d = b
+
+      -- ---- or the run is over
+
+      pub run-over : v ≡ W → _≡_ {A = RunEnd} (record { answer = Finished n; left = s }) all
+      run-over e = sym (finishes z s (budget - n) n w (over z s (g .whole) no-task (quiet v next e))) ∙ g .left-to-do
+        where
+          quiet : (v : ℕ) → NextBusy ws W w v → v ≡ W → (x : ℕ) → x < W → worker s x .busy ≡ false
+          quiet v (busy-after e h b before) q x k = let y : (w + e) % W < W = mod-lt (w + e) (omega (arith, g .turn-of)) in absurd (omega arith)
+          quiet v (all-idle q) e x k =
+              let (d, j, i) = round W w x (g .turn-of) k in
+              subst (λ (y : ℕ). worker s y .busy ≡ false) i (as-lent (w + d) false (q d j))
+
+  -- ---- a busy worker does a column
+
+  module _ (b : getD ws w idle .busy ≡ true) where
+    abbrev h : Worker
+    h = getD ws w idle
+
+    busy-now : worker s w .busy ≡ true
+    busy-now = ap (λ (x : Worker). x .busy) here ∙ b
+
+    task-fits : h .task < count z
+    task-fits = subst (λ (x : Worker). x .task < count z) here (g .whole .held w (g .turn-of) busy-now .task)
+
+    tiles-finite : finiteTiles (planOf z) (task (tasks (z .tiles)) (h .task)) (record { matrix = m; lists = l }) ≡ true
+    unfolding badTiles plan lent
+    tiles-finite =
+        subst (λ (x : Worker). finiteTiles (planOf z) (task (tasks (z .tiles)) (x .task)) (record { matrix = m; lists = l }) ≡ true) here
+        (and-true-not _ _ busy-now (good-tiles z s (g .whole .stated .sized) (g .whole .tiles) w (g .whole .held w (g .turn-of) busy-now .task)))
+
+    pub column-due : ColumnDue z (h .task) (h .column) m l r
+    column-due = due z w m l r ws (g .slots) (record {
+      sound = record {
+        sizes = sizes;
+        matrix-fits = matrix-long z m l r ws (g .whole) ∙ sym (mul-mul-mul-comm (z .tiles) (z .side) (z .tiles) (z .side));
+        lists-fit = lists-long z m l r ws (g .whole);
+        records-fit = records-long z m l r ws (g .whole);
+        undamaged = fine;
+      };
+      exists = g .turn-of;
+      busy = b;
+      tiles-finite = tiles-finite;
+    })
+
+    module _ {m' : List Float} {l' : List ℕ} {r' : List (List ℕ)} {k : Worker} (o : Advanced z h m l r m' l' r' k) where
+      mark-bounds : (1 ≤ o .mark) × (o .mark ≤ 4)
+      mark-bounds =
+          let q = ap (λ (x : Ended). x .mark) (o .ends ws) in
+          let e = column-ends z s (g .whole .stated) (h .task) (h .column) task-fits in
+          (subst (λ (x : ℕ). 1 ≤ x) (sym q) (e .begun), subst (λ (x : ℕ). x ≤ 4) (sym q) (e .most))
+
+      advanced-is : lent m' l' r' (set ws w k) W ≡ advanced (planOf z) w s
+      advanced-is = state-after z m l r ws w (g .turn-of) h refl m' l' r' (o .mark) k (o .ends ws) (o .records) (o .worker)
+
+      none-then : (f : ℕ) → f ≡ cond (k .busy) from (min from (suc (h .task))) → (f ≤ from) × NoneReady (tasks (z .tiles)) (marksFrom r') f
+      none-then f e = go (finished (o .mark)) refl (o .worker)
+        where
+          p : h .task < length (marksFrom r)
+          p = subst (λ (x : ℕ). h .task < x) (sym (length-marks r ∙ records-long z m l r ws (g .whole))) task-fits
+
+          from-is : (x : Worker) → k ≡ x → f ≡ cond (x .busy) from (min from (suc (h .task)))
+          from-is x q = e ∙ ap (λ (y : Worker). cond (y .busy) from (min from (suc (h .task)))) q
+
+          go : (b : Bool) → finished (o .mark) ≡ b → k ≡ cond b idle (holding (h .task) (suc (h .column))) → (f ≤ from) × NoneReady (tasks (z .tiles)) (marksFrom r') f
+          go true a q =
+              let j : f ≡ min from (suc (h .task)) = from-is idle q in (
+                subst (λ (x : ℕ). x ≤ from) (sym j) (min-le-left from (suc (h .task))),
+                subst (NoneReady (tasks (z .tiles)) (marksFrom r')) (sym j)
+                    (none-in z r r' (h .task) (o .mark) (min from (suc (h .task))) (o .records)
+                    (none-after (tasks (z .tiles)) (marksFrom r) (h .task) (o .mark) from p (λ d. omega (arith, mark-bounds .0)) (g .none))),
+              )
+          go false a q =
+              let j : f ≡ from = from-is (holding (h .task) (suc (h .column))) q in (
+                omega arith,
+                subst (NoneReady (tasks (z .tiles)) (marksFrom r')) (sym j)
+                    (none-in z r r' (h .task) (o .mark) from (o .records)
+                    (subst (λ (x : ℕ). NoneReady (tasks (z .tiles)) (set (marksFrom r) (h .task) x) from) (sym (still-taken (o .mark) (mark-bounds .0) (mark-bounds .1) a))
+                    (none-kept (tasks (z .tiles)) (marksFrom r) (h .task) p from (g .none)))),
+              )
+
+      pub work-goes : n < budget → (f : ℕ) → f ≡ cond (k .busy) from (min from (suc (h .task))) → (u : ℕ) → u ≡ suc w % W
+          → Going z budget all ws₀ m' l' r' (set ws w k) (n + 1) u f
+      work-goes hn f e u q =
+          let i : Whole z (lent m' l' r' (set ws w k) W) = subst (Whole z) (sym advanced-is) (advanced-whole z s (g .whole) w (g .turn-of) busy-now) in
+          let x = none-then f e in
+          record {
+            whole = i;
+            none = x .1;
+            reached = omega (arith, x .0, g .reached, records-long z m l r ws (g .whole), records-long z m' l' r' (set ws w k) i);
+            slots = length-set ws w k ∙ g .slots;
+            turn-of = subst (λ (x : ℕ). x < W) (sym q) (mod-lt (suc w) (omega (arith, g .turn-of)));
+            within = omega arith;
+            left-to-do = onward z budget n w u (suc w % W) s _ _ _ hn advanced-is q (λ b. works z s (g .whole) b n w (g .turn-of) busy-now) (g .left-to-do);
+            others = drop-set-lt W ws w k (g .turn-of) ∙ g .others;
+          }
+
+  -- ---- the budget is spent
+
+  pub run-ends : budget ≤ n → (a : RunAnswer) → a ≡ cond (every finished (marksFrom r)) (Finished n) (Spent n)
+      → _≡_ {A = RunEnd} (record { answer = a; left = s }) all
+  unfolding allFinished
+  run-ends h a e =
+      let k : 0 ≡ budget - n = omega arith in
+      (λ i. record { answer = e i; left = s })
+      ∙ sym (ends z s n w (every finished (marksFrom r)) (ap (every finished) (sym (marks-lent m l r ws W))))
+      ∙ ap (λ (x : ℕ). runFrom (planOf z) W x n w s) k ∙ g .left-to-do
+
+-- ---- the first turn
+
+pub starts : (z : Sizes) (budget : ℕ) (m : List Float) (l : List ℕ) (r : List (List ℕ)) (ws : List Worker) (n w from : ℕ) → length ws ≡ 32
+    → Underway z budget m l r ws n w from → Going z budget (runFrom (planOf z) (z .workers) (budget - n) n w (lent m l r ws (z .workers))) ws m l r ws n w from
+starts z budget m l r ws n w from h d = record {
+  whole = run-whole z (lent m l r ws (z .workers)) (d .accepted);
+  none = d .none;
+  reached = d .reached;
+  slots = h;
+  turn-of = d .turn-of;
+  within = d .within;
+  left-to-do = refl;
+  others = refl;
+}
+
+-- ---- lengths stay, and the loop ends: with each call the budget left gets smaller, and a turn that passes goes from an idle worker to a busy one
+
+module _ {z : Sizes} {budget : ℕ} {all : RunEnd} (m₀ : List Float) (l₀ : List ℕ) (r₀ : List (List ℕ)) (ws₀ : List Worker) (a : runAnswer z (lent m₀ l₀ r₀ ws₀ (z .workers)) ≡ Accepted)
+    {m : List Float} {l : List ℕ} {r : List (List ℕ)} {ws : List Worker} {n w from : ℕ}
+    (g : Going z budget all ws₀ m l r ws n w from) where
+  pub matrix-kept : length m ≡ length m₀
+  matrix-kept = matrix-long z m l r ws (g .whole) ∙ sym (matrix-long z m₀ l₀ r₀ ws₀ (run-whole z (lent m₀ l₀ r₀ ws₀ (z .workers)) a))
+
+  pub lists-kept : length l ≡ length l₀
+  lists-kept = lists-long z m l r ws (g .whole) ∙ sym (lists-long z m₀ l₀ r₀ ws₀ (run-whole z (lent m₀ l₀ r₀ ws₀ (z .workers)) a))
+
+  pub records-kept : length r ≡ length r₀
+  records-kept = records-long z m l r ws (g .whole) ∙ sym (records-long z m₀ l₀ r₀ ws₀ (run-whole z (lent m₀ l₀ r₀ ws₀ (z .workers)) a))
+
+-- the turns left at most
+unfoldable pub turnsLeft : ℕ → ℕ → List Worker → ℕ → ℕ
+turnsLeft budget n ws w = 2 * (budget - n) + cond (getD ws w idle .busy) 0 1
+
+few : (b : Bool) → cond b 0 1 ≤ 1
+few true = omega arith
+few false = omega arith
+
+pub call-less : (budget n w u : ℕ) (ws ws' : List Worker) → n < budget → turnsLeft budget (n + 1) ws' u < turnsLeft budget n ws w
+unfolding turnsLeft
+call-less budget n w u ws ws' h = omega (arith, few (getD ws' u idle .busy))
+
+pub pass-less : (budget n w v : ℕ) (ws : List Worker) → getD ws w idle .busy ≡ false → getD ws v idle .busy ≡ true → turnsLeft budget n ws v < turnsLeft budget n ws w
+unfolding turnsLeft
+pass-less budget n w v ws e f = rw (e, f) (omega arith)

@@ -1,0 +1,80 @@
+// The turns of a run, from any of them on.
+ghost use mathlib.Core.Path.{_≡_};
+ghost use Prim.Native.Nat.{_-_};
+ghost use lib.ListN.{drop};
+ghost use Rattle.model.specs.Plan.{planOf};
+ghost use Rattle.model.specs.Calls.{runFrom};
+ghost use Rattle.records.specs.Records.{lent};
+ghost use Rattle.turns_from.specs.Underway.{Underway};
+use advancing::advance;
+use model::RunAnswer;
+use model::RunReply;
+use model::Sizes;
+use model::Worker;
+use next_worker::after;
+use unfinished::answer_after;
+use next_task::lowest_ready;
+use next_worker::next_busy;
+use next_task::search_from;
+use next_task::take_task;
+
+// Workers take turns until every task is finished or the budget is spent, once `made` calls are made and the turn is worker `turn`'s. Below `low`,
+// and then below `from`, no task is ready, so a search begins there.
+pub fn turns_from(
+    z: Sizes,
+    matrix: &mut [f64],
+    lists: &mut [u8],
+    records: &mut [[u8; 5]],
+    workers: [Worker; 32],
+    budget: u64,
+    made: u64,
+    turn: usize,
+    low: usize,
+) -> RunReply
+    requires { ⌜ Underway z budget (now matrix) (now lists) (now records) workers made turn low ⌝ }
+    ensures { λ r. ⌜ record {
+      answer = r .answer;
+      left = lent (now (matrix .exit)) (now (lists .exit)) (now (records .exit)) (r .workers) (z .workers);
+    } ≡ runFrom (planOf z) (z .workers) (budget - made) made turn (lent (now (matrix .entry)) (now (lists .entry)) (now (records .entry)) workers (z .workers)) ⌝ }
+    ensures { λ r. ⌜ drop (z .workers) (r .workers) ≡ drop (z .workers) workers ⌝ }
+{
+    let mut left = workers;
+    let mut n = made;
+    let mut w = turn;
+    let mut from = low;
+    while n < budget {
+        let h = left[w];
+        if h.busy {
+            let g = advance(z, matrix, lists, records, h);
+            left[w] = Worker {
+                busy: g.busy,
+                task: g.task,
+                column: g.column,
+            };
+            from = search_from(from, g.busy, h.task as usize);
+            n += 1;
+            w = after(z.workers, w);
+            continue;
+        }
+        from = lowest_ready(z.tiles, records, from);
+        if from < records.len() {
+            left[w] = take_task(records, from, h);
+            from += 1;
+            n += 1;
+            w = after(z.workers, w);
+            continue;
+        }
+        let v = next_busy(left, z.workers, w);
+        if v == z.workers {
+            return RunReply {
+                answer: RunAnswer::Finished(n),
+                workers: left,
+            };
+        }
+        w = v;
+    }
+    RunReply {
+        answer: answer_after(records, n),
+        workers: left,
+    }
+}
