@@ -21,12 +21,12 @@ use Rattle.model.specs.Plan.{plan, order}
 use Rattle.model.specs.Refusal.{inside}
 use Rattle.model.specs.Text.{badShape, badMatrix, refusalFrame}
 use Rattle.model.specs.Read.{Frame, kindIn, numbersIn, notFiniteIn, badLine, wrongFrame, lineAnswer, linesAnswer, tilesIn, sideIn, linesFrom, systemFrames, tileFrames, fileAnswer, tilesOf, systemReading, noLimit, readSystem, resultOf, printed, program}
-use Rattle.system_file.proofs.Headers.{in-range}
+use Rattle.system_checked.proofs.Headers.{in-range}
 use Rattle.laws.proofs.Refusals.{passed}
 use Rattle.answers.proofs.Refusals.{passes}
-use Rattle.system_file.specs.Files.{checkedSystem}
-use Rattle.system_file.proofs.Uniform.{AllKind, finite-of}
-use Rattle.system_file.proofs.Held.{tiles-kind, tiles-count}
+use Rattle.system_checked.specs.Files.{checkedSystem}
+use Rattle.system_checked.proofs.Uniform.{AllKind, finite-of}
+use Rattle.system_checked.proofs.Held.{tiles-kind, tiles-count}
 
 -- ---- the numbers of accepted tiles are finite
 

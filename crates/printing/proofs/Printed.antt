@@ -18,7 +18,7 @@ use Rattle.model.specs.Plan.{plan, order}
 use Rattle.model.specs.Refusal.{refuse}
 use Rattle.model.specs.Text.{resultText, Writing, writing, badMatrix, badLists, writeResult}
 use Rattle.model.specs.Read.{SystemReading, readSystem, resultOf, program}
-use Rattle.system_file.specs.Files.{checkedSystem}
+use Rattle.system_checked.specs.Files.{checkedSystem}
 use Rattle.one_worker.specs.Alone.{Lendable, Factored, alone}
 use Rattle.writing.specs.Write.{systemLength, resultLength, writeRefusal}
 use Rattle.writing.proofs.Shapes.{bounds, small-tiles, half}

@@ -3,11 +3,12 @@ use Prim.Native.Nat.{ℕ}
 use mathlib.Core.Path.{_≡_, refl, sym, ap, _∙_}
 use mathlib.Core.List.{List, [], _∷_, _++_}
 use Rattle.model.specs.Read.{Frame, tileFrames, listFrames, resultFrames}
-use Rattle.frames_read.specs.declared.Cursor.{Cursor}
-use Rattle.frames_read.specs.declared.Step.{Step}
-use Rattle.frames_read.specs.declared.Step.the-variants.{Next, Stopped}
-use Rattle.frames_read.specs.Steps.{stepOf, onward, follow}
-use Rattle.frames_read.proofs.Steps.{follow-append}
+use Rattle.cursors.specs.declared.Cursor.{Cursor}
+use Rattle.cursors.specs.declared.Step.{Step}
+use Rattle.cursors.specs.declared.Step.the-variants.{Next, Stopped}
+use Rattle.cursors.specs.Steps.{stepOf}
+use Rattle.frames_read.specs.Follow.{onward, follow}
+use Rattle.frames_read.proofs.Rows.{follow-append}
 
 -- the outcome's frame
 abbrev pub outcomeFrame : Frame

@@ -11,17 +11,18 @@ use Rattle.model.specs.Lists.{below, table, joined}
 use Rattle.model.specs.Read.{Frame, lineLength, linesFrom, tileFrames, listFrames, resultFrames}
 use Rattle.lines_read.specs.Line.{LineOfDigits}
 use Rattle.lines_read.proofs.Tested.{line-of-digits}
-use Rattle.frames_read.specs.declared.Cursor.{Cursor}
-use Rattle.frames_read.specs.declared.Step.the-variants.{Next}
-use Rattle.frames_read.specs.Steps.{follow, rowFrames, textEnd}
-use Rattle.frames_read.proofs.Steps.{stepped, follow-placed}
+use Rattle.cursors.specs.declared.Cursor.{Cursor}
+use Rattle.cursors.specs.declared.Step.the-variants.{Next}
+use Rattle.frames_read.specs.Follow.{follow, rowFrames, textEnd}
+use Rattle.cursors.proofs.Steps.{stepped}
+use Rattle.frames_read.proofs.Rows.{follow-placed}
 use Rattle.numbers_read.specs.Decoded.{lineAt, tileSize}
 use Rattle.entries_read.specs.Entries.{listSize, ListLine, above, ListLines}
 use Rattle.numbers_read.proofs.Filled.{length-table, length-run}
-use Rattle.system_file.specs.Files.{start}
-use Rattle.system_file.proofs.Headers.{start-placed}
-use Rattle.system_file.proofs.Uniform.{AllKind, all-map, all-joined, Checked, step-line, step-next, Uniform, uniform}
-use Rattle.system_file.proofs.Held.{to-end, none-behind, split, tiles-end, lines-tiles}
+use Rattle.system_checked.specs.Files.{start}
+use Rattle.system_checked.proofs.Headers.{start-placed}
+use Rattle.system_checked.proofs.Uniform.{AllKind, all-map, all-joined, Checked, step-line, step-next, Uniform, uniform}
+use Rattle.system_checked.proofs.Held.{to-end, none-behind, split, tiles-end, lines-tiles}
 use Rattle.result_file.specs.Results.{listsStart, outcomeText}
 use Rattle.result_file.proofs.Frames.{outcomeFrame, follow-one}
 

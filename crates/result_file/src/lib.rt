@@ -3,13 +3,13 @@ ghost use mathlib.Core.Path.{_≡_};
 ghost use Prim.Native.Nat.{_*_, _≤_};
 ghost use lib.ListN.{length};
 ghost use Rattle.model.specs.Read.{noLimit, resultFrames, readResult};
-ghost use Rattle.frames_read.specs.Steps.{follow};
-ghost use Rattle.system_file.specs.Files.{Headed, start};
+ghost use Rattle.frames_read.specs.Follow.{follow};
+ghost use Rattle.system_checked.specs.Files.{Headed, start};
 ghost use Rattle.result_file.specs.Results.{ResultLines, loadedResult};
 use entries_read::load_lists;
-use frames_read::Cursor;
-use frames_read::Step;
-use frames_read::check_line;
+use cursors::Cursor;
+use cursors::Step;
+use cursors::check_line;
 use frames_read::check_lists;
 use frames_read::check_tiles;
 use header_read::Header;
@@ -19,7 +19,7 @@ use model::Answer;
 use model::ReadAnswer;
 use numbers_read::load_tiles;
 use numbers_read::outcome_at;
-use system_file::ended;
+use system_checked::ended;
 
 // The lines of a result behind an accepted header: tiles, lists and the outcome.
 fn check_result_lines(text: &[u8], tiles: usize, side: usize) -> Step

@@ -1,9 +1,9 @@
 -- `result_file::check_result_lines` meets its contract: the frames of a result in their three parts. Assumes nothing.
 use borrow.Author.Needs.{needs}
 use mathlib.Core.Path.{sym, _∙_}
-use Rattle.frames_read.proofs.Steps.{follow-placed}
-use Rattle.system_file.specs.Files.{start}
-use Rattle.system_file.proofs.Headers.{start-placed}
+use Rattle.frames_read.proofs.Rows.{follow-placed}
+use Rattle.system_checked.specs.Files.{start}
+use Rattle.system_checked.proofs.Headers.{start-placed}
 use Rattle.result_file.proofs.Frames.{tiles-stop, lists-stop, to-outcome}
 use Rattle.result_file.proofs.check_result_lines.Statement.{statement}
 use Rattle.result_file.proofs.check_result_lines.Tie as tie
