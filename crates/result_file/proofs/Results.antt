@@ -24,7 +24,7 @@ use Rattle.system_checked.specs.Files.{Headed, start}
 use Rattle.system_checked.proofs.Headers.{facts, start-placed, file-refused, file-followed}
 use Rattle.system_checked.proofs.Held.{tile-lines, tiles-read}
 use Rattle.system_checked.proofs.Systems.{length-right, length-wrong}
-use Rattle.result_file.specs.Results.{listsStart, outcomeText, ResultLines, loadedResult}
+use Rattle.result_loaded.specs.Results.{listsStart, outcomeText, ResultLines, loadedResult}
 use Rattle.result_file.proofs.Parts.{Parts, parts, list-lines, outcome-text, outcome-digits, list-at, outcome-line}
 
 -- ---- the lists by lines

@@ -1,12 +1,12 @@
--- `result_file::check_result_lines` meets its contract: the frames of a result in their three parts. Assumes nothing.
+-- `result_checked::check_result_lines` meets its contract: the frames of a result in their three parts. Assumes nothing.
 use borrow.Author.Needs.{needs}
 use mathlib.Core.Path.{sym, _∙_}
 use Rattle.frames_read.proofs.Rows.{follow-placed}
 use Rattle.system_checked.specs.Files.{start}
 use Rattle.system_checked.proofs.Headers.{start-placed}
-use Rattle.result_file.proofs.Frames.{tiles-stop, lists-stop, to-outcome}
-use Rattle.result_file.proofs.check_result_lines.Statement.{statement}
-use Rattle.result_file.proofs.check_result_lines.Tie as tie
+use Rattle.result_checked.proofs.Frames.{tiles-stop, lists-stop, to-outcome}
+use Rattle.result_checked.proofs.check_result_lines.Statement.{statement}
+use Rattle.result_checked.proofs.check_result_lines.Tie as tie
 
 check-tiles-requires : tie.Need-check-tiles-requires
 check-tiles-requires c κs = (start-placed (c .before .args .text .now) (c .before .pre .0), c .before .pre .1)

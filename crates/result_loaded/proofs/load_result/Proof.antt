@@ -1,12 +1,20 @@
--- `result_file::load_result` meets its contract. Assumes nothing.
+-- `result_loaded::load_result` meets its contract. Assumes nothing.
 use borrow.Author.Needs.{needs}
+use Prim.Native.Nat.{ℕ, _-_, _≤_}
+use mathlib.Core.Path.{_≡_, _∙_}
+use mathlib.Core.List.{List}
 use native.Mathlib.Nat.{mul-le-mul}
 use native.Mathlib.Omega.{arith}
+use lib.ListN.{length, drop, length-drop}
+use lib.Seq.{length-take-le}
 use Rattle.model.specs.declared.ReadAnswer.the-variants.{ResultRead}
-use Rattle.result_file.specs.Results.{loadedResult}
-use Rattle.result_file.proofs.Parts.{length-outcome}
-use Rattle.result_file.proofs.load_result.Statement.{statement}
-use Rattle.result_file.proofs.load_result.Tie as tie
+use Rattle.result_loaded.specs.Results.{outcomeText, loadedResult}
+use Rattle.result_loaded.proofs.load_result.Statement.{statement}
+use Rattle.result_loaded.proofs.load_result.Tie as tie
+
+length-outcome : (text : List ℕ) → 9 ≤ length text → length (outcomeText text) ≡ 9
+length-outcome text h =
+    length-take-le (length text - (length text - 9)) (drop (length text - 9) text) (rw (length-drop (length text - 9) text) (omega arith)) ∙ omega arith
 
 mul-count : tie.Need-mul-count
 mul-count c = let s = c .before .before .before .pre .0 .small in omega (arith, mul-le-mul (s .0) (s .0))
