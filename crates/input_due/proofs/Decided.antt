@@ -23,7 +23,7 @@ use Rattle.cursors.specs.declared.Step.the-variants.{Next, Stopped}
 use Rattle.frames_read.specs.Follow.{follow, textEnd}
 use Rattle.lines_read.specs.Line.{malformed}
 use Rattle.header_read.specs.Heads.{headerLine, headerAnswer}
-use Rattle.writing.proofs.Shapes.{small-tiles}
+use Rattle.rows_written.proofs.Shapes.{small-tiles}
 use Rattle.system_checked.specs.Files.{Headed, start}
 use Rattle.system_checked.proofs.Headers.{facts, start-placed, file-refused, file-followed}
 use Rattle.system_checked.proofs.Held.{tiles-kind, tiles-count, tiles-end}

@@ -1,10 +1,10 @@
--- `printing::print_worked` meets its contract. Assumes nothing.
+-- `system_printed::print_worked` meets its contract. Assumes nothing.
 use borrow.Author.Needs.{needs}
 use mathlib.Core.Path.{_∙_}
-use Rattle.printing.proofs.Checked.{checked}
-use Rattle.printing.proofs.Printed.{numbers-read, lendable, result-printed, result-short}
-use Rattle.printing.proofs.print_worked.Statement.{statement}
-use Rattle.printing.proofs.print_worked.Tie as tie
+use Rattle.system_printed.proofs.Checked.{checked}
+use Rattle.system_printed.proofs.Printed.{numbers-read, lendable, result-printed, result-short}
+use Rattle.system_printed.proofs.print_worked.Statement.{statement}
+use Rattle.system_printed.proofs.print_worked.Tie as tie
 
 read-system-requires : tie.Need-read-system-requires
 read-system-requires c κs = search needs

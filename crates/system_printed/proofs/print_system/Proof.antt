@@ -1,12 +1,12 @@
--- `printing::print_system` meets its contract. Assumes nothing.
+-- `system_printed::print_system` meets its contract. Assumes nothing.
 use borrow.Author.Needs.{needs}
 use mathlib.Core.Path.{sym, _∙_}
 use native.Mathlib.Omega.{arith}
 use lib.Seq.{length-take-le}
 use Rattle.numbering.proofs.Laws.{few-tasks}
-use Rattle.printing.proofs.Checked.{checked, small-sizes}
-use Rattle.printing.proofs.print_system.Statement.{statement}
-use Rattle.printing.proofs.print_system.Tie as tie
+use Rattle.system_printed.proofs.Checked.{checked, small-sizes}
+use Rattle.system_printed.proofs.print_system.Statement.{statement}
+use Rattle.system_printed.proofs.print_system.Tie as tie
 
 blank-numbers-requires : tie.Need-blank-numbers-requires
 blank-numbers-requires c κs = search needs

@@ -10,16 +10,15 @@ use lib.ListN.{length, take}
 use lib.Ieee.{Float}
 use borrow.Author.Tests.{ltb-false, le-ltb, eq-eqb, not-false}
 use Rattle.laws.proofs.Tests.{and-left, and-right, and-intro, or-false}
-use Rattle.model.specs.declared.Outcome.{Outcome}
 use Rattle.model.specs.declared.Answer.{Answer}
 use Rattle.model.specs.declared.Answer.the-variants.{Accepted, Refused}
-use Rattle.model.specs.declared.ReadAnswer.the-variants.{SystemRead, ResultRead, ReadRefused}
+use Rattle.model.specs.declared.ReadAnswer.the-variants.{SystemRead}
 use Rattle.model.specs.Lists.{every, joined}
 use Rattle.model.specs.Num.{finite}
 use Rattle.model.specs.Tile.{allFinite}
 use Rattle.model.specs.Plan.{plan, order}
 use Rattle.model.specs.Refusal.{inside}
-use Rattle.model.specs.Text.{badShape, badMatrix, refusalFrame}
+use Rattle.model.specs.Text.{badShape, badMatrix}
 use Rattle.model.specs.Read.{Frame, kindIn, numbersIn, notFiniteIn, badLine, wrongFrame, lineAnswer, linesAnswer, tilesIn, sideIn, linesFrom, systemFrames, tileFrames, fileAnswer, tilesOf, systemReading, noLimit, readSystem, resultOf, printed, program}
 use Rattle.system_checked.proofs.Headers.{in-range}
 use Rattle.laws.proofs.Refusals.{passed}
@@ -59,7 +58,7 @@ pub record Checked (text : List ℕ) (N t : ℕ) : Type 0 where
   pub reads : (m : List Float) → length m ≡ N * t * (N * t) → readSystem text m ≡ record { answer = SystemRead N t; matrix = numbers }
 
 -- what the lines answer, in the program and in the check that asks for no lengths
-abbrev answerIn : List (List ℕ) → Answer
+abbrev pub answerIn : List (List ℕ) → Answer
 answerIn ls = fileAnswer 48 systemFrames (λ N t. false) ls
 
 module _ (text h : List ℕ) (ls : List (List ℕ)) (lines : linesFrom [] text ≡ h ∷ ls) (accepted : answerIn (h ∷ ls) ≡ Accepted) where
@@ -141,24 +140,3 @@ small-sizes {text} {N} {t} c =
       squares = mul-le-mul (n .1) (n .1);
       listed = rw (mul-assoc N N t) (mul-le-mul (n .1) (c .small));
     }
-
--- ---- a refused text
-
-pub refused : (text : List ℕ) (n x : ℕ) → ReadRefused n x ≡ checkedSystem 48 text → program text ≡ refusalFrame n x
-unfolding checkedSystem systemReading program printed fileAnswer
-refused text n x e = go (linesFrom [] text) (answerIn (linesFrom [] text)) refl e
-  where
-    go : (ls : List (List ℕ)) (a : Answer) → answerIn ls ≡ a → ReadRefused n x ≡ systemReading a ls [] .answer → printed a ls ≡ refusalFrame n x
-    go [] Accepted q e = let z : _≡_ {A = ℕ} 0 1 = cc in absurd (omega arith)
-    go (h ∷ ls) Accepted q e = let z : _≡_ {A = ℕ} 0 1 = cc in absurd (omega arith)
-    go ls (Refused m y) q e = let a : m ≡ n = cc in let b : y ≡ x = cc in rw (a, b)
-
--- a system's check answers no result
-pub no-result : (text : List ℕ) (N t : ℕ) (o : Outcome) → ResultRead N t o ≡ checkedSystem 48 text → ⊥
-unfolding checkedSystem systemReading
-no-result text N t o e = go (linesFrom [] text) (answerIn (linesFrom [] text)) e
-  where
-    go : (ls : List (List ℕ)) (a : Answer) → ResultRead N t o ≡ systemReading a ls [] .answer → ⊥
-    go [] Accepted e = let z : _≡_ {A = ℕ} 0 1 = cc in omega arith
-    go (h ∷ ls) Accepted e = let z : _≡_ {A = ℕ} 0 1 = cc in omega arith
-    go ls (Refused n x) e = let z : _≡_ {A = ℕ} 0 1 = cc in omega arith
