@@ -1,10 +1,10 @@
--- `judge::encode` meets its contract. Assumes nothing.
+-- `damaged_files::encode` meets its contract. Assumes nothing.
 use borrow.Author.Needs.{needs}
 use Prim.Native.Nat.{_-_, _≤_}
 use mathlib.Core.Path.{_≡_}
 use lib.ListN.{length}
-use Rattle.judge.proofs.encode.Statement.{statement}
-use Rattle.judge.proofs.encode.Tie as tie
+use Rattle.damaged_files.proofs.encode.Statement.{statement}
+use Rattle.damaged_files.proofs.encode.Tie as tie
 
 abbrev Inv-loop : tie.InvT-loop
 Inv-loop bytes out₀ k₀ out k = (k ≤ length bytes) × (length out ≡ length out₀)

@@ -1,9 +1,9 @@
--- `judge::judge_program` meets its contract. Assumes nothing.
+-- `damaged_files::judge_program` meets its contract. Assumes nothing.
 use borrow.Author.Needs.{needs}
 use mathlib.Core.Path.{sym}
 use lib.Seq.{length-take-le}
-use Rattle.judge.proofs.judge_program.Statement.{statement}
-use Rattle.judge.proofs.judge_program.Tie as tie
+use Rattle.damaged_files.proofs.judge_program.Statement.{statement}
+use Rattle.damaged_files.proofs.judge_program.Tie as tie
 
 print-result-requires : tie.Need-print-result-requires
 print-result-requires c κs = search needs
