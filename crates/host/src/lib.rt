@@ -20,6 +20,7 @@ use host_values::tell_read;
 use host_values::tell_run;
 use host_values::tell_written;
 use model::Sizes;
+use result_written::write_result;
 
 // Opens a system.
 #[no_mangle]
@@ -293,13 +294,6 @@ pub extern "C" fn solumivaf_write_result(
     ensures { λ r. ⌜ (r ≡ writeTold (writeResult tiles side (now (matrix .entry)) (now (lists .entry)) (outcomeFrom kind place) (now (text .entry)) .answer))
         × (now (text .exit) ≡ writeResult tiles side (now (matrix .entry)) (now (lists .entry)) (outcomeFrom kind place) (now (text .entry)) .left) ⌝ }
 {
-    let answer = result_written::write_result(
-        tiles,
-        side,
-        matrix,
-        lists,
-        outcome_from(kind, place),
-        text,
-    );
+    let answer = write_result(tiles, side, matrix, lists, outcome_from(kind, place), text);
     tell_written(answer)
 }
