@@ -6,7 +6,7 @@ ghost use Rattle.bench_host.specs.Bench.{readNumber, writtenLength};
 use model::ReadAnswer;
 use model::WriteAnswer;
 use system_file::read_system;
-use writing::write_system;
+use system_written::write_system;
 
 // The refusal's number: 0 where the text was read.
 fn read_number(answer: ReadAnswer) -> u8

@@ -16,8 +16,9 @@ use Rattle.model.specs.declared.Answer.the-variants.{Accepted, Refused}
 use Rattle.model.specs.Refusal.{refuse, inside}
 use Rattle.model.specs.Read.{Frame, kindIn, lineLength, linesFrom, lastLine, notDigits, badContent, badLine, wrongFrame, notFiniteIn, lineAnswer, linesAnswer}
 use Rattle.lines_read.proofs.Tested.{length-above}
-use Rattle.frames_read.specs.declared.Cursor.{Cursor}
-use Rattle.frames_read.specs.Steps.{lineDue, landed, stepOf, onward, follow, textEnd}
+use Rattle.cursors.specs.declared.Cursor.{Cursor}
+use Rattle.cursors.specs.Steps.{lineDue, landed, stepOf}
+use Rattle.frames_read.specs.Follow.{onward, follow, textEnd}
 use Rattle.frames_read.proofs.Lines.{First, none, bad, good, first}
 
 -- what is accepted goes on with r

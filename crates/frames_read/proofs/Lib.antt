@@ -1,3 +1,3 @@
 pub mod Lines
-pub mod Steps
+pub mod Rows
 pub mod Followed

@@ -20,6 +20,7 @@ use host_values::tell_read;
 use host_values::tell_run;
 use host_values::tell_written;
 use model::Sizes;
+use result_written::write_result;
 
 // Opens a system.
 #[no_mangle]
@@ -275,7 +276,7 @@ pub extern "C" fn solumivaf_write_system(
     ensures { λ r. ⌜ (r ≡ writeTold (writeSystem tiles side (now (matrix .entry)) (now (text .entry)) .answer))
         × (now (text .exit) ≡ writeSystem tiles side (now (matrix .entry)) (now (text .entry)) .left) ⌝ }
 {
-    let answer = writing::write_system(tiles, side, matrix, text);
+    let answer = system_written::write_system(tiles, side, matrix, text);
     tell_written(answer)
 }
 
@@ -293,6 +294,6 @@ pub extern "C" fn solumivaf_write_result(
     ensures { λ r. ⌜ (r ≡ writeTold (writeResult tiles side (now (matrix .entry)) (now (lists .entry)) (outcomeFrom kind place) (now (text .entry)) .answer))
         × (now (text .exit) ≡ writeResult tiles side (now (matrix .entry)) (now (lists .entry)) (outcomeFrom kind place) (now (text .entry)) .left) ⌝ }
 {
-    let answer = writing::write_result(tiles, side, matrix, lists, outcome_from(kind, place), text);
+    let answer = write_result(tiles, side, matrix, lists, outcome_from(kind, place), text);
     tell_written(answer)
 }

@@ -9,13 +9,14 @@ use lib.Seq.{length-take-le, take-take}
 use Rattle.model.specs.declared.Answer.{Answer}
 use Rattle.model.specs.declared.Answer.the-variants.{Accepted}
 use Rattle.model.specs.Read.{Frame, lineLength, lineAnswer}
-use Rattle.frames_read.specs.declared.Cursor.{Cursor}
-use Rattle.frames_read.specs.declared.Step.{Step}
-use Rattle.frames_read.specs.declared.Step.the-variants.{Next, Stopped}
-use Rattle.frames_read.specs.Steps.{landed, stepOf, onward, follow}
-use Rattle.frames_read.proofs.Steps.{stepped}
+use Rattle.cursors.specs.declared.Cursor.{Cursor}
+use Rattle.cursors.specs.declared.Step.{Step}
+use Rattle.cursors.specs.declared.Step.the-variants.{Next, Stopped}
+use Rattle.cursors.specs.Steps.{landed, stepOf}
+use Rattle.frames_read.specs.Follow.{onward, follow}
+use Rattle.cursors.proofs.Steps.{stepped}
 use Rattle.frames_read.proofs.Followed.{due-good}
-use Rattle.system_file.proofs.Uniform.{AllKind}
+use Rattle.system_checked.proofs.Uniform.{AllKind}
 
 -- a part of the first bytes is that part of the text
 cut : (a k L : ℕ) (l : List ℕ) → a + k ≤ L → take k (drop a (take L l)) ≡ take k (drop a l)

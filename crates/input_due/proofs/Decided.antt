@@ -17,16 +17,16 @@ use Rattle.model.specs.Refusal.{refuse}
 use Rattle.model.specs.Text.{badShape, refusalFrame}
 use Rattle.model.specs.Read.{kindIn, tilesIn, sideIn, lineLength, linesFrom, systemFrames, tileFrames, fileAnswer, printed, program}
 use Rattle.laws.proofs.Refusals.{passed}
-use Rattle.frames_read.specs.declared.Cursor.{Cursor}
-use Rattle.frames_read.specs.declared.Step.{Step}
-use Rattle.frames_read.specs.declared.Step.the-variants.{Next, Stopped}
-use Rattle.frames_read.specs.Steps.{follow, textEnd}
+use Rattle.cursors.specs.declared.Cursor.{Cursor}
+use Rattle.cursors.specs.declared.Step.{Step}
+use Rattle.cursors.specs.declared.Step.the-variants.{Next, Stopped}
+use Rattle.frames_read.specs.Follow.{follow, textEnd}
 use Rattle.lines_read.specs.Line.{malformed}
 use Rattle.header_read.specs.Heads.{headerLine, headerAnswer}
-use Rattle.writing.proofs.Shapes.{small-tiles}
-use Rattle.system_file.specs.Files.{Headed, start}
-use Rattle.system_file.proofs.Headers.{facts, start-placed, file-refused, file-followed}
-use Rattle.system_file.proofs.Held.{tiles-kind, tiles-count, tiles-end}
+use Rattle.rows_written.proofs.Shapes.{small-tiles}
+use Rattle.system_checked.specs.Files.{Headed, start}
+use Rattle.system_checked.proofs.Headers.{facts, start-placed, file-refused, file-followed}
+use Rattle.system_checked.proofs.Held.{tiles-kind, tiles-count, tiles-end}
 use Rattle.input_due.specs.Due.{systemDue}
 use Rattle.input_due.proofs.Fronts.{same-header, same-headed}
 use Rattle.input_due.proofs.Cuts.{follow-same}

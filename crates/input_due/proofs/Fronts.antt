@@ -17,7 +17,7 @@ use Rattle.model.specs.Text.{badShape}
 use Rattle.model.specs.Read.{kindIn, tilesIn, sideIn}
 use Rattle.lines_read.specs.Line.{malformed}
 use Rattle.header_read.specs.Heads.{headerAnswer}
-use Rattle.system_file.specs.Files.{Headed}
+use Rattle.system_checked.specs.Files.{Headed}
 
 module _ (limit : ℕ) where
   -- what seven bytes answer

@@ -1,12 +1,10 @@
-// For the test of damaged texts: what the readers and the program answer for a text, as a line of digits.
+// For the test of damaged texts: what the readers answer for a text, as a line of digits.
 ghost use Prim.Native.Nat.{_≤_};
 ghost use lib.ListN.{length};
 use header_read::Header;
 use header_read::check_header;
 use model::Outcome;
 use model::ReadAnswer;
-use model::WriteAnswer;
-use printing::print_result;
 use result_file::read_result;
 use script::mixed_bytes;
 use script::mixed_numbers;
@@ -50,15 +48,6 @@ pub fn decode(digits: &[u8], text: &mut [u8]) {
     }
 }
 
-// The digits of bytes.
-fn encode(bytes: &[u8], out: &mut [u8]) {
-    let mut k = 0;
-    while k < bytes.len() {
-        put(out, k % 1048576 * 2, 2, wide(bytes[k]));
-        k += 1;
-    }
-}
-
 // A refusal's number and place, and the line's end.
 fn put_refusal(out: &mut [u8], n: u8, x: usize) -> usize {
     put(out, 0, 2, wide(n));
@@ -83,22 +72,19 @@ pub fn judge_system(text: &[u8], numbers: &mut [f64], out: &mut [u8]) -> usize
     }
 }
 
-// An outcome's number and place, at the end of a result's line.
-fn put_outcome(out: &mut [u8], outcome: Outcome) -> usize {
-    set_byte(out, 40, 0, 10);
+// An outcome's number and place, as a number of six digits.
+fn outcome_number(outcome: Outcome) -> u64 {
     match outcome {
-        Outcome::Good => {
-            put(out, 34, 6, 0);
-        }
-        Outcome::Overflow(p) => {
-            put(out, 34, 2, 1);
-            put(out, 36, 4, p as u64);
-        }
-        Outcome::Singular(x) => {
-            put(out, 34, 2, 2);
-            put(out, 36, 4, x as u64);
-        }
+        Outcome::Good => 0,
+        Outcome::Overflow(p) => 65536 + p as u64 % 65536,
+        Outcome::Singular(x) => 131072 + x as u64 % 65536,
     }
+}
+
+// An outcome at the end of a result's line.
+fn put_outcome(out: &mut [u8], outcome: Outcome) -> usize {
+    put(out, 34, 6, outcome_number(outcome));
+    set_byte(out, 40, 0, 10);
     41
 }
 
@@ -117,24 +103,6 @@ pub fn judge_result(text: &[u8], numbers: &mut [f64], entries: &mut [u8], out: &
             put(out, 0, 18, 0);
             put(out, 18, 16, mixed_bytes(h, &entries[..listed]));
             put_outcome(out, outcome)
-        }
-    }
-}
-
-// The line for a text that is the program's input: the digits of what is printed.
-pub fn judge_program(text: &[u8], printed: &mut [u8], out: &mut [u8]) -> usize {
-    match print_result(text, printed) {
-        WriteAnswer::WriteRefused(_, _) => 0,
-        WriteAnswer::Written(k) => {
-            if printed.len() < k {
-                return 0;
-            }
-            if 1048576 <= k {
-                return 0;
-            }
-            encode(&printed[..k], out);
-            set_byte(out, k * 2, 0, 10);
-            k * 2 + 1
         }
     }
 }

@@ -3,27 +3,28 @@ use Prim.Native.Nat.{ℕ, suc, _+_, _-_, _*_, _≤_, _<_}
 use mathlib.Core.Path.{_≡_, refl, sym, ap, _∙_}
 use mathlib.Core.List.{List, [], _∷_, _++_, map}
 use native.Mathlib.Omega.{arith}
-use lib.ListN.{length, getD, drop, length-append, length-drop, List·getD-append}
-use lib.Seq.{getD-append-add, length-take-le}
+use lib.ListN.{length, getD, drop, length-append, List·getD-append}
+use lib.Seq.{getD-append-add}
 use Rattle.laws.proofs.Blocks.{getD-table}
 use Rattle.model.specs.declared.Answer.the-variants.{Accepted}
 use Rattle.model.specs.Lists.{below, table, joined}
 use Rattle.model.specs.Read.{Frame, lineLength, linesFrom, tileFrames, listFrames, resultFrames}
 use Rattle.lines_read.specs.Line.{LineOfDigits}
 use Rattle.lines_read.proofs.Tested.{line-of-digits}
-use Rattle.frames_read.specs.declared.Cursor.{Cursor}
-use Rattle.frames_read.specs.declared.Step.the-variants.{Next}
-use Rattle.frames_read.specs.Steps.{follow, rowFrames, textEnd}
-use Rattle.frames_read.proofs.Steps.{stepped, follow-placed}
+use Rattle.cursors.specs.declared.Cursor.{Cursor}
+use Rattle.cursors.specs.declared.Step.the-variants.{Next}
+use Rattle.frames_read.specs.Follow.{follow, rowFrames, textEnd}
+use Rattle.cursors.proofs.Steps.{stepped}
+use Rattle.frames_read.proofs.Rows.{follow-placed}
 use Rattle.numbers_read.specs.Decoded.{lineAt, tileSize}
 use Rattle.entries_read.specs.Entries.{listSize, ListLine, above, ListLines}
 use Rattle.numbers_read.proofs.Filled.{length-table, length-run}
-use Rattle.system_file.specs.Files.{start}
-use Rattle.system_file.proofs.Headers.{start-placed}
-use Rattle.system_file.proofs.Uniform.{AllKind, all-map, all-joined, Checked, step-line, step-next, Uniform, uniform}
-use Rattle.system_file.proofs.Held.{to-end, none-behind, split, tiles-end, lines-tiles}
-use Rattle.result_file.specs.Results.{listsStart, outcomeText}
-use Rattle.result_file.proofs.Frames.{outcomeFrame, follow-one}
+use Rattle.system_checked.specs.Files.{start}
+use Rattle.system_checked.proofs.Headers.{start-placed}
+use Rattle.system_checked.proofs.Uniform.{AllKind, all-map, all-joined, Checked, step-line, step-next, Uniform, uniform}
+use Rattle.system_checked.proofs.Held.{to-end, none-behind, split, tiles-end, lines-tiles}
+use Rattle.result_loaded.specs.Results.{listsStart, outcomeText}
+use Rattle.result_checked.proofs.Frames.{outcomeFrame, follow-one}
 
 -- ---- lists
 
@@ -52,10 +53,6 @@ unfolding listFrames above
 lists-count N = as-many (below N)
 
 -- ---- the parts
-
-pub length-outcome : (text : List ℕ) → 9 ≤ length text → length (outcomeText text) ≡ 9
-length-outcome text h =
-    length-take-le (length text - (length text - 9)) (drop (length text - 9) text) (rw (length-drop (length text - 9) text) (omega arith)) ∙ omega arith
 
 pub record Parts (t N : ℕ) (text : List ℕ) : Type 0 where
   pub middle : Cursor

@@ -15,16 +15,16 @@ use Rattle.model.specs.Lists.{run, below, joined}
 use Rattle.model.specs.Refusal.{refuse}
 use Rattle.model.specs.Text.{badMatrix, badLists}
 use Rattle.model.specs.Read.{linesFrom, resultFrames, fileAnswer, entriesIn, outcomeIn, listLine, listsOf, outcomeLine, resultReading, noLimit, readResult}
-use Rattle.frames_read.specs.Steps.{follow, textEnd}
+use Rattle.frames_read.specs.Follow.{follow, textEnd}
 use Rattle.header_read.specs.Heads.{headerAnswer}
 use Rattle.numbers_read.specs.Decoded.{lineAt}
 use Rattle.entries_read.specs.Entries.{listSize, above, listFrom, rowFrom, listsFrom}
 use Rattle.entries_read.proofs.Held.{above-grows}
-use Rattle.system_file.specs.Files.{Headed, start}
-use Rattle.system_file.proofs.Headers.{facts, start-placed, file-refused, file-followed}
-use Rattle.system_file.proofs.Held.{tile-lines, tiles-read}
-use Rattle.system_file.proofs.Systems.{length-right, length-wrong}
-use Rattle.result_file.specs.Results.{listsStart, outcomeText, ResultLines, loadedResult}
+use Rattle.system_checked.specs.Files.{Headed, start}
+use Rattle.system_checked.proofs.Headers.{facts, start-placed, file-refused, file-followed}
+use Rattle.system_checked.proofs.Held.{tile-lines, tiles-read}
+use Rattle.system_checked.proofs.Systems.{length-right, length-wrong}
+use Rattle.result_loaded.specs.Results.{listsStart, outcomeText, ResultLines, loadedResult}
 use Rattle.result_file.proofs.Parts.{Parts, parts, list-lines, outcome-text, outcome-digits, list-at, outcome-line}
 
 -- ---- the lists by lines

@@ -20,8 +20,8 @@ use Rattle.model.specs.Read.{Frame, isDigit, field, kindIn, lineLength, numbers
 use Rattle.laws.proofs.Finite.{not-nan}
 use Rattle.laws.proofs.Tests.{and-left, and-right, and-intro, or-false-left, or-false-right, false-or}
 use Rattle.laws.proofs.Blocks.{length-table, getD-table, table-unique}
-use Rattle.frames.proofs.Put.{length-hex}
-use Rattle.frames.proofs.Pieces.{length-joined, length-bits}
+use Rattle.digits_written.proofs.Put.{length-hex}
+use Rattle.digits_written.proofs.Pieces.{length-joined, length-bits}
 use Rattle.laws.proofs.Every.{every-at}
 use Rattle.round_trip.specs.Trips.{Held}
 use Rattle.round_trip.proofs.Numbers.{hex-digits}

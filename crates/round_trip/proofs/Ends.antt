@@ -16,7 +16,7 @@ use Rattle.model.specs.Refusal.{inside}
 use Rattle.model.specs.Text.{hex, line, outcomeFrame}
 use Rattle.model.specs.Read.{isDigit, field, kindIn, lineLength, outcomeIn, notDigits, badContent, badLine, wrongFrame, notFiniteIn, tilesIn, sideIn}
 use Rattle.laws.proofs.Tests.{and-left, or-false-left}
-use Rattle.frames.proofs.Put.{length-hex}
+use Rattle.digits_written.proofs.Put.{length-hex}
 use Rattle.round_trip.proofs.Numbers.{hex-digits}
 use Rattle.round_trip.proofs.Lines.{Line}
 use Rattle.round_trip.proofs.Fields.{every-both, field-hex, field-reads, framed, length-framed, framed-digits, reads-a, reads-b, reads-c, framed-again}

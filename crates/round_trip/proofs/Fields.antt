@@ -13,7 +13,7 @@ use Rattle.model.specs.Text.{hex, line}
 use Rattle.model.specs.Read.{isDigit, field, notDigits}
 use Rattle.laws.proofs.Tests.{never, and-left, and-right, and-intro}
 use Rattle.laws.proofs.Every.{every-take, every-drop}
-use Rattle.frames.proofs.Put.{length-hex}
+use Rattle.digits_written.proofs.Put.{length-hex}
 use Rattle.round_trip.proofs.Numbers.{value, hex-digits, value-of-hex, hex-of-value, value-below}
 use Rattle.round_trip.proofs.Lines.{Line}
 use Rattle.round_trip.proofs.Grid.{part-left, part-right}

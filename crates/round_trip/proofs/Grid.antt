@@ -11,7 +11,7 @@ use lib.Seq.{length-take-le, take-add, take-at, drop-drop, drop-append-add, take
 use Rattle.model.specs.Lists.{run, below, table, joined, part}
 use Rattle.laws.proofs.Tests.{lt-or-le}
 use Rattle.laws.proofs.Blocks.{length-table, getD-table, table-unique}
-use Rattle.frames.proofs.Put.{joined-below}
+use Rattle.digits_written.proofs.Put.{joined-below}
 
 -- ---- parts
 

@@ -15,8 +15,8 @@ use Rattle.model.specs.Buffer.{rows}
 use Rattle.model.specs.Read.{field, entriesIn, listLine, listsOf}
 use Rattle.laws.proofs.Tests.{lt-or-le}
 use Rattle.laws.proofs.Blocks.{length-table}
-use Rattle.frames.proofs.Put.{joined-below}
-use Rattle.frames.proofs.Pieces.{length-joined}
+use Rattle.digits_written.proofs.Put.{joined-below}
+use Rattle.digits_written.proofs.Pieces.{length-joined}
 use Rattle.round_trip.specs.Trips.{Lists}
 use Rattle.round_trip.proofs.Grid.{grid, grid-is, part-part, piece, pieces, map-below, T-below}
 use Rattle.round_trip.proofs.Checks.{Fine, frame, rowLine, row-fine, entries-read, row-again}

@@ -1,4 +1,1 @@
-pub mod Uniform
-pub mod Headers
-pub mod Held
 pub mod Systems

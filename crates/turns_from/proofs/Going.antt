@@ -37,7 +37,7 @@ use Rattle.demand.proofs.Limits.{good-tiles}
 use Rattle.demand.proofs.Whole.{Whole}
 use Rattle.demand.proofs.Steps.{took-whole, advanced-whole}
 use Rattle.demand.proofs.Answers.{run-whole, run-accepted}
-use Rattle.next.specs.Next.{Passed}
+use Rattle.next_task.specs.NextTask.{Passed}
 use Rattle.next_task.specs.NextTask.{LowestReady}
 use Rattle.next_worker.specs.NextWorker.{NextBusy, busy-after, all-idle}
 use Rattle.task_columns.specs.Due.{ColumnDue}

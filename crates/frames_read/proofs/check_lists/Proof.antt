@@ -8,10 +8,11 @@ use native.Mathlib.Omega.{arith}
 use Rattle.model.specs.Lists.{below, run, joined}
 use Rattle.model.specs.Read.{Frame, listFrames}
 use Rattle.lines_read.proofs.Runs.{upTo}
-use Rattle.frames_read.specs.declared.Cursor.{Cursor}
-use Rattle.frames_read.specs.declared.Step.{Step}
-use Rattle.frames_read.specs.Steps.{Placed, follow, rowFrames}
-use Rattle.frames_read.proofs.Steps.{follow-placed, rows-none, rows-stop, rows-go-on}
+use Rattle.cursors.specs.declared.Cursor.{Cursor}
+use Rattle.cursors.specs.declared.Step.{Step}
+use Rattle.cursors.specs.Steps.{Placed}
+use Rattle.frames_read.specs.Follow.{follow, rowFrames}
+use Rattle.frames_read.proofs.Rows.{follow-placed, rows-none, rows-stop, rows-go-on}
 use Rattle.frames_read.proofs.check_lists.Statement.{statement}
 use Rattle.frames_read.proofs.check_lists.Tie as tie
 

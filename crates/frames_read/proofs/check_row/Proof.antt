@@ -7,9 +7,11 @@ use native.Mathlib.Omega.{arith}
 use Rattle.model.specs.Lists.{below, run}
 use Rattle.model.specs.Read.{Frame}
 use Rattle.lines_read.proofs.Runs.{upTo}
-use Rattle.frames_read.specs.declared.Cursor.{Cursor}
-use Rattle.frames_read.specs.Steps.{Placed, follow, rowFrames}
-use Rattle.frames_read.proofs.Steps.{step-placed, row-none, row-stops, row-goes-on}
+use Rattle.cursors.specs.declared.Cursor.{Cursor}
+use Rattle.cursors.specs.Steps.{Placed}
+use Rattle.frames_read.specs.Follow.{follow, rowFrames}
+use Rattle.cursors.proofs.Steps.{step-placed}
+use Rattle.frames_read.proofs.Rows.{row-none, row-stops, row-goes-on}
 use Rattle.frames_read.proofs.check_row.Statement.{statement}
 use Rattle.frames_read.proofs.check_row.Tie as tie
 

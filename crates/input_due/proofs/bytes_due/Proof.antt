@@ -2,7 +2,7 @@
 use borrow.Author.Needs.{needs}
 use mathlib.Core.Path.{sym, ap, _∙_}
 use native.Mathlib.Omega.{arith}
-use Rattle.system_file.proofs.Headers.{shape-read, refusal-read}
+use Rattle.system_checked.proofs.Headers.{shape-read, refusal-read}
 use Rattle.input_due.specs.Due.{dueBehind, bytesDue}
 use Rattle.input_due.proofs.Decided.{bounds, seven-decide, due-decides}
 use Rattle.input_due.proofs.bytes_due.Statement.{statement}

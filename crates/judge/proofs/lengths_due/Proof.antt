@@ -2,7 +2,7 @@
 use borrow.Author.Needs.{needs}
 use native.Mathlib.Nat.{mul-le-mul}
 use native.Mathlib.Omega.{arith}
-use Rattle.system_file.proofs.Headers.{facts, shape-read}
+use Rattle.system_checked.proofs.Headers.{facts, shape-read}
 use Rattle.judge.proofs.lengths_due.Statement.{statement}
 use Rattle.judge.proofs.lengths_due.Tie as tie
 

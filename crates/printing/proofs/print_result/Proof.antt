@@ -1,8 +1,7 @@
 -- `printing::print_result` meets its contract. Assumes nothing.
 use borrow.Author.Needs.{needs}
 use mathlib.Core.Path.{sym, _∙_}
-use Rattle.printing.proofs.Checked.{no-result}
-use Rattle.printing.proofs.Printed.{refusal-printed, refusal-short}
+use Rattle.printing.proofs.Refused.{no-result, refusal-printed, refusal-short}
 use Rattle.printing.proofs.print_result.Statement.{statement}
 use Rattle.printing.proofs.print_result.Tie as tie
 

@@ -1,6 +1,6 @@
 -- `result_file::read_result` meets its contract. Assumes nothing.
 use borrow.Author.Needs.{needs}
-use Rattle.system_file.proofs.Headers.{shape-read, refusal-read}
+use Rattle.system_checked.proofs.Headers.{shape-read, refusal-read}
 use Rattle.result_file.proofs.Results.{header-refused}
 use Rattle.result_file.proofs.read_result.Statement.{statement}
 use Rattle.result_file.proofs.read_result.Tie as tie

@@ -3,8 +3,8 @@ use borrow.Author.Needs.{needs}
 use mathlib.Core.Path.{sym, ap, _∙_}
 use native.Mathlib.Nat.{mul-le-mul}
 use native.Mathlib.Omega.{arith}
-use Rattle.frames_read.specs.Steps.{textEnd}
-use Rattle.system_file.proofs.Headers.{facts}
+use Rattle.frames_read.specs.Follow.{textEnd}
+use Rattle.system_checked.proofs.Headers.{facts}
 use Rattle.result_file.proofs.Results.{matrix-refused, lists-refused, lines-refused, result-read, result-lines}
 use Rattle.result_file.proofs.read_result_lines.Statement.{statement}
 use Rattle.result_file.proofs.read_result_lines.Tie as tie

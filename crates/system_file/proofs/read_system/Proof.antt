@@ -1,6 +1,6 @@
 -- `system_file::read_system` meets its contract. Assumes nothing.
 use borrow.Author.Needs.{needs}
-use Rattle.system_file.proofs.Headers.{shape-read, refusal-read}
+use Rattle.system_checked.proofs.Headers.{shape-read, refusal-read}
 use Rattle.system_file.proofs.Systems.{header-refused}
 use Rattle.system_file.proofs.read_system.Statement.{statement}
 use Rattle.system_file.proofs.read_system.Tie as tie

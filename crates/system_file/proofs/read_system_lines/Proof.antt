@@ -3,7 +3,7 @@ use borrow.Author.Needs.{needs}
 use mathlib.Core.Path.{sym, _∙_}
 use native.Mathlib.Nat.{mul-le-mul}
 use native.Mathlib.Omega.{arith}
-use Rattle.system_file.proofs.Headers.{facts}
+use Rattle.system_checked.proofs.Headers.{facts}
 use Rattle.system_file.proofs.Systems.{length-refused, lines-refused, system-read, system-lines}
 use Rattle.system_file.proofs.read_system_lines.Statement.{statement}
 use Rattle.system_file.proofs.read_system_lines.Tie as tie

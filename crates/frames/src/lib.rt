@@ -1,3 +1,0 @@
-// One frame of a file, written into a lent text from a place on; the rest of the text stays.
-mod digits;
-pub mod lines;

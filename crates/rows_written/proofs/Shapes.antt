@@ -1,0 +1,109 @@
+-- Sizes: when they are refused, and bounds where they are not. Assumes nothing.
+use mathlib.Core.Path.{_≡_, refl, sym}
+use mathlib.Core.Logic.{_⊎_, inl, inr}
+use mathlib.Core.Bool.{Bool, true, false, not, _&&_}
+use Prim.Native.Nat.{ℕ, _+_, _*_, _/_, _≤_, _<_}
+use native.Mathlib.Nat.{mul-le-mul, mul-assoc, mul-add, mul-mul-mul-comm}
+use native.Mathlib.Omega.{arith}
+use lib.Dec.{eqb, leb, ltb}
+use borrow.Author.Tests.{eqb-true, le-leb, lt-leb, leb-true, ltb-true, ltb-false}
+use Rattle.model.specs.Lists.{run, every}
+use Rattle.model.specs.Refusal.{inside}
+use Rattle.model.specs.Text.{badShape}
+use Rattle.laws.proofs.Tests.{true-or-false, every-run-elim, and-left, and-right}
+use Rattle.rows_written.specs.Rows.{triangle}
+
+-- ---- 1
+
+pub low-N : (N t : ℕ) → N < 1 → true ≡ badShape N t
+unfolding badShape inside
+low-N N t h = rw (lt-leb 1 N h)
+
+pub high-N : (N t : ℕ) → 1 ≤ N → 16 < N → true ≡ badShape N t
+unfolding badShape inside
+high-N N t l h = rw (le-leb 1 N l, lt-leb N 16 h)
+
+pub low-t : (N t : ℕ) → 1 ≤ N → N ≤ 16 → t < 1 → true ≡ badShape N t
+unfolding badShape inside
+low-t N t l k h = rw (le-leb 1 N l, le-leb N 16 k, lt-leb 1 t h)
+
+pub high-t : (N t : ℕ) → 1 ≤ N → N ≤ 16 → 1 ≤ t → ltb 16 t ≡ badShape N t
+unfolding badShape inside
+high-t N t l k h = rw (le-leb 1 N l, le-leb N 16 k, le-leb 1 t h) (go (true-or-false (ltb 16 t)))
+  where
+    go : (ltb 16 t ≡ true) ⊎ (ltb 16 t ≡ false) → ltb 16 t ≡ not (leb t 16)
+    go (inl e) = rw (e, lt-leb t 16 (ltb-true 16 t e))
+    go (inr e) = rw (e, le-leb t 16 (ltb-false 16 t e))
+
+pub record Shape (N t : ℕ) : Type 0 where
+  pub some : 1 ≤ N
+  pub tiles : N ≤ 16
+  pub side : t ≤ 16
+
+pub shape : (N t : ℕ) → badShape N t ≡ false → Shape N t
+unfolding badShape inside
+shape N t e =
+    let a = true-of (leb 1 N && leb N 16 && (leb 1 t && leb t 16)) e in
+    record {
+      some = leb-true 1 N (and-left (leb 1 N) (leb N 16) (and-left (leb 1 N && leb N 16) (leb 1 t && leb t 16) a));
+      tiles = leb-true N 16 (and-right (leb 1 N) (leb N 16) (and-left (leb 1 N && leb N 16) (leb 1 t && leb t 16) a));
+      side = leb-true t 16 (and-right (leb 1 t) (leb t 16) (and-right (leb 1 N && leb N 16) (leb 1 t && leb t 16) a));
+    }
+  where
+    true-of : (b : Bool) → not b ≡ false → b ≡ true
+    true-of true p = refl
+    true-of false p = sym p
+
+-- ---- bounds
+
+pub record Bounds (N t : ℕ) : Type 0 where
+  pub numbers : t * t ≤ 256
+  pub order : N * t ≤ 256
+  pub elements : N * t * (N * t) ≤ 65536
+  pub entries : N * N * t ≤ 4096
+  pub row : N * (7 + t * t * 16) ≤ 65648
+  pub rows : N * (N * (7 + t * t * 16)) ≤ 1050368
+  pub lists : N * (N + 1) ≤ 272
+  pub listing : N * (N + 1) / 2 * (7 + t * 2) ≤ 5304
+  pub squares : N * N ≤ 256
+
+pub bounds : (N t : ℕ) → N ≤ 16 → t ≤ 16 → Bounds N t
+bounds N t h k =
+    let tt : t * t ≤ 256 = mul-le-mul k k in
+    let nt : N * t ≤ 256 = mul-le-mul h k in
+    let nn : N * N ≤ 256 = mul-le-mul h h in
+    let c : 7 + t * t * 16 ≤ 4103 = omega arith in
+    let r : N * (7 + t * t * 16) ≤ 65648 = mul-le-mul h c in
+    let m : N + 1 ≤ 17 = omega arith in
+    let l : N * (N + 1) ≤ 272 = mul-le-mul h m in
+    let l2 : N * (N + 1) / 2 ≤ 136 = omega arith in
+    let w : 7 + t * 2 ≤ 39 = omega arith in
+    record {
+      numbers = tt;
+      order = nt;
+      elements = mul-le-mul nt nt;
+      entries = mul-le-mul nn k;
+      row = r;
+      rows = mul-le-mul h r;
+      lists = l;
+      listing = mul-le-mul l2 w;
+      squares = nn;
+    }
+
+-- a matrix of a system's length has all its tiles
+pub enough : (N t x : ℕ) → x ≡ N * t * (N * t) → N * N * (t * t) ≤ x
+enough N t x e = omega (arith, mul-mul-mul-comm N t N t)
+
+-- the tiles' lines of a system with n at most 48
+pub small-tiles : (N t : ℕ) → N ≤ 16 → N * t ≤ 48 → N * (N * (7 + t * t * 16)) ≤ 38656
+small-tiles N t h k =
+    let s : N * N ≤ 256 = mul-le-mul h h in
+    let n : N * t * (N * t) ≤ 2304 = mul-le-mul k k in
+    omega (arith, mul-assoc N N (7 + t * t * 16), mul-add (N * N) 7 (t * t * 16), mul-assoc (N * N) (t * t) 16, mul-mul-mul-comm N t N t)
+
+abbrev halved : ℕ → Bool
+halved n = eqb (n * (n + 1) / 2) (triangle n)
+
+pub half : (n : ℕ) → n ≤ 16 → n * (n + 1) / 2 ≡ triangle n
+unfolding every run triangle
+half n h = eqb-true (n * (n + 1) / 2) (triangle n) (every-run-elim halved 0 17 refl n (omega arith) (omega arith))

@@ -1,0 +1,4 @@
+pub mod Uniform
+pub mod Headers
+pub mod Held
+pub mod Systems
