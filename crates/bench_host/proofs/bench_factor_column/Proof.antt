@@ -1,8 +1,8 @@
--- `steps::bench_factor_column` meets its contract: it hands on the column's. Assumes nothing.
+-- `bench_factor_column` meets its contract: it hands on the column's. Assumes nothing.
 use Rattle.bench_host.proofs.Laws.{ends}
 use borrow.Author.Needs.{needs}
-use Rattle.bench_host.proofs.steps.bench_factor_column.Statement.{statement}
-use Rattle.bench_host.proofs.steps.bench_factor_column.Tie as tie
+use Rattle.bench_host.proofs.bench_factor_column.Statement.{statement}
+use Rattle.bench_host.proofs.bench_factor_column.Tie as tie
 
 factor-column-requires : tie.Need-factor-column-requires
 factor-column-requires c κs = search needs

@@ -1,8 +1,8 @@
--- `steps::bench_apply_column` meets its contract: it hands on the column's. Assumes nothing.
+-- `bench_apply_column` meets its contract: it hands on the column's. Assumes nothing.
 use Rattle.bench_host.proofs.Laws.{ends}
 use borrow.Author.Needs.{needs}
-use Rattle.bench_host.proofs.steps.bench_apply_column.Statement.{statement}
-use Rattle.bench_host.proofs.steps.bench_apply_column.Tie as tie
+use Rattle.bench_host.proofs.bench_apply_column.Statement.{statement}
+use Rattle.bench_host.proofs.bench_apply_column.Tie as tie
 
 apply-column-requires : tie.Need-apply-column-requires
 apply-column-requires c κs = search needs

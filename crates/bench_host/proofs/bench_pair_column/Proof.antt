@@ -1,8 +1,8 @@
--- `steps::bench_pair_column` meets its contract: it hands on the column's. Assumes nothing.
+-- `bench_pair_column` meets its contract: it hands on the column's. Assumes nothing.
 use Rattle.bench_host.proofs.Laws.{ends}
 use borrow.Author.Needs.{needs}
-use Rattle.bench_host.proofs.steps.bench_pair_column.Statement.{statement}
-use Rattle.bench_host.proofs.steps.bench_pair_column.Tie as tie
+use Rattle.bench_host.proofs.bench_pair_column.Statement.{statement}
+use Rattle.bench_host.proofs.bench_pair_column.Tie as tie
 
 pair-column-requires : tie.Need-pair-column-requires
 pair-column-requires c κs = search needs

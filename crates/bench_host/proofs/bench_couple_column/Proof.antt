@@ -1,8 +1,8 @@
--- `steps::bench_couple_column` meets its contract: it hands on the column's. Assumes nothing.
+-- `bench_couple_column` meets its contract: it hands on the column's. Assumes nothing.
 use Rattle.bench_host.proofs.Laws.{ends}
 use borrow.Author.Needs.{needs}
-use Rattle.bench_host.proofs.steps.bench_couple_column.Statement.{statement}
-use Rattle.bench_host.proofs.steps.bench_couple_column.Tie as tie
+use Rattle.bench_host.proofs.bench_couple_column.Statement.{statement}
+use Rattle.bench_host.proofs.bench_couple_column.Tie as tie
 
 couple-column-requires : tie.Need-couple-column-requires
 couple-column-requires c κs = search needs
