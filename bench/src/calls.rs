@@ -23,7 +23,7 @@ fn bad_records(n: usize, records: &[Record]) -> bool {
                     (false, false) => [4, k, i, j],
                 };
                 let r = records[p];
-                if r.kind != due[0] || r.k != due[1] || r.i != due[2] || r.j != due[3] || r.mark > 4 {
+                if r[0] != due[0] || r[1] != due[1] || r[2] != due[2] || r[3] != due[3] || r[4] > 4 {
                     return true;
                 }
                 p += 1;
@@ -35,7 +35,7 @@ fn bad_records(n: usize, records: &[Record]) -> bool {
 
 fn bad_holds(records: &[Record], workers: &[Worker]) -> bool {
     for p in 0..records.len() {
-        if records[p].mark == TAKEN && workers.iter().filter(|h| h.busy && h.task as usize == p).count() != 1 {
+        if records[p][4] == TAKEN && workers.iter().filter(|h| h.busy && h.task as usize == p).count() != 1 {
             return true;
         }
     }
@@ -44,7 +44,7 @@ fn bad_holds(records: &[Record], workers: &[Worker]) -> bool {
 
 fn bad_workers(t: usize, records: &[Record], workers: &[Worker]) -> bool {
     for h in workers {
-        if h.busy && (h.task as usize >= records.len() || records[h.task as usize].mark != TAKEN || h.column as usize >= t) {
+        if h.busy && (h.task as usize >= records.len() || records[h.task as usize][4] != TAKEN || h.column as usize >= t) {
             return true;
         }
     }
@@ -99,8 +99,8 @@ fn state(s: &Shape, matrix: &[f64], lists: &[u8], records: &[Record], workers: &
 }
 
 fn ready(n: usize, records: &[Record], p: usize) -> bool {
-    let finished = |p: usize| records[p].mark >= DONE;
-    if records[p].mark != 0 {
+    let finished = |p: usize| records[p][4] >= DONE;
+    if records[p][4] != 0 {
         return false;
     }
     let (k, i, j) = triple(records[p]);
@@ -137,7 +137,7 @@ pub fn take(s: &Shape, matrix: &[f64], lists: &[u8], records: &mut [Record], wor
     if !ready(s.tiles, records, p) {
         return 7;
     }
-    records[p].mark = TAKEN;
+    records[p][4] = TAKEN;
     workers[w] = Worker { busy: true, task: p as u16, column: 0 };
     0
 }
@@ -148,8 +148,8 @@ fn finite_tile(s: &Shape, matrix: &[f64], i: usize, j: usize) -> bool {
 }
 
 fn finite_tiles(s: &Shape, matrix: &[f64], r: Record) -> bool {
-    let (k, i, j) = (r.k as usize, r.i as usize, r.j as usize);
-    match r.kind {
+    let (k, i, j) = (r[1] as usize, r[2] as usize, r[3] as usize);
+    match r[0] {
         1 => finite_tile(s, matrix, k, k),
         2 => finite_tile(s, matrix, k, k) && finite_tile(s, matrix, k, j),
         3 => finite_tile(s, matrix, k, k) && finite_tile(s, matrix, i, k),
@@ -185,7 +185,7 @@ pub fn work(s: &Shape, matrix: &mut [f64], lists: &mut [u8], records: &mut [Reco
     if mark > DONE {
         fill(s, matrix, lists, r);
     }
-    records[p].mark = mark;
+    records[p][4] = mark;
     workers[w] = if mark == TAKEN { Worker { busy: true, task: h.task, column: h.column + 1 } } else { IDLE };
     0
 }

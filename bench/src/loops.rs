@@ -1,7 +1,8 @@
-//! Tasks, what a failed or spoiled one leaves, and the published loops.
+//! Tasks as bytes, what a failed or spoiled one leaves, and the published loops.
 use crate::plain::{self, Shape};
 
-pub use solumivaf::Record;
+/// Kind, k, i, j and mark.
+pub type Record = [u8; 5];
 
 pub const TAKEN: u8 = 1;
 pub const DONE: u8 = 2;
@@ -19,17 +20,16 @@ pub fn number(n: usize, k: usize, i: usize, j: usize) -> usize {
 
 /// The waiting records in number order.
 pub fn numbering(n: usize) -> Vec<Record> {
-    let task = |kind: u8, k: usize, i: usize, j: usize| Record { kind, k: k as u8, i: i as u8, j: j as u8, mark: 0 };
     let mut out = Vec::new();
     for k in 0..n {
-        out.push(task(1, k, 0, 0));
+        out.push([1, k as u8, 0, 0, 0]);
         for j in k + 1..n {
-            out.push(task(2, k, 0, j));
+            out.push([2, k as u8, 0, j as u8, 0]);
         }
         for i in k + 1..n {
-            out.push(task(3, k, i, 0));
+            out.push([3, k as u8, i as u8, 0, 0]);
             for j in k + 1..n {
-                out.push(task(4, k, i, j));
+                out.push([4, k as u8, i as u8, j as u8, 0]);
             }
         }
     }
@@ -38,19 +38,19 @@ pub fn numbering(n: usize) -> Vec<Record> {
 
 /// The triple of a record: k stands for an unused i or j.
 pub fn triple(r: Record) -> (usize, usize, usize) {
-    (r.k as usize, r.k.max(r.i) as usize, r.k.max(r.j) as usize)
+    (r[1] as usize, r[1].max(r[2]) as usize, r[1].max(r[3]) as usize)
 }
 
 /// Whether a latest writer of what the task touches is failed or spoiled.
 pub fn spoiled(n: usize, records: &[Record], k: usize, i: usize, j: usize) -> bool {
-    let broken = |p: usize| records[p].mark >= FAILED;
+    let broken = |p: usize| records[p][4] >= FAILED;
     (k > 0 && broken(number(n, k - 1, i, j))) || (i > k && broken(number(n, k, i - 1, j))) || (j > k && broken(number(n, k, i, k)))
 }
 
 /// Column c of the task. False where a computed number isn't finite.
 pub fn column(s: &Shape, m: &mut [f64], l: &mut [u8], r: Record, c: usize) -> bool {
-    let (k, i, j) = (r.k as usize, r.i as usize, r.j as usize);
-    match r.kind {
+    let (k, i, j) = (r[1] as usize, r[2] as usize, r[3] as usize);
+    match r[0] {
         1 => plain::factor(s, m, l, k, c),
         2 => plain::apply(s, m, l, k, j, c),
         3 => plain::couple(s, m, l, k, i, c),
@@ -60,7 +60,7 @@ pub fn column(s: &Shape, m: &mut [f64], l: &mut [u8], r: Record, c: usize) -> bo
 
 /// Fills what the task writes with +0, and its list with 0.
 pub fn fill(s: &Shape, m: &mut [f64], l: &mut [u8], r: Record) {
-    let (k, i, j) = (r.k as usize, r.i as usize, r.j as usize);
+    let (k, i, j) = (r[1] as usize, r[2] as usize, r[3] as usize);
     let t = s.side;
     let mut tile = |a: usize, upper: bool| {
         for x in 0..t {
@@ -69,7 +69,7 @@ pub fn fill(s: &Shape, m: &mut [f64], l: &mut [u8], r: Record) {
             }
         }
     };
-    match r.kind {
+    match r[0] {
         1 => tile(s.tile(k, k), false),
         2 => tile(s.tile(k, j), false),
         3 => {
@@ -81,8 +81,8 @@ pub fn fill(s: &Shape, m: &mut [f64], l: &mut [u8], r: Record) {
             tile(s.tile(i, j), false);
         }
     }
-    if r.kind == 1 || r.kind == 3 {
-        let row = if r.kind == 1 { k } else { i };
+    if r[0] == 1 || r[0] == 3 {
+        let row = if r[0] == 1 { k } else { i };
         l[s.list(row, k)..s.list(row, k) + t].fill(0);
     }
 }
@@ -108,6 +108,6 @@ pub fn loops(s: &Shape, m: &mut [f64], l: &mut [u8], records: &mut [Record]) {
         if mark != DONE {
             fill(s, m, l, r);
         }
-        records[p].mark = mark;
+        records[p][4] = mark;
     }
 }

@@ -7,6 +7,7 @@ mod plain;
 mod solving;
 
 use calls::{Worker, IDLE};
+use loops::Record;
 use plain::Shape;
 use solumivaf::{Run, Sizes};
 use std::hint::black_box;
@@ -80,8 +81,13 @@ fn numbers(seed: u64, count: usize) -> Vec<f64> {
 fn fresh(s: &Shape, seed: u64) -> Lent {
     let n = s.tiles * s.side;
     let mut to = solumivaf::Lent::of(sizes(s, 1), numbers(seed, n * n));
-    to.records = loops::numbering(s.tiles);
+    bytes(&mut to.records).copy_from_slice(&loops::numbering(s.tiles));
     Lent { to, answers: Vec::new(), text: Vec::new() }
+}
+
+/// The records as the Rust side has them, five bytes each.
+fn bytes(records: &mut [solumivaf::Record]) -> &mut [Record] {
+    unsafe { std::slice::from_raw_parts_mut(records.as_mut_ptr().cast(), records.len()) }
 }
 
 fn sizes(s: &Shape, workers: usize) -> Sizes {
@@ -216,7 +222,7 @@ fn runs(tiles: usize, t: usize, rounds: usize) {
             rounds,
             1,
             &start,
-            |x| loops::loops(&s, &mut x.to.matrix, &mut x.to.lists, &mut x.to.records),
+            |x| loops::loops(&s, &mut x.to.matrix, &mut x.to.lists, bytes(&mut x.to.records)),
             |x| assert_eq!(factorize(&s, workers, u64::MAX, x), calls),
         );
         row(&format!("opening and whole run, N = {tiles}, t = {t}, W = {workers}"), both);
@@ -228,7 +234,7 @@ fn runs(tiles: usize, t: usize, rounds: usize) {
 #[inline(never)]
 fn plain_take(s: &Shape, workers: usize, p: usize, x: &mut Lent) {
     let mut slots = [IDLE; 32];
-    assert_eq!(calls::take(s, &x.to.matrix, &x.to.lists, &mut x.to.records, &mut slots[..workers], 0, p), 0);
+    assert_eq!(calls::take(s, &x.to.matrix, &x.to.lists, bytes(&mut x.to.records), &mut slots[..workers], 0, p), 0);
 }
 
 #[inline(never)]
@@ -240,7 +246,7 @@ fn rattle_take(s: &Shape, workers: usize, p: usize, x: &mut Lent) {
 fn plain_column(s: &Shape, workers: usize, p: usize, c: usize, x: &mut Lent) {
     let mut slots = [IDLE; 32];
     slots[0] = Worker { busy: true, task: p as u16, column: c as u8 };
-    assert_eq!(calls::work(s, &mut x.to.matrix, &mut x.to.lists, &mut x.to.records, &mut slots[..workers], 0), 0);
+    assert_eq!(calls::work(s, &mut x.to.matrix, &mut x.to.lists, bytes(&mut x.to.records), &mut slots[..workers], 0), 0);
 }
 
 #[inline(never)]
@@ -277,7 +283,7 @@ fn single_calls(tiles: usize, t: usize, rounds: usize) {
 
 #[inline(never)]
 fn plain_solve(s: &Shape, right: &[f64], x: &mut Lent) {
-    assert_eq!(solving::solve(s, &x.to.matrix, &x.to.lists, &x.to.records, &[IDLE], right, &mut x.answers), 0);
+    assert_eq!(solving::solve(s, &x.to.matrix, &x.to.lists, bytes(&mut x.to.records), &[IDLE], right, &mut x.answers), 0);
 }
 
 #[inline(never)]

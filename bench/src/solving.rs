@@ -97,10 +97,10 @@ pub fn solve(s: &Shape, matrix: &[f64], lists: &[u8], records: &[Record], worker
     if damaged(s, lists, records, workers) || !matrix.iter().all(|x| x.is_finite()) {
         return 4;
     }
-    if records.iter().any(|r| r.mark < DONE) {
+    if records.iter().any(|r| r[4] < DONE) {
         return 8;
     }
-    if records.iter().any(|r| r.mark == FAILED) {
+    if records.iter().any(|r| r[4] == FAILED) {
         return 9;
     }
     if singular(s, matrix) {
