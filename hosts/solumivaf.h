@@ -1,4 +1,4 @@
-/* The calls of the library, for C. Link target/staticlib/libhost.a, which `rt staticlib host` writes (x86-64 Linux).
+/* The calls of the library, for C. Link target/staticlib/libsolumivaf.a, which hosts/build writes (x86-64 Linux).
  *
  * Lent to a call: `tiles` tiles a side, each tile `side` numbers a side, and `workers` workers. The matrix has (tiles * side)^2 numbers,
  * tile after tile, each row by row; the row lists tiles^2 * side bytes, in the same order; there is one record for each task. The 32 worker

@@ -9,6 +9,7 @@ mod solving;
 use calls::{Worker, IDLE};
 use loops::Record;
 use plain::Shape;
+use solumivaf::{Run, Sizes};
 use std::hint::black_box;
 
 // The functions of crates/bench_host. A slice is its start and its length.
@@ -17,12 +18,6 @@ extern "C" {
     fn bench_apply_column(tiles: usize, side: usize, matrix: *mut f64, matrix_len: usize, lists: *const u8, lists_len: usize, k: usize, j: usize, c: usize) -> u8;
     fn bench_couple_column(tiles: usize, side: usize, matrix: *mut f64, matrix_len: usize, lists: *mut u8, lists_len: usize, k: usize, i: usize, c: usize) -> u8;
     fn bench_pair_column(tiles: usize, side: usize, matrix: *mut f64, matrix_len: usize, lists: *const u8, lists_len: usize, k: usize, i: usize, j: usize, c: usize) -> u8;
-    fn bench_take(tiles: usize, side: usize, workers: usize, matrix: *const f64, matrix_len: usize, lists: *const u8, lists_len: usize, records: *mut Record, records_len: usize, w: usize, p: usize) -> u8;
-    fn bench_column(tiles: usize, side: usize, workers: usize, matrix: *mut f64, matrix_len: usize, lists: *mut u8, lists_len: usize, records: *mut Record, records_len: usize, w: usize, p: u16, c: u8) -> u8;
-    fn bench_factorize(tiles: usize, side: usize, workers: usize, matrix: *mut f64, matrix_len: usize, lists: *mut u8, lists_len: usize, records: *mut Record, records_len: usize, budget: u64) -> u64;
-    fn bench_solve(tiles: usize, side: usize, workers: usize, matrix: *const f64, matrix_len: usize, lists: *const u8, lists_len: usize, records: *const Record, records_len: usize, right: *const f64, right_len: usize, answers: *mut f64, answers_len: usize) -> u8;
-    fn bench_read_system(text: *const u8, text_len: usize, matrix: *mut f64, matrix_len: usize) -> u8;
-    fn bench_write_system(tiles: usize, side: usize, matrix: *const f64, matrix_len: usize, text: *mut u8, text_len: usize) -> u64;
 }
 
 // ---- time
@@ -47,28 +42,28 @@ fn thread_time() -> f64 {
 
 // ---- what is timed
 
-/// What both sides are lent; answers and text are empty where a call has none.
+/// What both sides are lent; answers and text are empty where a call has none. The workers are Rattle's: the Rust calls have their own.
 #[derive(Clone)]
 struct Lent {
-    matrix: Vec<f64>,
-    lists: Vec<u8>,
-    records: Vec<Record>,
+    to: solumivaf::Lent,
     answers: Vec<f64>,
     text: Vec<u8>,
 }
 
 impl Lent {
     fn copy_from(&mut self, other: &Lent) {
-        self.matrix.copy_from_slice(&other.matrix);
-        self.lists.copy_from_slice(&other.lists);
-        self.records.copy_from_slice(&other.records);
+        self.to.matrix.copy_from_slice(&other.to.matrix);
+        self.to.lists.copy_from_slice(&other.to.lists);
+        self.to.records.copy_from_slice(&other.to.records);
+        self.to.workers.clone_from(&other.to.workers);
         self.answers.copy_from_slice(&other.answers);
         self.text.copy_from_slice(&other.text);
     }
 
     fn same(&self, other: &Lent) -> bool {
         let bits = |a: &[f64], b: &[f64]| a.iter().zip(b).all(|(a, b)| a.to_bits() == b.to_bits());
-        self.lists == other.lists && self.records == other.records && self.text == other.text && bits(&self.matrix, &other.matrix) && bits(&self.answers, &other.answers)
+        let (x, y) = (&self.to, &other.to);
+        x.lists == y.lists && x.records == y.records && self.text == other.text && bits(&x.matrix, &y.matrix) && bits(&self.answers, &other.answers)
     }
 }
 
@@ -85,7 +80,18 @@ fn numbers(seed: u64, count: usize) -> Vec<f64> {
 
 fn fresh(s: &Shape, seed: u64) -> Lent {
     let n = s.tiles * s.side;
-    Lent { matrix: numbers(seed, n * n), lists: vec![0; s.tiles * n], records: loops::numbering(s.tiles), answers: Vec::new(), text: Vec::new() }
+    let mut to = solumivaf::Lent::of(sizes(s, 1), numbers(seed, n * n));
+    bytes(&mut to.records).copy_from_slice(&loops::numbering(s.tiles));
+    Lent { to, answers: Vec::new(), text: Vec::new() }
+}
+
+/// The records as the Rust side has them, five bytes each.
+fn bytes(records: &mut [solumivaf::Record]) -> &mut [Record] {
+    unsafe { std::slice::from_raw_parts_mut(records.as_mut_ptr().cast(), records.len()) }
+}
+
+fn sizes(s: &Shape, workers: usize) -> Sizes {
+    Sizes { tiles: s.tiles, side: s.side, workers }
 }
 
 /// What looking at the clock takes itself.
@@ -155,13 +161,13 @@ fn plain_step(kind: usize, s: &Shape, m: &mut [f64], l: &mut [u8], k: usize, i: 
 
 fn plain_columns(kind: usize, s: &Shape, k: usize, i: usize, x: &mut Lent) {
     for c in 0..s.side {
-        assert!(plain_step(kind, s, &mut x.matrix, &mut x.lists, k, i, c));
+        assert!(plain_step(kind, s, &mut x.to.matrix, &mut x.to.lists, k, i, c));
     }
 }
 
 fn rattle_columns(kind: usize, s: &Shape, k: usize, i: usize, x: &mut Lent) {
-    let (n, t, ml, ll) = (s.tiles, s.side, x.matrix.len(), x.lists.len());
-    let (m, l) = (x.matrix.as_mut_ptr(), x.lists.as_mut_ptr());
+    let (n, t, ml, ll) = (s.tiles, s.side, x.to.matrix.len(), x.to.lists.len());
+    let (m, l) = (x.to.matrix.as_mut_ptr(), x.to.lists.as_mut_ptr());
     for c in 0..t {
         // What the functions require holds: sizes and lengths that fit, finite numbers, entries in range.
         let mark = unsafe {
@@ -181,8 +187,8 @@ fn kernels(t: usize, rounds: usize) {
     let mut start = fresh(&s, 7);
     // lists that ask for exchanges: entry c names a row from c on, and a lower row
     for c in 0..t {
-        start.lists[c] = (c + (t - c) / 2).min(t - 1) as u8;
-        start.lists[2 * t + c] = (c % 3) as u8;
+        start.to.lists[c] = (c + (t - c) / 2).min(t - 1) as u8;
+        start.to.lists[2 * t + c] = (c % 3) as u8;
     }
     let (k, i) = black_box((0, 1));
     let mut sum = (0.0, 0.0);
@@ -198,9 +204,13 @@ fn kernels(t: usize, rounds: usize) {
 
 // ---- whole runs
 
+/// Opens the system and runs it: the count of the calls made.
 fn factorize(s: &Shape, workers: usize, budget: u64, x: &mut Lent) -> u64 {
-    let (ml, ll, rl) = (x.matrix.len(), x.lists.len(), x.records.len());
-    unsafe { bench_factorize(s.tiles, s.side, workers, x.matrix.as_mut_ptr(), ml, x.lists.as_mut_ptr(), ll, x.records.as_mut_ptr(), rl, budget) }
+    let sizes = sizes(s, workers);
+    x.to.open(sizes).unwrap();
+    match x.to.run(sizes, budget).unwrap() {
+        Run::Finished(calls) | Run::Spent(calls) => calls,
+    }
 }
 
 fn runs(tiles: usize, t: usize, rounds: usize) {
@@ -212,7 +222,7 @@ fn runs(tiles: usize, t: usize, rounds: usize) {
             rounds,
             1,
             &start,
-            |x| loops::loops(&s, &mut x.matrix, &mut x.lists, &mut x.records),
+            |x| loops::loops(&s, &mut x.to.matrix, &mut x.to.lists, bytes(&mut x.to.records)),
             |x| assert_eq!(factorize(&s, workers, u64::MAX, x), calls),
         );
         row(&format!("opening and whole run, N = {tiles}, t = {t}, W = {workers}"), both);
@@ -224,28 +234,24 @@ fn runs(tiles: usize, t: usize, rounds: usize) {
 #[inline(never)]
 fn plain_take(s: &Shape, workers: usize, p: usize, x: &mut Lent) {
     let mut slots = [IDLE; 32];
-    assert_eq!(calls::take(s, &x.matrix, &x.lists, &mut x.records, &mut slots[..workers], 0, p), 0);
+    assert_eq!(calls::take(s, &x.to.matrix, &x.to.lists, bytes(&mut x.to.records), &mut slots[..workers], 0, p), 0);
 }
 
 #[inline(never)]
 fn rattle_take(s: &Shape, workers: usize, p: usize, x: &mut Lent) {
-    let (ml, ll, rl) = (x.matrix.len(), x.lists.len(), x.records.len());
-    let number = unsafe { bench_take(s.tiles, s.side, workers, x.matrix.as_ptr(), ml, x.lists.as_ptr(), ll, x.records.as_mut_ptr(), rl, 0, p) };
-    assert_eq!(number, 0);
+    assert_eq!(x.to.take(sizes(s, workers), 0, p), Ok(()));
 }
 
 #[inline(never)]
 fn plain_column(s: &Shape, workers: usize, p: usize, c: usize, x: &mut Lent) {
     let mut slots = [IDLE; 32];
     slots[0] = Worker { busy: true, task: p as u16, column: c as u8 };
-    assert_eq!(calls::work(s, &mut x.matrix, &mut x.lists, &mut x.records, &mut slots[..workers], 0), 0);
+    assert_eq!(calls::work(s, &mut x.to.matrix, &mut x.to.lists, bytes(&mut x.to.records), &mut slots[..workers], 0), 0);
 }
 
 #[inline(never)]
-fn rattle_column(s: &Shape, workers: usize, p: usize, c: usize, x: &mut Lent) {
-    let (ml, ll, rl) = (x.matrix.len(), x.lists.len(), x.records.len());
-    let number = unsafe { bench_column(s.tiles, s.side, workers, x.matrix.as_mut_ptr(), ml, x.lists.as_mut_ptr(), ll, x.records.as_mut_ptr(), rl, 0, p as u16, c as u8) };
-    assert_eq!(number, 0);
+fn rattle_column(s: &Shape, workers: usize, x: &mut Lent) {
+    assert_eq!(x.to.column(sizes(s, workers), 0), Ok(()));
 }
 
 /// A T-4 in the middle of the tasks is taken, and worked column by column.
@@ -256,7 +262,9 @@ fn single_calls(tiles: usize, t: usize, rounds: usize) {
     let mut start = fresh(&s, 13);
     factorize(&s, 1, (p * (t + 1)) as u64, &mut start);
     let mut taken = start.clone();
-    taken.records[p][4] = loops::TAKEN;
+    taken.to.records[p].mark = loops::TAKEN;
+    taken.to.workers.busy[0] = true;
+    taken.to.workers.task[0] = p as u16;
     for workers in [1, 32] {
         let both = compare(rounds, 1, &start, |x| plain_take(&s, workers, p, x), |x| rattle_take(&s, workers, p, x));
         row(&format!("a take, N = {tiles}, t = {t}, W = {workers}"), both);
@@ -265,7 +273,7 @@ fn single_calls(tiles: usize, t: usize, rounds: usize) {
             1,
             &taken,
             |x| (0..t).for_each(|c| plain_column(&s, workers, p, c, x)),
-            |x| (0..t).for_each(|c| rattle_column(&s, workers, p, c, x)),
+            |x| (0..t).for_each(|_| rattle_column(&s, workers, x)),
         );
         row(&format!("a column call of T-4, N = {tiles}, t = {t}, W = {workers}"), (all.0 / t as f64, all.1 / t as f64));
     }
@@ -275,14 +283,12 @@ fn single_calls(tiles: usize, t: usize, rounds: usize) {
 
 #[inline(never)]
 fn plain_solve(s: &Shape, right: &[f64], x: &mut Lent) {
-    assert_eq!(solving::solve(s, &x.matrix, &x.lists, &x.records, &[IDLE], right, &mut x.answers), 0);
+    assert_eq!(solving::solve(s, &x.to.matrix, &x.to.lists, bytes(&mut x.to.records), &[IDLE], right, &mut x.answers), 0);
 }
 
 #[inline(never)]
 fn rattle_solve(s: &Shape, right: &[f64], x: &mut Lent) {
-    let (ml, ll, rl, al) = (x.matrix.len(), x.lists.len(), x.records.len(), x.answers.len());
-    let (m, l, r, a) = (x.matrix.as_ptr(), x.lists.as_ptr(), x.records.as_ptr(), x.answers.as_mut_ptr());
-    assert_eq!(unsafe { bench_solve(s.tiles, s.side, 1, m, ml, l, ll, r, rl, right.as_ptr(), right.len(), a, al) }, 0);
+    assert_eq!(x.to.solve(sizes(s, 1), right, &mut x.answers), Ok(()));
 }
 
 fn solves(tiles: usize, t: usize, rounds: usize) {
@@ -299,26 +305,24 @@ fn solves(tiles: usize, t: usize, rounds: usize) {
 
 #[inline(never)]
 fn plain_read(s: &Shape, x: &mut Lent) {
-    assert_eq!(files::read_system(&x.text, &mut x.matrix), Ok((s.tiles, s.side)));
+    assert_eq!(files::read_system(&x.text, &mut x.to.matrix), Ok((s.tiles, s.side)));
 }
 
 #[inline(never)]
-fn rattle_read(x: &mut Lent) {
-    let (tl, ml) = (x.text.len(), x.matrix.len());
-    assert_eq!(unsafe { bench_read_system(x.text.as_ptr(), tl, x.matrix.as_mut_ptr(), ml) }, 0);
+fn rattle_read(s: &Shape, x: &mut Lent) {
+    assert_eq!(solumivaf::read_system(&x.text, &mut x.to.matrix), Ok((s.tiles, s.side)));
 }
 
 #[inline(never)]
 fn plain_write(s: &Shape, x: &mut Lent) {
-    let length = files::write_system(s.tiles, s.side, &x.matrix, &mut x.text);
+    let length = files::write_system(s.tiles, s.side, &x.to.matrix, &mut x.text);
     assert_eq!(length, Ok(x.text.len()));
 }
 
 #[inline(never)]
 fn rattle_write(s: &Shape, x: &mut Lent) {
-    let (tl, ml) = (x.text.len(), x.matrix.len());
-    let length = unsafe { bench_write_system(s.tiles, s.side, x.matrix.as_ptr(), ml, x.text.as_mut_ptr(), tl) };
-    assert_eq!(length, tl as u64);
+    let length = solumivaf::write_system(s.tiles, s.side, &x.to.matrix, &mut x.text);
+    assert_eq!(length, Ok(x.text.len()));
 }
 
 /// A system is written, and what was written is read.
@@ -328,8 +332,8 @@ fn system_files(tiles: usize, t: usize, rounds: usize) {
     start.text = vec![0; 7 + tiles * tiles * (7 + 16 * t * t)];
     let mut written = start.clone();
     plain_write(&s, &mut written);
-    written.matrix.fill(0.0);
-    let read = compare(rounds, 1, &written, |x| plain_read(&s, x), rattle_read);
+    written.to.matrix.fill(0.0);
+    let read = compare(rounds, 1, &written, |x| plain_read(&s, x), |x| rattle_read(&s, x));
     row(&format!("a system file read, N = {tiles}, t = {t}"), read);
     let write = compare(rounds, 1, &start, |x| plain_write(&s, x), |x| rattle_write(&s, x));
     row(&format!("a system file written, N = {tiles}, t = {t}"), write);

@@ -1,4 +1,4 @@
-//! Links libhost.a, which `rt staticlib host` writes below the repository's target/. SOLUMIVAF_LIB names another folder.
+//! Links libsolumivaf.a, which hosts/build writes below the repository's target/. SOLUMIVAF_LIB names another folder.
 
 use std::env;
 use std::path::PathBuf;
@@ -9,7 +9,7 @@ fn main() {
         Some(folder) => PathBuf::from(folder),
         None => PathBuf::from(env::var_os("CARGO_MANIFEST_DIR").unwrap()).join("../../target/staticlib"),
     };
-    println!("cargo:rerun-if-changed={}", folder.join("libhost.a").display());
+    println!("cargo:rerun-if-changed={}", folder.join("libsolumivaf.a").display());
     println!("cargo:rustc-link-search=native={}", folder.display());
-    println!("cargo:rustc-link-lib=static=host");
+    println!("cargo:rustc-link-lib=static=solumivaf");
 }

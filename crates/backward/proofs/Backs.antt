@@ -11,10 +11,10 @@ use Rattle.model.specs.Lists.{run, below, inTurn}
 use Rattle.model.specs.Plan.{Plan}
 use Rattle.model.specs.Buffer.{Buffers}
 use Rattle.model.specs.Solve.{Passed, going, stopped, row, put, back}
-use Rattle.right_sides.specs.declared.Progress.{Progress}
-use Rattle.right_sides.specs.declared.Progress.the-variants.{Going, Stopped}
-use Rattle.right_sides.specs.Right.{passedOf}
-use Rattle.right_sides.proofs.Turns.{turns-stop}
+use Rattle.progress.specs.declared.Progress.{Progress}
+use Rattle.progress.specs.declared.Progress.the-variants.{Going, Stopped}
+use Rattle.progress.specs.Right.{passedOf}
+use Rattle.progress.proofs.Turns.{turns-stop}
 use Rattle.backward.specs.Rows.{backBelow}
 
 -- one number more

@@ -1,30 +1,10 @@
--- What a backward row's inner loop does, what the rows need of their caller, and all rows below one. Assumes nothing.
-use Prim.Native.Nat.{ℕ, zero, suc, _*_, _≤_}
-use mathlib.Core.Path.{_≡_}
-use mathlib.Core.Bool.{true}
-use mathlib.Core.List.{List, reverse}
-use lib.ListN.{length}
-use lib.Ieee.{Float}
-use Rattle.model.specs.declared.Sizes.{Sizes}
+-- All rows below one. Assumes nothing.
+use Prim.Native.Nat.{ℕ}
+use mathlib.Core.List.{reverse}
 use Rattle.model.specs.Lists.{below, inTurn}
-use Rattle.model.specs.Num.{update}
-use Rattle.model.specs.Tile.{allFinite}
 use Rattle.model.specs.Plan.{Plan}
 use Rattle.model.specs.Buffer.{Buffers}
 use Rattle.model.specs.Solve.{Passed, back}
-
--- what is left of d once u j · v j is subtracted for n numbers j from j on, in turn, skipped where u j is a zero
-unfoldable pub subtracted : (ℕ → Float) → (ℕ → Float) → ℕ → ℕ → Float → Float
-subtracted u v j zero d = d
-subtracted u v j (suc n) d = subtracted u v (suc j) n (update d (u j) (v j))
-
--- a finite matrix, and a right side as long as its order
-pub record Upper (z : Sizes) (m y : List Float) : Type 0 where
-  pub tiles-most : z .tiles ≤ 16
-  pub side-most : z .side ≤ 16
-  pub matrix-long : length m ≡ z .tiles * z .side * (z .tiles * z .side)
-  pub all-finite : allFinite m ≡ true
-  pub long : length y ≡ z .tiles * z .side
 
 -- the rows below row k, from last to first
 unfoldable pub backBelow : Plan → Buffers → ℕ → Passed → Passed

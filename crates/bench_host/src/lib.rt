@@ -1,6 +1,117 @@
-// What bench/ calls from Rust: a column of each step, a take and a column call, an opening with its whole run, a solve, and a system file
-// read and written.
-pub mod calls;
-pub mod files;
-pub mod solve;
-pub mod steps;
+// What bench/ calls from Rust besides the library for hosts: a column of each of the four steps. Each answers the mark that its task has
+// afterwards.
+ghost use mathlib.Core.Path.{_≡_};
+ghost use Rattle.model.specs.Task.{T-1, T-2, T-3, T-4};
+ghost use Rattle.model.specs.Plan.{planOf};
+ghost use Rattle.model.specs.Buffer.{markOf, columnEnds};
+ghost use Rattle.column_laws.specs.Workable.{Workable};
+ghost use Rattle.bench_host.specs.Bench.{sizes};
+use apply_columns::apply_column;
+use couple_columns::couple_column;
+use factor_columns::factor_column;
+use pair_columns::pair_column;
+use model::ColumnEnd;
+use model::Sizes;
+
+// The mark that a column's end gives its task.
+fn mark_after(end: ColumnEnd) -> u8
+    ensures { λ r. ⌜ r ≡ markOf end ⌝ }
+{
+    match end {
+        ColumnEnd::GoesOn => 1,
+        ColumnEnd::Done => 2,
+        ColumnEnd::Failed => 3,
+    }
+}
+
+// Column c of T-1(k).
+#[no_mangle]
+pub extern "C" fn bench_factor_column(
+    tiles: usize,
+    side: usize,
+    matrix: &mut [f64],
+    lists: &mut [u8],
+    k: usize,
+    c: usize,
+) -> u8
+    requires { ⌜ Workable (sizes tiles side 1) (T-1 k) c (now matrix) (now lists) ⌝ }
+    ensures { λ r. ⌜ record { left = record { matrix = now (matrix .exit); lists = now (lists .exit) }; mark = r }
+        ≡ columnEnds (planOf (sizes tiles side 1)) (T-1 k) c (record { matrix = now (matrix .entry); lists = now (lists .entry) }) ⌝ }
+{
+    let z = Sizes {
+        tiles,
+        side,
+        workers: 1,
+    };
+    mark_after(factor_column(z, matrix, lists, k, c))
+}
+
+// Column c of T-2(k,j).
+#[no_mangle]
+pub extern "C" fn bench_apply_column(
+    tiles: usize,
+    side: usize,
+    matrix: &mut [f64],
+    lists: &[u8],
+    k: usize,
+    j: usize,
+    c: usize,
+) -> u8
+    requires { ⌜ Workable (sizes tiles side 1) (T-2 k j) c (now matrix) (now lists) ⌝ }
+    ensures { λ r. ⌜ record { left = record { matrix = now (matrix .exit); lists = now (lists .entry) }; mark = r }
+        ≡ columnEnds (planOf (sizes tiles side 1)) (T-2 k j) c (record { matrix = now (matrix .entry); lists = now (lists .entry) }) ⌝ }
+{
+    let z = Sizes {
+        tiles,
+        side,
+        workers: 1,
+    };
+    mark_after(apply_column(z, matrix, lists, k, j, c))
+}
+
+// Column c of T-3(k,i).
+#[no_mangle]
+pub extern "C" fn bench_couple_column(
+    tiles: usize,
+    side: usize,
+    matrix: &mut [f64],
+    lists: &mut [u8],
+    k: usize,
+    i: usize,
+    c: usize,
+) -> u8
+    requires { ⌜ Workable (sizes tiles side 1) (T-3 k i) c (now matrix) (now lists) ⌝ }
+    ensures { λ r. ⌜ record { left = record { matrix = now (matrix .exit); lists = now (lists .exit) }; mark = r }
+        ≡ columnEnds (planOf (sizes tiles side 1)) (T-3 k i) c (record { matrix = now (matrix .entry); lists = now (lists .entry) }) ⌝ }
+{
+    let z = Sizes {
+        tiles,
+        side,
+        workers: 1,
+    };
+    mark_after(couple_column(z, matrix, lists, k, i, c))
+}
+
+// Column c of T-4(k,i,j).
+#[no_mangle]
+pub extern "C" fn bench_pair_column(
+    tiles: usize,
+    side: usize,
+    matrix: &mut [f64],
+    lists: &[u8],
+    k: usize,
+    i: usize,
+    j: usize,
+    c: usize,
+) -> u8
+    requires { ⌜ Workable (sizes tiles side 1) (T-4 k i j) c (now matrix) (now lists) ⌝ }
+    ensures { λ r. ⌜ record { left = record { matrix = now (matrix .exit); lists = now (lists .entry) }; mark = r }
+        ≡ columnEnds (planOf (sizes tiles side 1)) (T-4 k i j) c (record { matrix = now (matrix .entry); lists = now (lists .entry) }) ⌝ }
+{
+    let z = Sizes {
+        tiles,
+        side,
+        workers: 1,
+    };
+    mark_after(pair_column(z, matrix, lists, k, i, j, c))
+}

@@ -22,8 +22,8 @@ use Rattle.column_laws.proofs.Pairs.{length-applied}
 use Rattle.column_laws.proofs.Permutes.{length-start, finite-start}
 use Rattle.column_laws.proofs.Sound.{applied-all-finite}
 use Rattle.column_laws.proofs.Ends.{applied-same, applied-finite}
-use Rattle.right_sides.specs.Right.{ColumnPassed}
-use Rattle.right_sides.proofs.Stepped.{finite-put, finite-whole, step-goes, step-stops}
+use Rattle.progress.specs.Right.{ColumnPassed}
+use Rattle.progress.proofs.Stepped.{finite-put, finite-whole, step-goes, step-stops}
 
 module _ (z : Sizes) (m : List Float) (l : List ℕ) (k c : ℕ) (y : List Float) where
   abbrev s : Buffers

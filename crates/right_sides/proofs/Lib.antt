@@ -1,5 +1,1 @@
-pub mod Stepped
 pub mod Applied
-pub mod Paired
-pub mod Turns
-pub mod Ready

@@ -3,22 +3,16 @@ ghost use Prim.Native.Nat.{_<_};
 ghost use Rattle.model.specs.Lists.{inTurn};
 ghost use Rattle.model.specs.Plan.{planOf};
 ghost use Rattle.model.specs.Task.{after, tasks};
-ghost use Rattle.model.specs.Solve.{going, applied, paired, pass as passOf};
-ghost use Rattle.right_sides.specs.Right.{Solvable, RightSide, ColumnPassed, Passing, applyAll, pairAll, stagePassed};
+ghost use Rattle.model.specs.Solve.{going, applied, pass as passOf};
+ghost use Rattle.progress.specs.Right.{Solvable, RightSide, ColumnPassed, Passing, applyAll, pairAll, stagePassed};
 use apply_blocks::apply_rows;
 use block_starts::start_block;
-use model::Sizes;
 use multipliers::read_column;
-use pair_blocks::pair_rows;
+use model::Sizes;
 use places::place::list_start;
 use places::place::tile_start;
-use places::place::wide;
-
-// How far the right side has come: it goes on, or it stopped at a place, where a computed number wasn't finite.
-pub enum Progress {
-    Going,
-    Stopped(usize),
-}
+use progress::Progress;
+use right_pairs::pair;
 
 // Column c of T-2(k) on the right side y. False where a computed number isn't finite.
 fn apply_column(z: Sizes, matrix: &[f64], lists: &[u8], y: &mut [f64], k: usize, c: usize) -> bool
@@ -51,49 +45,6 @@ fn apply(z: Sizes, matrix: &[f64], lists: &[u8], y: &mut [f64], k: usize) -> Pro
     while c < t {
         if !apply_column(z, matrix, lists, y, k, c) {
             return Progress::Stopped(k);
-        }
-        c += 1;
-    }
-    Progress::Going
-}
-
-// Column c of T-4(k,i) on the right side y. False where a computed number isn't finite.
-fn pair_column(
-    z: Sizes,
-    matrix: &[f64],
-    lists: &[u8],
-    y: &mut [f64],
-    k: usize,
-    i: usize,
-    c: usize,
-) -> bool
-    requires { ⌜ Solvable z (now matrix) (now lists) ⌝ }
-    requires { ⌜ RightSide z (now y) ⌝ }
-    requires { ⌜ (k < i) × (i < z .tiles) × (c < z .side) ⌝ }
-    ensures { λ r. ⌜ ColumnPassed i (now (y .exit)) r
-        (paired (planOf z) (record { matrix = now (matrix .entry); lists = now (lists .entry) }) k i c (going (now (y .entry)))) ⌝ }
-{
-    let n = z.tiles;
-    let t = z.side;
-    let l = read_column(matrix, tile_start(n, t, i, k) + c, t, t);
-    let p = list_start(n, t, i, k);
-    let e = wide(lists[p + c]);
-    pair_rows(y, t, 1, k * t, i * t, c, e, l)
-}
-
-// T-4(k,i) on the right side y.
-fn pair(z: Sizes, matrix: &[f64], lists: &[u8], y: &mut [f64], k: usize, i: usize) -> Progress
-    requires { ⌜ Solvable z (now matrix) (now lists) ⌝ }
-    requires { ⌜ RightSide z (now y) ⌝ }
-    requires { ⌜ (k < i) × (i < z .tiles) ⌝ }
-    ensures { λ r. ⌜ Passing r (now (y .exit))
-        (pairAll (planOf z) (record { matrix = now (matrix .entry); lists = now (lists .entry) }) k i (going (now (y .entry)))) ⌝ }
-{
-    let t = z.side;
-    let mut c = 0;
-    while c < t {
-        if !pair_column(z, matrix, lists, y, k, i, c) {
-            return Progress::Stopped(i);
         }
         c += 1;
     }

@@ -1,4 +1,4 @@
-//! The functions of libhost.a as hosts/solumivaf.h declares them.
+//! The functions of libsolumivaf.a as hosts/solumivaf.h declares them.
 
 use crate::{Read, Record, Told};
 

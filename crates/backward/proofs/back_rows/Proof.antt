@@ -7,7 +7,7 @@ use native.Mathlib.Omega.{arith}
 use lib.ListN.{length}
 use Rattle.model.specs.Plan.{planOf}
 use Rattle.model.specs.Solve.{going}
-use Rattle.right_sides.specs.Right.{passedOf}
+use Rattle.progress.specs.Right.{passedOf}
 use Rattle.backward.specs.Rows.{backBelow}
 use Rattle.backward.proofs.Backs.{back-none, tile-goes, tile-stops}
 use Rattle.backward.proofs.back_rows.Statement.{statement}

@@ -8,9 +8,9 @@ use denote.Ref.{now}
 use lib.ListN.{length, length-set}
 use Rattle.model.specs.Plan.{planOf}
 use Rattle.model.specs.Solve.{going}
-use Rattle.right_sides.specs.Right.{passedOf}
+use Rattle.progress.specs.Right.{passedOf}
 use Rattle.backward.specs.Rows.{backBelow}
-use Rattle.backward.proofs.Places.{Placed, placed}
+use Rattle.subtractions.proofs.Places.{Placed, placed}
 use Rattle.backward.proofs.Backs.{back-stopped, back-number, back-not-finite}
 use Rattle.backward.proofs.back_tile.Statement.{statement}
 use Rattle.backward.proofs.back_tile.Tie as tie

@@ -8,8 +8,8 @@ use borrow.Author.Tests.{not-true, not-false}
 use Rattle.model.specs.Tile.{allFinite}
 use Rattle.model.specs.Plan.{plan, planOf}
 use Rattle.model.specs.Solve.{going, applied}
-use Rattle.right_sides.specs.Right.{passedOf, applyAll}
-use Rattle.right_sides.proofs.Turns.{Left, left-begins, left-goes, left-stops, left-ends, applied-keeps}
+use Rattle.progress.specs.Right.{passedOf, applyAll}
+use Rattle.progress.proofs.Turns.{Left, left-begins, left-goes, left-stops, left-ends, applied-keeps}
 use Rattle.right_sides.proofs.apply.Statement.{statement}
 use Rattle.right_sides.proofs.apply.Tie as tie
 

@@ -9,8 +9,8 @@ use Rattle.column_laws.specs.Steps.{tileStart}
 use Rattle.column_laws.proofs.Rows.{row-room}
 use Rattle.column_laws.proofs.Permutes.{started-long, started-finite}
 use Rattle.column_laws.proofs.Ends.{below-read}
-use Rattle.right_sides.proofs.Ready.{Ready, ready, right-room, right-few}
-use Rattle.right_sides.proofs.Stepped.{finite-whole}
+use Rattle.progress.proofs.Ready.{Ready, ready, right-room, right-few}
+use Rattle.progress.proofs.Stepped.{finite-whole}
 use Rattle.right_sides.proofs.Applied.{column-applied}
 use Rattle.right_sides.proofs.apply_column.Statement.{statement}
 use Rattle.right_sides.proofs.apply_column.Tie as tie

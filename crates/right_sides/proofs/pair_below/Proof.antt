@@ -10,8 +10,8 @@ use Rattle.model.specs.Tile.{allFinite}
 use Rattle.model.specs.Task.{after}
 use Rattle.model.specs.Plan.{planOf}
 use Rattle.model.specs.Solve.{going}
-use Rattle.right_sides.specs.Right.{passedOf, pairAll}
-use Rattle.right_sides.proofs.Turns.{Left, left-goes, left-stops, left-ends, went, halted, pairs-keep}
+use Rattle.progress.specs.Right.{passedOf, pairAll}
+use Rattle.progress.proofs.Turns.{Left, left-goes, left-stops, left-ends, went, halted, pairs-keep}
 use Rattle.right_sides.proofs.pair_below.Statement.{statement}
 use Rattle.right_sides.proofs.pair_below.Tie as tie
 

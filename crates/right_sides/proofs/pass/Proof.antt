@@ -10,8 +10,8 @@ use Rattle.model.specs.Tile.{allFinite}
 use Rattle.model.specs.Task.{tasks}
 use Rattle.model.specs.Plan.{plan, planOf}
 use Rattle.model.specs.Solve.{going, pass}
-use Rattle.right_sides.specs.Right.{passedOf, stagePassed}
-use Rattle.right_sides.proofs.Turns.{Left, left-begins, left-goes, left-stops, left-ends, went, halted, stage-keeps, tasks-are}
+use Rattle.progress.specs.Right.{passedOf, stagePassed}
+use Rattle.progress.proofs.Turns.{Left, left-begins, left-goes, left-stops, left-ends, went, halted, stage-keeps, tasks-are}
 use Rattle.right_sides.proofs.pass.Statement.{statement}
 use Rattle.right_sides.proofs.pass.Tie as tie
 

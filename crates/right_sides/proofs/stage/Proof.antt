@@ -6,8 +6,8 @@ use native.Mathlib.Omega.{arith}
 use Rattle.model.specs.Lists.{inTurn}
 use Rattle.model.specs.Task.{after}
 use Rattle.model.specs.Plan.{plan}
-use Rattle.right_sides.specs.Right.{passedOf, pairAll, stagePassed}
-use Rattle.right_sides.proofs.Turns.{turns-stop, pairs-keep, went, halted}
+use Rattle.progress.specs.Right.{passedOf, pairAll, stagePassed}
+use Rattle.progress.proofs.Turns.{turns-stop, pairs-keep, went, halted}
 use Rattle.right_sides.proofs.stage.Statement.{statement}
 use Rattle.right_sides.proofs.stage.Tie as tie
 

@@ -1,0 +1,44 @@
+// A column call, for hosts. hosts/solumivaf.h declares it.
+ghost use Rattle.model.specs.Refusal.{columnCall};
+ghost use Rattle.host_calls.specs.Hosted.{sizes, hosted, Called};
+use host_answers::Told;
+use host_answers::tell;
+use host_workers::gather;
+use host_workers::scatter;
+use model::Sizes;
+
+// Worker w does the next column of the task it holds.
+#[no_mangle]
+pub extern "C" fn solumivaf_column(
+    tiles: usize,
+    side: usize,
+    workers: usize,
+    matrix: &mut [f64],
+    lists: &mut [u8],
+    records: &mut [[u8; 5]],
+    busy: &mut [bool; 32],
+    task: &mut [u16; 32],
+    column: &mut [u8; 32],
+    w: usize,
+) -> Told
+    ensures { λ r. ⌜ Called (columnCall (sizes tiles side workers) w) workers
+        (hosted (now (matrix .entry)) (now (lists .entry)) (now (records .entry)) (now (busy .entry)) (now (task .entry)) (now (column .entry)))
+        (hosted (now (matrix .exit)) (now (lists .exit)) (now (records .exit)) (now (busy .exit)) (now (task .exit)) (now (column .exit))) r ⌝ }
+{
+    let z = Sizes {
+        tiles,
+        side,
+        workers,
+    };
+    let reply = working::column(z, matrix, lists, records, gather(*busy, *task, *column), w);
+    let left = reply.workers;
+    let slots = scatter(left);
+    let now_busy = slots.busy;
+    *busy = now_busy;
+    let now_task = slots.task;
+    *task = now_task;
+    let now_column = slots.column;
+    *column = now_column;
+    let answer = reply.answer;
+    tell(answer)
+}
