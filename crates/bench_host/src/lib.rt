@@ -9,9 +9,9 @@ ghost use Rattle.bench_host.specs.Bench.{sizes};
 use apply_columns::apply_column;
 use couple_columns::couple_column;
 use factor_columns::factor_column;
-use pair_columns::pair_column;
 use model::ColumnEnd;
 use model::Sizes;
+use pair_columns::pair_column;
 
 // The mark that a column's end gives its task.
 fn mark_after(end: ColumnEnd) -> u8

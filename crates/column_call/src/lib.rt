@@ -6,14 +6,14 @@ ghost use Rattle.model.specs.Calls.{idle};
 ghost use Rattle.model.specs.Refusal.{columnCall};
 ghost use Rattle.copies.specs.Whole.{whole};
 use column_part::column_part;
+use loading::load;
 use model::CallReply;
 use model::Sizes;
 use model::TaskRecord;
 use model::Worker;
-use loading::load;
+use storing::store;
 use task_records::looked_at;
 use task_records::past;
-use storing::store;
 
 // The task of worker w; 0 if there is no such slot.
 fn task_held(workers: [Worker; 32], w: usize) -> usize

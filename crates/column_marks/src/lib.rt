@@ -10,10 +10,10 @@ ghost use Rattle.model.specs.Calls.{idle, holding};
 ghost use Rattle.marks.specs.Marks.{Recorded};
 ghost use Rattle.records.specs.Records.{marksFrom};
 use marks::is_finished;
-use spoiling::is_spoiled;
 use model::ColumnEnd;
 use model::Sizes;
 use model::Worker;
+use spoiling::is_spoiled;
 
 // Whether task p, called for at column c, is spoiled: that is seen at its first column.
 pub fn spoiled_at(z: Sizes, records: &[[u8; 5]], p: usize, c: usize) -> bool

@@ -35,6 +35,13 @@ pub extern "C" fn solumivaf_write_result(
     ensures { λ r. ⌜ (r ≡ writeTold (writeResult tiles side (now (matrix .entry)) (now (lists .entry)) (outcomeFrom kind place) (now (text .entry)) .answer))
         × (now (text .exit) ≡ writeResult tiles side (now (matrix .entry)) (now (lists .entry)) (outcomeFrom kind place) (now (text .entry)) .left) ⌝ }
 {
-    let answer = result_written::write_result(tiles, side, matrix, lists, outcome_from(kind, place), text);
+    let answer = result_written::write_result(
+        tiles,
+        side,
+        matrix,
+        lists,
+        outcome_from(kind, place),
+        text,
+    );
     tell_written(answer)
 }

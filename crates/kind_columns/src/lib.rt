@@ -7,10 +7,10 @@ ghost use Rattle.checks.specs.Checks.{taskFrom};
 use apply_columns::apply_column;
 use couple_columns::couple_column;
 use factor_columns::factor_column;
-use pair_columns::pair_column;
 use model::ColumnEnd;
 use model::Sizes;
 use model::TaskRecord;
+use pair_columns::pair_column;
 
 // Works column c of a task that is not spoiled, and tells how it ends.
 pub fn work_column(

@@ -4,14 +4,14 @@ ghost use mathlib.Core.Path.{_≡_};
 ghost use lib.ListN.{drop};
 ghost use Rattle.model.specs.Refusal.{openCall};
 ghost use Rattle.copies.specs.Whole.{whole};
+use loading::load;
 use model::CallReply;
 use model::Sizes;
 use model::TaskRecord;
 use model::Worker;
 use open_part::open_part;
-use loading::load;
-use task_records::looked_at;
 use storing::store;
+use task_records::looked_at;
 
 // Opens a system.
 // Of the 32 worker slots the first z.workers are lent, and the others stay as they are.

@@ -2,12 +2,12 @@
 ghost use mathlib.Core.Path.{_≡_};
 ghost use Rattle.model.specs.Refusal.{outcomeCall};
 ghost use Rattle.copies.specs.Whole.{whole};
+use loading::load;
 use model::OutcomeAnswer;
 use model::Sizes;
 use model::TaskRecord;
 use model::Worker;
 use outcome_part::outcome_part;
-use loading::load;
 use task_records::looked_at;
 
 // The outcome once every task is finished, and before that the lowest unfinished task. Nothing is changed.

@@ -4,14 +4,14 @@ ghost use mathlib.Core.Path.{_≡_};
 ghost use lib.ListN.{drop};
 ghost use Rattle.model.specs.Refusal.{runCall};
 ghost use Rattle.copies.specs.Whole.{whole};
+use loading::load;
 use model::RunReply;
 use model::Sizes;
 use model::TaskRecord;
 use model::Worker;
 use run_part::run_part;
-use loading::load;
-use task_records::looked_at;
 use storing::store;
+use task_records::looked_at;
 
 // Runs a system for at most `budget` calls. The answer has the count of the calls made.
 // Of the 32 worker slots the first z.workers are lent, and the others stay as they are.

@@ -2,10 +2,10 @@
 ghost use mathlib.Core.Path.{_≡_};
 ghost use Rattle.model.specs.Refusal.{runAnswer};
 ghost use Rattle.records.specs.Records.{lent};
-use finite_numbers::all_finite;
 use checks::sizes::bad_lengths;
 use checks::sizes::bad_sizes;
 use damage::damaged;
+use finite_numbers::all_finite;
 use model::Answer;
 use model::Sizes;
 use model::Worker;

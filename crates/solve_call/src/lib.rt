@@ -2,12 +2,12 @@
 ghost use mathlib.Core.Path.{_≡_};
 ghost use Rattle.model.specs.Solve.{solveCall};
 ghost use Rattle.copies.specs.Whole.{whole};
+use loading::load;
 use model::Answer;
 use model::Sizes;
 use model::TaskRecord;
 use model::Worker;
 use solve_part::solve_part;
-use loading::load;
 use task_records::looked_at;
 
 // Solves a factored system for one right side. Only the answers are changed, and only where the call is accepted.

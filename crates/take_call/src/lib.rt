@@ -4,15 +4,15 @@ ghost use mathlib.Core.Path.{_≡_};
 ghost use lib.ListN.{drop};
 ghost use Rattle.model.specs.Refusal.{takeCall};
 ghost use Rattle.copies.specs.Whole.{whole};
+use loading::load;
 use model::CallReply;
 use model::Sizes;
 use model::TaskRecord;
 use model::Worker;
+use storing::store;
 use take_part::take_part;
-use loading::load;
 use task_records::looked_at;
 use task_records::past;
-use storing::store;
 
 // Worker w takes task p.
 // Of the 32 worker slots the first z.workers are lent, and the others stay as they are.
