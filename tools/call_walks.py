@@ -311,13 +311,13 @@ def write(call):
     s.append("use Rattle.model.specs.declared.%s.{%s}\n" % (reply, reply) + reply_mods)
     s.append("use Rattle.model.specs.%s.{%sCall}\n" % (call.get("spec", "Refusal"), name))
     s.append("use Rattle.copies.proofs.%s.{%s}\n" % (call["laws"], call["law"]))
-    s.append(callee("Rattle.task_records.proofs.looked_at", "lk") + callee("Rattle.task_records.proofs.load", "ld") + callee("Rattle·%s_part.proofs.%s_part" % (name, name), "co"))
+    s.append(callee("Rattle.task_records.proofs.looked_at", "lk") + callee("Rattle.loading.proofs.load", "ld") + callee("Rattle·%s_part.proofs.%s_part" % (name, name), "co"))
     if held:
         s.append(callee("Rattle·%s_call·proofs.proofs.task_held" % name, "th"))
     if uses_past:
         s.append(callee("Rattle.task_records.proofs.past", "pt"))
     if has_store:
-        s.append(callee("Rattle.task_records.proofs.store", "st"))
+        s.append(callee("Rattle.storing.proofs.store", "st"))
     here = "Rattle·%s_call·proofs.proofs.%s" % (name, name)
     s.append("use %s.Key.{name as #f}\nuse %s as f\nuse %s.Statement as stated\nuse %s.Code as code\n\n" % ((here,) * 4))
     s.append("abbrev stayed : Stays (f.ended .signature .params) (f.ended .kept)\nstayed = %s\n\n" % nested(stays))
@@ -830,7 +830,7 @@ def write(call):
     s.append("  goes : AllGo 𝓤 H A W %d (f.signature .params) (f.ended .kept) stayed\n  goes = %s\n\n" % (len(slices), nested(goes)))
     s.append("  meets : Meets 𝓤 H A f.signature (WpFn 𝓤 H (𝓣 .C) (𝓣 .Λ) code.function) (f.spec 𝓤 H A mem run)\n  meets = walk-meets 𝓤 H A f.ended stayed W goes (f.clauses 𝓤 H A mem run) (WpFn 𝓤 H (𝓣 .C) (𝓣 .Λ) code.function) (WpFn-mono 𝓤 H (W .laws) 𝓣 code.function) walks\n\n")
     s.append("pub %s-spec : {M : Type 1} → stated.statement M\nunfolding code.routine tablesOf\n%s-spec 𝓤 H 𝓜 𝓖 𝓡 =\n    entered 𝓤 H (tripleOf 𝓤 H (𝓖 .A) f.signature (f.spec 𝓤 H (𝓖 .A) (𝓜 .mem) (𝓡 .run)))\n    (tables 𝓤 H 𝓜 𝓡 code.env .C) (tables 𝓤 H 𝓜 𝓡 code.env .Λ) #f code.function (code.unfolded 𝓤 H 𝓜 𝓡)\n    (meets 𝓤 H (𝓖 .A) (givenOf 𝓤 H 𝓜 𝓖) (𝓜 .mem) (𝓡 .run) (tablesOf 𝓤 H 𝓜 (tables 𝓤 H 𝓜 𝓡 code.env))\n" % (name, name))
-    symbol = {"lk": "task-records·looked-at", "ld": "task-records·load", "co": "%s-part·%s-part" % (name, name), "th": "%s-call·task-held" % name, "pt": "task-records·past", "st": "task-records·store"}
+    symbol = {"lk": "task-records·looked-at", "ld": "loading·load", "co": "%s-part·%s-part" % (name, name), "th": "%s-call·task-held" % name, "pt": "task-records·past", "st": "storing·store"}
     cites = ["    (cited 𝓤 H (%s 𝓤 H (𝓖 .A) (𝓜 .mem) (𝓡 .run)) 𝓜 𝓡 code.env #%s %s-def.routine code.calls-%s (%s-thm.met 𝓤 H 𝓜 𝓖 𝓡))" % (c, n, n, symbol[n], n) for c, n in cited]
     s.append("\n".join(cites) + ")\n")
     s[1] = uses_of("".join(s[:1] + s[2:]))

@@ -71,10 +71,10 @@ use Rattle.task_records.proofs.looked_at as lk
 use Rattle.task_records.proofs.looked_at.Symbol as lk-def
 use Rattle.task_records.proofs.looked_at.Symbol.{name as #lk}
 use Rattle.task_records.proofs.looked_at.Met as lk-thm
-use Rattle.task_records.proofs.load as ld
-use Rattle.task_records.proofs.load.Symbol as ld-def
-use Rattle.task_records.proofs.load.Symbol.{name as #ld}
-use Rattle.task_records.proofs.load.Met as ld-thm
+use Rattle.loading.proofs.load as ld
+use Rattle.loading.proofs.load.Symbol as ld-def
+use Rattle.loading.proofs.load.Symbol.{name as #ld}
+use Rattle.loading.proofs.load.Met as ld-thm
 use Rattle.solve_part.proofs.solve_part as co
 use Rattle.solve_part.proofs.solve_part.Symbol as co-def
 use Rattle.solve_part.proofs.solve_part.Symbol.{name as #co}
@@ -317,5 +317,5 @@ solve-spec 𝓤 H 𝓜 𝓖 𝓡 =
     (tables 𝓤 H 𝓜 𝓡 code.env .C) (tables 𝓤 H 𝓜 𝓡 code.env .Λ) #f code.function (code.unfolded 𝓤 H 𝓜 𝓡)
     (meets 𝓤 H (𝓖 .A) (givenOf 𝓤 H 𝓜 𝓖) (𝓜 .mem) (𝓡 .run) (tablesOf 𝓤 H 𝓜 (tables 𝓤 H 𝓜 𝓡 code.env))
     (cited 𝓤 H (Look 𝓤 H (𝓖 .A) (𝓜 .mem) (𝓡 .run)) 𝓜 𝓡 code.env #lk lk-def.routine code.calls-task-records·looked-at (lk-thm.met 𝓤 H 𝓜 𝓖 𝓡))
-    (cited 𝓤 H (Load 𝓤 H (𝓖 .A) (𝓜 .mem) (𝓡 .run)) 𝓜 𝓡 code.env #ld ld-def.routine code.calls-task-records·load (ld-thm.met 𝓤 H 𝓜 𝓖 𝓡))
+    (cited 𝓤 H (Load 𝓤 H (𝓖 .A) (𝓜 .mem) (𝓡 .run)) 𝓜 𝓡 code.env #ld ld-def.routine code.calls-loading·load (ld-thm.met 𝓤 H 𝓜 𝓖 𝓡))
     (cited 𝓤 H (Core 𝓤 H (𝓖 .A) (𝓜 .mem) (𝓡 .run)) 𝓜 𝓡 code.env #co co-def.routine code.calls-solve-part·solve-part (co-thm.met 𝓤 H 𝓜 𝓖 𝓡)))
