@@ -6,11 +6,11 @@ ghost use Rattle.model.specs.Buffer.{markOf, columnEnds};
 ghost use Rattle.column_laws.specs.Workable.{Workable};
 use apply_blocks::apply_rows;
 use block_starts::start_block;
+use column_ends::ended;
 use fills::fill::fill_numbers;
 use model::ColumnEnd;
 use model::Sizes;
 use multipliers::read_column;
-use places::place::ended;
 use places::place::list_start;
 use places::place::tile_start;
 

@@ -4,16 +4,14 @@ ghost use Rattle.model.specs.Task.{T-3};
 ghost use Rattle.model.specs.Plan.{planOf};
 ghost use Rattle.model.specs.Buffer.{markOf, columnEnds};
 ghost use Rattle.column_laws.specs.Workable.{Workable};
+use column_ends::ended;
+use couple_fills::fill_coupled;
 use couple_tiles::couple_rows;
-use fills::fill::fill_entries;
-use fills::fill::fill_numbers;
 use model::ColumnEnd;
 use model::Sizes;
 use pivots::couple_pivot;
-use places::place::ended;
 use places::place::list_start;
 use places::place::tile_start;
-use upper_fills::fill_upper;
 
 // Works column c of T-3(k,i).
 pub fn couple_column(
@@ -44,8 +42,6 @@ pub fn couple_column(
     if couple_rows(matrix, t, u, d, c, e) {
         return ended(t, c);
     }
-    fill_numbers(matrix, d, t * t);
-    fill_upper(matrix, u, t);
-    fill_entries(lists, p, t);
+    fill_coupled(matrix, lists, t, u, d, p);
     ColumnEnd::Failed
 }

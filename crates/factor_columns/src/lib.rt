@@ -4,13 +4,13 @@ ghost use Rattle.model.specs.Task.{T-1};
 ghost use Rattle.model.specs.Plan.{planOf};
 ghost use Rattle.model.specs.Buffer.{markOf, columnEnds};
 ghost use Rattle.column_laws.specs.Workable.{Workable};
+use column_ends::ended;
 use factor_tiles::factor_rows;
 use fills::fill::fill_entries;
 use fills::fill::fill_numbers;
 use model::ColumnEnd;
 use model::Sizes;
 use pivots::factor_pivot;
-use places::place::ended;
 use places::place::list_start;
 use places::place::tile_start;
 

@@ -1,2 +1,2 @@
-// Where tiles and row lists stand in the lent slices, and how a column ends.
+// Where tiles and row lists stand in the lent slices, and a list entry as an index.
 pub mod place;

@@ -1,12 +1,7 @@
-// Where tiles and row lists stand in the lent slices, and how a column ends.
+// Where tiles and row lists stand in the lent slices.
 ghost use mathlib.Core.Path.{_≡_};
-ghost use mathlib.Core.Bool.{cond};
-ghost use Prim.Native.Nat.{suc, _<_, _≤_};
-ghost use lib.Dec.{eqb};
-ghost use Rattle.model.specs.Buffer.{markOf};
-ghost use Rattle.model.specs.Links.{taken, done};
+ghost use Prim.Native.Nat.{_<_, _≤_};
 ghost use Rattle.column_laws.specs.Steps.{tileStart, listStart};
-use model::ColumnEnd;
 
 // Where tile (i,j) starts in the matrix.
 pub fn tile_start(n: usize, t: usize, i: usize, j: usize) -> usize
@@ -22,18 +17,6 @@ pub fn list_start(n: usize, t: usize, i: usize, j: usize) -> usize
     ensures { λ r. ⌜ r ≡ listStart n t i j ⌝ }
 {
     (i * n + j) * t
-}
-
-// How column c of a task that did not fail ends: the task is done after column t - 1.
-pub fn ended(t: usize, c: usize) -> ColumnEnd
-    requires { ⌜ c < t ⌝ }
-    ensures { λ r. ⌜ markOf r ≡ cond (eqb (suc c) t) done taken ⌝ }
-{
-    if c + 1 == t {
-        ColumnEnd::Done
-    } else {
-        ColumnEnd::GoesOn
-    }
 }
 
 // A list entry as an index.

@@ -112,35 +112,30 @@ returns-2 c =
     couple-ends (a .z .tiles) (a .z .side) (a .k) (a .i) (a .c) _ _ _ u d p (r .column) (now (a .matrix)) (now (a .lists)) _ (rw p (r .list-room)) (c .before .before .before .before .before .before .before .couple-pivot .result) (c .before .before .before .before .before .before .before .couple-pivot .ensures) _
     (rw u (r .upper-room)) (rw d (r .lower-room)) (rw (u, d) (r .apart)) (nonzero (c .before .before .before .before .before .before)) refl refl _ _ (c .before .before .before .before .couple-rows .ensures) _ (c .before .if2 .taken) (c .ended2 .ensures)
 
-mul-fill-numbers : tie.Need-mul-fill-numbers
-mul-fill-numbers c = omega (arith, couple-ready (c .before .before .before .before .before .before .before .before .before .before .before .before .before .before .pre) .square)
-
-fill-numbers-requires : tie.Need-fill-numbers-requires
-fill-numbers-requires c κs = omega (arith, couple-ready (c .before .before .before .before .before .before .before .before .before .before .before .before .before .before .pre) .lower-room, c .before .before .before .before .before .before .before .before .before .before .tile-start2 .ensures, c .before .before .before .before .couple-rows .kept .0)
-
-fill-upper-requires : tie.Need-fill-upper-requires
-fill-upper-requires c κs =
-    let r = couple-ready (c .before .before .before .before .before .before .before .before .before .before .before .before .before .before .before .before .before .before .pre) in
-    (r .side-most, omega (arith, r .upper-room, c .before .before .before .before .before .before .before .before .before .before .before .before .before .before .before .tile-start .ensures, c .before .before .before .before .before .before .before .before .couple-rows .kept .0, c .before .before .before .fill-numbers .kept .0))
-
-fill-entries-requires : tie.Need-fill-entries-requires
-fill-entries-requires c κs = simp length-set (omega (arith, couple-ready (c .before .before .before .before .before .before .before .before .before .before .before .before .before .before .before .before .before .before .before .before .before .before .pre) .list-room, c .before .before .before .before .before .before .before .before .before .before .before .before .before .before .before .before .before .list-start .ensures))
+fill-coupled-requires : tie.Need-fill-coupled-requires
+fill-coupled-requires c κs =
+    let r = couple-ready (c .before .before .before .before .before .before .before .before .before .before .before .before .before .before .before .pre) in
+    let u = c .before .before .before .before .before .before .before .before .before .before .before .before .tile-start .ensures in
+    let d = c .before .before .before .before .before .before .before .before .before .before .before .tile-start2 .ensures in
+    let p = c .before .before .before .before .before .before .before .before .before .before .list-start .ensures in
+    let long = c .before .before .before .before .before .couple-rows .kept .0 in
+    (r .side-most, omega (arith, r .upper-room, u, long), omega (arith, r .lower-room, d, long), simp length-set (omega (arith, r .list-room, p)))
 
 same-length-5 : tie.Need-same-length-5
-same-length-5 c = c .before .before .before .before .before .before .fill-upper .kept .0 ∙ c .before .before .before .before .before .before .before .before .before .before .fill-numbers .kept .0 ∙ c .before .before .before .before .before .before .before .before .before .before .before .before .before .before .before .couple-rows .kept .0
+same-length-5 c = c .before .before .before .before .fill-coupled .kept .0 ∙ c .before .before .before .before .before .before .before .before .before .before .couple-rows .kept .0
 
 same-length-6 : tie.Need-same-length-6
-same-length-6 c = c .before .before .fill-entries .kept .0 ∙ simp length-set
+same-length-6 c = c .before .before .before .before .fill-coupled .kept .1 .0 ∙ simp length-set
 
 returns-3 : tie.Need-returns-3
 returns-3 c =
-    let a = c .before .before .before .before .before .before .before .before .before .before .before .before .before .before .before .before .before .before .before .before .before .before .before .before .before .args in
-    let r = couple-ready (c .before .before .before .before .before .before .before .before .before .before .before .before .before .before .before .before .before .before .before .before .before .before .before .before .before .pre) in
-    let u = c .before .before .before .before .before .before .before .before .before .before .before .before .before .before .before .before .before .before .before .before .before .before .tile-start .ensures in
-    let d = c .before .before .before .before .before .before .before .before .before .before .before .before .before .before .before .before .before .before .before .before .before .tile-start2 .ensures in
-    let p = c .before .before .before .before .before .before .before .before .before .before .before .before .before .before .before .before .before .before .before .before .list-start .ensures in
-    couple-fails (a .z .tiles) (a .z .side) (a .k) (a .i) (a .c) _ _ _ u d p (r .column) (now (a .matrix)) (now (a .lists)) _ (rw p (r .list-room)) (c .before .before .before .before .before .before .before .before .before .before .before .before .before .before .before .before .before .before .couple-pivot .result) (c .before .before .before .before .before .before .before .before .before .before .before .before .before .before .before .before .before .before .couple-pivot .ensures) _
-    (rw u (r .upper-room)) (rw d (r .lower-room)) (rw (u, d) (r .apart)) (nonzero (c .before .before .before .before .before .before .before .before .before .before .before .before .before .before .before .before .before)) refl refl _ _ (c .before .before .before .before .before .before .before .before .before .before .before .before .before .before .before .couple-rows .ensures) _ _ _ (c .before .before .before .before .before .before .before .before .before .before .before .before .if2 .left) (c .before .before .before .before .before .before .before .before .before .before .fill-numbers .ensures) (c .before .before .before .before .before .before .fill-upper .ensures) (c .before .before .fill-entries .ensures)
+    let a = c .before .before .before .before .before .before .before .before .before .before .before .before .before .before .before .before .before .before .before .before .args in
+    let r = couple-ready (c .before .before .before .before .before .before .before .before .before .before .before .before .before .before .before .before .before .before .before .before .pre) in
+    let u = c .before .before .before .before .before .before .before .before .before .before .before .before .before .before .before .before .before .tile-start .ensures in
+    let d = c .before .before .before .before .before .before .before .before .before .before .before .before .before .before .before .before .tile-start2 .ensures in
+    let p = c .before .before .before .before .before .before .before .before .before .before .before .before .before .before .before .list-start .ensures in
+    couple-fails (a .z .tiles) (a .z .side) (a .k) (a .i) (a .c) _ _ _ u d p (r .column) (now (a .matrix)) (now (a .lists)) _ (rw p (r .list-room)) (c .before .before .before .before .before .before .before .before .before .before .before .before .before .couple-pivot .result) (c .before .before .before .before .before .before .before .before .before .before .before .before .before .couple-pivot .ensures) _
+    (rw u (r .upper-room)) (rw d (r .lower-room)) (rw (u, d) (r .apart)) (nonzero (c .before .before .before .before .before .before .before .before .before .before .before .before)) refl refl _ _ (c .before .before .before .before .before .before .before .before .before .before .couple-rows .ensures) _ _ _ (c .before .before .before .before .before .before .before .if2 .left) refl (c .before .before .before .before .fill-coupled .ensures .0) (c .before .before .before .before .fill-coupled .ensures .1)
 
 pub couple-column-spec : {M : Type 1} → statement M
 couple-column-spec =
@@ -164,10 +159,7 @@ couple-column-spec =
     same-length-3
     same-length-4
     returns-2
-    mul-fill-numbers
-    fill-numbers-requires
-    fill-upper-requires
-    fill-entries-requires
+    fill-coupled-requires
     same-length-5
     same-length-6
     returns-3)

@@ -1,11 +1,11 @@
--- `place::ended` meets its contract: the two ways through its test. Assumes nothing.
+-- `ended` meets its contract: the two ways through its test. Assumes nothing.
 use borrow.Author.Needs.{needs}
 use Prim.Native.Nat.{suc}
 use mathlib.Core.Path.{_≡_}
 use native.Mathlib.Omega.{arith}
 use borrow.Author.Tests.{eq-eqb, ne-eqb}
-use Rattle.places.proofs.place.ended.Statement.{statement}
-use Rattle.places.proofs.place.ended.Tie as tie
+use Rattle.column_ends.proofs.ended.Statement.{statement}
+use Rattle.column_ends.proofs.ended.Tie as tie
 
 add-if1 : tie.Need-add-if1
 add-if1 c = search needs
