@@ -6,7 +6,7 @@ ghost use Rattle.model.specs.Calls.{advanced};
 ghost use Rattle.records.specs.Records.{lent};
 ghost use Rattle.task_columns.specs.Due.{ColumnDue};
 ghost use Rattle.advancing.specs.Advancing.{Advanced, Working};
-use marks::moved_on;
+use column_marks::moved_on;
 use model::Sizes;
 use model::Worker;
 use records::set_mark;

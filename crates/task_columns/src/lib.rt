@@ -8,8 +8,8 @@ ghost use Rattle.records.specs.Records.{lent};
 ghost use Rattle.task_columns.specs.Due.{ColumnDue};
 use filling::fill_task;
 use kind_columns::work_column;
-use marks::mark_after;
-use marks::spoiled_at;
+use column_marks::mark_after;
+use column_marks::spoiled_at;
 use model::Sizes;
 use records::record_at;
 

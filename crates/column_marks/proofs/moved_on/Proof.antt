@@ -1,9 +1,9 @@
 -- A finished task frees its worker. Assumes nothing.
 use mathlib.Core.Path.{sym, _∙_}
 use borrow.Author.Needs.{needs}
-use Rattle.marks.proofs.Laws.{freed, goes-on}
-use Rattle.marks.proofs.moved_on.Statement.{statement}
-use Rattle.marks.proofs.moved_on.Tie as tie
+use Rattle.column_marks.proofs.Laws.{freed, goes-on}
+use Rattle.column_marks.proofs.moved_on.Statement.{statement}
+use Rattle.column_marks.proofs.moved_on.Tie as tie
 
 is-finished-requires : tie.Need-is-finished-requires
 is-finished-requires c κs = search needs

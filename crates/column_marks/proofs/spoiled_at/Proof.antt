@@ -1,9 +1,9 @@
 -- Only the first column is spoiled. Assumes nothing.
 use mathlib.Core.Path.{_∙_}
 use borrow.Author.Needs.{needs}
-use Rattle.marks.proofs.Laws.{later-column, first-column}
-use Rattle.marks.proofs.spoiled_at.Statement.{statement}
-use Rattle.marks.proofs.spoiled_at.Tie as tie
+use Rattle.column_marks.proofs.Laws.{later-column, first-column}
+use Rattle.column_marks.proofs.spoiled_at.Statement.{statement}
+use Rattle.column_marks.proofs.spoiled_at.Tie as tie
 
 returns : tie.Need-returns
 returns c = later-column _ _ (c .if1 .taken)
