@@ -19,9 +19,9 @@ use Rattle.model.specs.Task.{tasks}
 use Rattle.model.specs.Plan.{plan, planOf}
 use Rattle.model.specs.Links.{task, mark, finished, ready}
 use Rattle.model.specs.Buffer.{Ended, finiteTiles}
-use Rattle.model.specs.Calls.{Lent, RunEnd, marksOf, withMark, marked, worker, idle, holding, took as took-it, advanced, allFinished, runFrom}
+use Rattle.model.specs.Calls.{Lent, RunEnd, marksOf, withMark, marked, worker, idle, holding, took, advanced, allFinished, runFrom}
 use Rattle.model.specs.Refusal.{damaged, badTiles, runAnswer}
-use Rattle.laws.proofs.Refusals.{passed as refusal-passed}
+use Rattle.laws.proofs.Refusals.{passed}
 use Rattle.laws.proofs.Tests.{never, or-false}
 use Rattle.run_laws.proofs.Pointer.{NoneReady, none-after, none-after-take, none-kept}
 use Rattle.run_laws.proofs.Undamaged.{and-true-not}
@@ -41,8 +41,6 @@ use Rattle.next.specs.Next.{Passed, LowestReady, NextBusy, busy-after, all-idle
 use Rattle.task_columns.specs.Due.{ColumnDue}
 use Rattle.advancing.specs.Advancing.{Advanced}
 use Rattle.advancing.proofs.Laws.{due, state-after}
-use Rattle.one_turn.specs.declared.Turned.{Turned}
-use Rattle.one_turn.specs.Turn.{TurnDue, TurnEnds, worked, took, passed}
 use Rattle.turns_from.specs.Underway.{Underway}
 use Rattle.next.proofs.Rounds.{round}
 use Rattle.next.proofs.Steps.{takes, works, passes, over, finishes, ends}
@@ -116,9 +114,9 @@ module _ {z : Sizes} {budget : ℕ} {all : RunEnd} {ws₀ : List Worker} {m : Li
   fine : damaged (planOf z) s ≡ false
   unfolding runAnswer
   fine =
-      let a = refusal-passed 1 0 _ _ (run-accepted z s (g .whole)) in
-      let b = refusal-passed 2 0 _ _ (a .1) in
-      or-false _ _ (refusal-passed 4 0 _ _ (b .1) .0) .0
+      let a = passed 1 0 _ _ (run-accepted z s (g .whole)) in
+      let b = passed 2 0 _ _ (a .1) in
+      or-false _ _ (passed 4 0 _ _ (b .1) .0) .0
 
   -- worker w, as the slots have it
   here : worker s w ≡ getD ws w idle
@@ -148,11 +146,11 @@ module _ {z : Sizes} {budget : ℕ} {all : RunEnd} {ws₀ : List Worker} {m : Li
 
     pub take-goes : p < length r → n < budget → (h : Worker) → h ≡ holding p 0 → (r' : List (List ℕ)) → recordsFrom r' ≡ marked p 1 (recordsFrom r)
         → length r' ≡ length r → (u : ℕ) → u ≡ suc w % W → Going z budget all ws₀ m l r' (set ws w h) (n + 1) u (p + 1)
-    unfolding lent took-it
+    unfolding lent took
     take-goes hp hn h e r' q k u f =
         let c : p < count z = subst (λ (x : ℕ). p < x) (records-long z m l r ws (g .whole)) hp in
         let rd : ready (tasks (z .tiles)) (marksOf s) p ≡ true = ap (λ (ms : List ℕ). ready (tasks (z .tiles)) ms p) (marks-lent m l r ws W) ∙ low .found hp in
-        let t : lent m l r' (set ws w h) W ≡ took-it (planOf z) w p s =
+        let t : lent m l r' (set ws w h) W ≡ took (planOf z) w p s =
         (λ i. record { buffers = record { matrix = m; lists = l }; records = q i; workers = (stored h ∙ ap (set (take W ws) w) e) i }) in
         let o : suc p ≡ p + 1 = omega arith in
         record {
@@ -296,36 +294,6 @@ module _ {z : Sizes} {budget : ℕ} {all : RunEnd} {ws₀ : List Worker} {m : Li
             left-to-do = onward z budget n w u (suc w % W) s _ _ _ hn advanced-is q (λ b. works z s (g .whole) b n w (g .turn-of) busy-now) (g .left-to-do);
             others = drop-set-lt W ws w k (g .turn-of) ∙ g .others;
           }
-
-  -- ---- a turn
-
-  pub turn-due : TurnDue z (getD ws w idle) from m l r
-  turn-due = record { column = λ b. column-due b; searched = searched; few-records = few-records }
-
-  module _ {m' : List Float} {l' : List ℕ} {r' : List (List ℕ)} {t : Turned} where
-    pub turn-goes : TurnEnds z (getD ws w idle) from m l r m' l' r' t → t .called ≡ true → n < budget → (u : ℕ) → u ≡ suc w % W
-        → Going z budget all ws₀ m' l' r' (set ws w (t .worker)) (n + 1) u (t .from)
-    turn-goes (worked c b o f) d hn u q = work-goes b o hn (t .from) f u q
-    turn-goes (took c b p low hp f h em el er k) d hn u q = rw (em, el, f) (take-goes p low b hp hn (t .worker) h r' er k u q)
-    turn-goes (passed c b low none em el er) d hn u q = never d c
-
-    -- there was nothing to do for an idle worker
-    pub turn-passed : TurnEnds z (getD ws w idle) from m l r m' l' r' t → t .called ≡ false
-        → Going z budget all ws₀ m' l' r' ws n w (t .from) × LowestReady (z .tiles) r' (t .from) × (getD ws w idle .busy ≡ false) × (length r' ≤ t .from)
-    turn-passed (worked c b o f) d = never c d
-    turn-passed (took c b p low hp f h em el er k) d = never c d
-    turn-passed (passed c b low none em el er) d =
-        rw (em, el, er)
-        (record {
-          whole = g .whole;
-          none = low .none;
-          reached = low .within;
-          slots = g .slots;
-          turn-of = g .turn-of;
-          within = g .within;
-          left-to-do = g .left-to-do;
-          others = g .others;
-        }, low, b, none)
 
   -- ---- the budget is spent
 

@@ -6,14 +6,17 @@ ghost use Rattle.model.specs.Plan.{planOf};
 ghost use Rattle.model.specs.Calls.{runFrom};
 ghost use Rattle.records.specs.Records.{lent};
 ghost use Rattle.turns_from.specs.Underway.{Underway};
+use advancing::advance;
 use model::RunAnswer;
 use model::RunReply;
 use model::Sizes;
 use model::Worker;
 use next::after;
 use next::answer_after;
+use next::lowest_ready;
 use next::next_busy;
-use one_turn::one_turn;
+use next::search_from;
+use next::take_task;
 
 // Workers take turns until every task is finished or the budget is spent, once `made` calls are made and the turn is worker `turn`'s. Below `low`,
 // and then below `from`, no task is ready, so a search begins there.
@@ -40,11 +43,23 @@ pub fn turns_from(
     let mut w = turn;
     let mut from = low;
     while n < budget {
-        let t = one_turn(z, matrix, lists, records, left[w], from);
-        from = t.from;
-        if t.called {
-            let g = t.worker;
-            left[w] = g;
+        let h = left[w];
+        if h.busy {
+            let g = advance(z, matrix, lists, records, h);
+            left[w] = Worker {
+                busy: g.busy,
+                task: g.task,
+                column: g.column,
+            };
+            from = search_from(from, g.busy, h.task as usize);
+            n += 1;
+            w = after(z.workers, w);
+            continue;
+        }
+        from = lowest_ready(z.tiles, records, from);
+        if from < records.len() {
+            left[w] = take_task(records, from, h);
+            from += 1;
             n += 1;
             w = after(z.workers, w);
             continue;

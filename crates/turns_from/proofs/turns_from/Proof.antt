@@ -6,7 +6,7 @@ use borrow.Author.Needs.{needs}
 use Rattle.model.specs.Plan.{planOf}
 use Rattle.model.specs.Calls.{runFrom}
 use Rattle.records.specs.Records.{lent}
-use Rattle.turns_from.proofs.Going.{Going, starts, sizes, turn-due, turn-goes, turn-passed, pass-goes, pass-busy, run-over, run-ends, matrix-kept, lists-kept, records-kept, turnsLeft, call-less, pass-less}
+use Rattle.turns_from.proofs.Going.{Going, starts, sizes, few-records, searched, take-goes, pass-goes, pass-busy, run-over, column-due, work-goes, run-ends, matrix-kept, lists-kept, records-kept, turnsLeft, call-less, pass-less}
 use Rattle.turns_from.proofs.turns_from.Statement.{statement}
 use Rattle.turns_from.proofs.turns_from.Tie as tie
 
@@ -20,63 +20,102 @@ abbrev μ-loop : tie.MeasureT-loop
 loop-holds : tie.Need-loop-holds Inv-loop μ-loop
 loop-holds c = starts _ _ _ _ _ (c .before .before .args .workers) _ _ _ (search needs) (c .before .before .pre)
 
-mul-one-turn : tie.Need-mul-one-turn Inv-loop μ-loop
-mul-one-turn c = let i = c .before .before .before .before .loop .inv in omega (arith, i .turn-of, sizes i .few-workers)
+mul-h : tie.Need-mul-h Inv-loop μ-loop
+mul-h c = let i = c .before .loop .inv in omega (arith, i .turn-of, sizes i .few-workers)
 
-array-copy-out-one-turn : tie.Need-array-copy-out-one-turn Inv-loop μ-loop
-array-copy-out-one-turn c = let i = c .before .before .before .before .loop .inv in omega (arith, i .turn-of, sizes i .few-workers)
+array-copy-out-h : tie.Need-array-copy-out-h Inv-loop μ-loop
+array-copy-out-h c = let i = c .before .loop .inv in omega (arith, i .turn-of, sizes i .few-workers)
 
-one-turn-requires : tie.Need-one-turn-requires Inv-loop μ-loop
-one-turn-requires c κs = turn-due (c .before .before .before .before .before .loop .inv)
+-- ---- a column
 
--- ---- a call is made
+advance-requires : tie.Need-advance-requires Inv-loop μ-loop
+advance-requires c κs = column-due (c .before .before .before .before .before .before .loop .inv) (c .before .before .before .if1 .taken)
 
 mul-left : tie.Need-mul-left Inv-loop μ-loop
-mul-left c = let i = c .before .before .before .before .before .before .before .before .before .before .before .before .before .loop .inv in omega (arith, i .turn-of, sizes i .few-workers)
+mul-left c = let i = c .before .before .before .before .before .before .before .before .before .before .before .before .loop .inv in omega (arith, i .turn-of, sizes i .few-workers)
 
 array-set-from-left : tie.Need-array-set-from-left Inv-loop μ-loop
-array-set-from-left c = let i = c .before .before .before .before .before .before .before .before .before .before .before .before .before .loop .inv in omega (arith, i .turn-of, sizes i .few-workers)
+array-set-from-left c = let i = c .before .before .before .before .before .before .before .before .before .before .before .before .loop .inv in omega (arith, i .turn-of, sizes i .few-workers)
+
+cast-search-from : tie.Need-cast-search-from Inv-loop μ-loop
+cast-search-from c = search needs
+
+search-from-requires : tie.Need-search-from-requires Inv-loop μ-loop
+search-from-requires c κs = search needs
 
 add-n : tie.Need-add-n Inv-loop μ-loop
 add-n c = omega arith
 
 after-requires : tie.Need-after-requires Inv-loop μ-loop
-after-requires c κs = c .before .before .before .before .before .before .before .before .before .before .before .before .before .loop .inv .turn-of
+after-requires c κs = c .before .before .before .before .before .before .before .before .before .before .before .before .before .before .loop .inv .turn-of
 
 loop-less : tie.Need-loop-less Inv-loop μ-loop
 loop-less c = call-less _ _ _ _ _ _ (omega arith)
 
 loop-again : tie.Need-loop-again Inv-loop μ-loop
-loop-again c = turn-goes (c .before .before .before .before .before .before .before .before .before .before .before .before .before .before .loop .inv) (c .before .before .before .before .before .before .before .before .one-turn .ensures) (c .before .before .if1 .taken) (omega arith) _ (c .after .ensures)
+loop-again c =
+    work-goes (c .before .before .before .before .before .before .before .before .before .before .before .before .before .before .before .loop .inv) (c .before .before .before .before .before .before .before .before .before .before .before .before .if1 .taken) (c .before .before .before .before .before .before .before .before .advance .ensures) (omega arith)
+    _ (c .before .search-from .ensures) _ (c .after .ensures)
 
--- ---- the turn passes
+-- ---- a take
 
-next-busy-requires : tie.Need-next-busy-requires Inv-loop μ-loop
-next-busy-requires c κs = let i = c .before .before .before .before .before .before .before .before .before .before .before .before .loop .inv in (sizes i .few-workers, i .turn-of)
+lowest-ready-requires : tie.Need-lowest-ready-requires Inv-loop μ-loop
+lowest-ready-requires c κs = searched (c .before .before .before .before .loop .inv)
 
-same-length : tie.Need-same-length Inv-loop μ-loop
-same-length c = matrix-kept _ _ _ (c .before .before .before .before .before .before .before .before .before .before .before .before .before .before .before .before .before .before .args .workers) (c .before .before .before .before .before .before .before .before .before .before .before .before .before .before .before .before .before .before .pre .accepted) (turn-passed (c .before .before .before .before .before .before .before .before .before .before .before .before .before .before .before .loop .inv) (c .before .before .before .before .before .before .before .before .before .one-turn .ensures) (c .before .before .before .if1 .left) .0)
+take-task-requires : tie.Need-take-task-requires Inv-loop μ-loop
+take-task-requires c κs = (omega arith, omega (arith, few-records (c .before .before .before .before .before .before .before .loop .inv)))
 
-same-length-2 : tie.Need-same-length-2 Inv-loop μ-loop
-same-length-2 c = lists-kept _ _ _ (c .before .before .before .before .before .before .before .before .before .before .before .before .before .before .before .before .before .before .args .workers) (c .before .before .before .before .before .before .before .before .before .before .before .before .before .before .before .before .before .before .pre .accepted) (turn-passed (c .before .before .before .before .before .before .before .before .before .before .before .before .before .before .before .loop .inv) (c .before .before .before .before .before .before .before .before .before .one-turn .ensures) (c .before .before .before .if1 .left) .0)
+mul-left-2 : tie.Need-mul-left-2 Inv-loop μ-loop
+mul-left-2 c = let i = c .before .before .before .before .before .before .before .before .before .loop .inv in omega (arith, i .turn-of, sizes i .few-workers)
 
-same-length-3 : tie.Need-same-length-3 Inv-loop μ-loop
-same-length-3 c = records-kept _ _ _ (c .before .before .before .before .before .before .before .before .before .before .before .before .before .before .before .before .before .before .args .workers) (c .before .before .before .before .before .before .before .before .before .before .before .before .before .before .before .before .before .before .pre .accepted) (turn-passed (c .before .before .before .before .before .before .before .before .before .before .before .before .before .before .before .loop .inv) (c .before .before .before .before .before .before .before .before .before .one-turn .ensures) (c .before .before .before .if1 .left) .0)
+array-set-from-left-2 : tie.Need-array-set-from-left-2 Inv-loop μ-loop
+array-set-from-left-2 c = let i = c .before .before .before .before .before .before .before .before .before .loop .inv in omega (arith, i .turn-of, sizes i .few-workers)
 
-returns : tie.Need-returns Inv-loop μ-loop
-returns c =
-    let (i, low, idle, none) = turn-passed (c .before .before .before .before .before .before .before .before .before .before .before .before .before .before .before .loop .inv) (c .before .before .before .before .before .before .before .before .before .one-turn .ensures) (c .before .before .before .if1 .left) in
-    (run-over i _ low idle none _ (c .before .before .next-busy .ensures) (omega arith), i .others)
+add-from : tie.Need-add-from Inv-loop μ-loop
+add-from c = omega (arith, few-records (c .before .before .before .before .before .before .before .before .before .loop .inv))
+
+add-n-2 : tie.Need-add-n-2 Inv-loop μ-loop
+add-n-2 c = omega arith
+
+after-requires-2 : tie.Need-after-requires-2 Inv-loop μ-loop
+after-requires-2 c κs = c .before .before .before .before .before .before .before .before .before .loop .inv .turn-of
 
 loop-less-2 : tie.Need-loop-less-2 Inv-loop μ-loop
-loop-less-2 c =
-    let (i, low, idle, none) = turn-passed (c .before .before .before .before .before .before .before .before .before .before .before .before .before .before .before .loop .inv) (c .before .before .before .before .before .before .before .before .before .one-turn .ensures) (c .before .before .before .if1 .left) in
-    pass-less _ _ _ _ _ idle (pass-busy i _ low idle none _ (c .before .before .next-busy .ensures) (λ e. omega arith))
+loop-less-2 c = call-less _ _ _ _ _ _ (omega arith)
 
 loop-again-2 : tie.Need-loop-again-2 Inv-loop μ-loop
 loop-again-2 c =
-    let (i, low, idle, none) = turn-passed (c .before .before .before .before .before .before .before .before .before .before .before .before .before .before .before .loop .inv) (c .before .before .before .before .before .before .before .before .before .one-turn .ensures) (c .before .before .before .if1 .left) in
-    pass-goes i _ low idle none _ (c .before .before .next-busy .ensures) (λ e. omega arith)
+    let t = c .before .before .take-task .ensures in
+    take-goes (c .before .before .before .before .before .before .before .before .before .before .loop .inv) _ (c .before .before .before .before .before .lowest-ready .ensures) (c .before .before .before .before .before .before .before .if1 .left) (omega arith) (omega arith)
+    _ (t .0) _ (t .1 .0) (t .1 .1) _ (c .after2 .ensures)
+
+-- ---- neither
+
+next-busy-requires : tie.Need-next-busy-requires Inv-loop μ-loop
+next-busy-requires c κs = let i = c .before .before .before .before .before .before .loop .inv in (sizes i .few-workers, i .turn-of)
+
+same-length : tie.Need-same-length Inv-loop μ-loop
+same-length c = matrix-kept _ _ _ (c .before .before .before .before .before .before .before .before .before .before .before .before .args .workers) (c .before .before .before .before .before .before .before .before .before .before .before .before .pre .accepted) (c .before .before .before .before .before .before .before .before .before .loop .inv)
+
+same-length-2 : tie.Need-same-length-2 Inv-loop μ-loop
+same-length-2 c = lists-kept _ _ _ (c .before .before .before .before .before .before .before .before .before .before .before .before .args .workers) (c .before .before .before .before .before .before .before .before .before .before .before .before .pre .accepted) (c .before .before .before .before .before .before .before .before .before .loop .inv)
+
+same-length-3 : tie.Need-same-length-3 Inv-loop μ-loop
+same-length-3 c = records-kept _ _ _ (c .before .before .before .before .before .before .before .before .before .before .before .before .args .workers) (c .before .before .before .before .before .before .before .before .before .before .before .before .pre .accepted) (c .before .before .before .before .before .before .before .before .before .loop .inv)
+
+returns : tie.Need-returns Inv-loop μ-loop
+returns c =
+    let i = c .before .before .before .before .before .before .before .before .before .loop .inv in
+    (run-over i _ (c .before .before .before .before .lowest-ready .ensures) (c .before .before .before .before .before .before .if1 .left) (omega arith) _ (c .before .before .next-busy .ensures) (omega arith), i .others)
+
+loop-less-3 : tie.Need-loop-less-3 Inv-loop μ-loop
+loop-less-3 c =
+    pass-less _ _ _ _ _ (c .before .before .before .before .before .before .if1 .left)
+    (pass-busy (c .before .before .before .before .before .before .before .before .before .loop .inv) _ (c .before .before .before .before .lowest-ready .ensures) (c .before .before .before .before .before .before .if1 .left) (omega arith) _ (c .before .before .next-busy .ensures) (λ e. omega arith))
+
+loop-again-3 : tie.Need-loop-again-3 Inv-loop μ-loop
+loop-again-3 c =
+    pass-goes (c .before .before .before .before .before .before .before .before .before .loop .inv) _ (c .before .before .before .before .lowest-ready .ensures) (c .before .before .before .before .before .before .if1 .left) (omega arith) _ (c .before .before .next-busy .ensures) (λ e. omega arith)
 
 -- ---- the budget is spent
 
@@ -102,22 +141,33 @@ turns-from-spec =
     Inv-loop
     μ-loop
     loop-holds
-    mul-one-turn
-    array-copy-out-one-turn
-    one-turn-requires
+    mul-h
+    array-copy-out-h
+    advance-requires
     mul-left
     array-set-from-left
+    cast-search-from
+    search-from-requires
     add-n
     after-requires
     loop-less
     loop-again
+    lowest-ready-requires
+    take-task-requires
+    mul-left-2
+    array-set-from-left-2
+    add-from
+    add-n-2
+    after-requires-2
+    loop-less-2
+    loop-again-2
     next-busy-requires
     same-length
     same-length-2
     same-length-3
     returns
-    loop-less-2
-    loop-again-2
+    loop-less-3
+    loop-again-3
     answer-after-requires
     same-length-4
     same-length-5
