@@ -6,10 +6,10 @@ ghost use Rattle.model.specs.Plan.{planOf};
 ghost use Rattle.model.specs.Calls.{columnOf};
 ghost use Rattle.records.specs.Records.{lent};
 ghost use Rattle.task_columns.specs.Due.{ColumnDue};
-use filling::fill_task;
-use kind_columns::work_column;
 use column_marks::mark_after;
 use column_marks::spoiled_at;
+use filling::fill_task;
+use kind_columns::work_column;
 use model::Sizes;
 use records::record_at;
 
