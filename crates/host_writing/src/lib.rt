@@ -5,6 +5,8 @@ ghost use Rattle.host_answers.specs.Answers.{writeTold, outcomeFrom};
 use host_answers::Told;
 use host_answers::outcome_from;
 use host_answers::tell_written;
+use result_written::write_result;
+use system_written::write_system;
 
 // Writes a system file into the front of the lent text; the count is its length.
 #[no_mangle]
@@ -17,7 +19,7 @@ pub extern "C" fn solumivaf_write_system(
     ensures { λ r. ⌜ (r ≡ writeTold (writeSystem tiles side (now (matrix .entry)) (now (text .entry)) .answer))
         × (now (text .exit) ≡ writeSystem tiles side (now (matrix .entry)) (now (text .entry)) .left) ⌝ }
 {
-    let answer = system_written::write_system(tiles, side, matrix, text);
+    let answer = write_system(tiles, side, matrix, text);
     tell_written(answer)
 }
 
@@ -35,13 +37,6 @@ pub extern "C" fn solumivaf_write_result(
     ensures { λ r. ⌜ (r ≡ writeTold (writeResult tiles side (now (matrix .entry)) (now (lists .entry)) (outcomeFrom kind place) (now (text .entry)) .answer))
         × (now (text .exit) ≡ writeResult tiles side (now (matrix .entry)) (now (lists .entry)) (outcomeFrom kind place) (now (text .entry)) .left) ⌝ }
 {
-    let answer = result_written::write_result(
-        tiles,
-        side,
-        matrix,
-        lists,
-        outcome_from(kind, place),
-        text,
-    );
+    let answer = write_result(tiles, side, matrix, lists, outcome_from(kind, place), text);
     tell_written(answer)
 }
