@@ -17,8 +17,8 @@ use Rattle.model.specs.Calls.{Lent, marksOf, idle, worker}
 use Rattle.model.specs.Refusal.{badSizes, noWorker, badLengths, badRecord, badHold, badWorker, badEntry, damaged, takeAnswer, columnAnswer, runAnswer}
 use Rattle.laws.proofs.Refusals.{passed}
 use Rattle.laws.proofs.Tests.{never, false-if, or-false, false-or, fails-below}
-use Rattle.demand.proofs.Members.{some-elim, none-below, member-index, index-member}
-use Rattle.demand.proofs.Machine.{count, Stated}
+use Rattle.cells.proofs.Members.{some-elim, none-below, member-index, index-member}
+use Rattle.cells.proofs.Machine.{count, Stated}
 use Rattle.demand.proofs.Whole.{Whole, tiles-finite}
 use Rattle.demand.proofs.Checks.{passes, fails, lengths, good-lengths, recorded, good-record, one-holder, good-hold, at-work, good-worker}
 use Rattle.demand.proofs.Limits.{in-limits, good-entry, finite-matrix, good-tiles}

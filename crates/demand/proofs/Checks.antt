@@ -20,9 +20,9 @@ use Rattle.model.specs.Calls.{Lent, marksOf, recordOf, idle, worker}
 use Rattle.model.specs.Refusal.{refuse, replied, holds, badLengths, badRecord, badHold, badWorker}
 use Rattle.laws.proofs.Every.{getD-any}
 use Rattle.laws.proofs.Tests.{never, and-left, and-right, and-intro, false-if}
-use Rattle.demand.proofs.Members.{Member, some-intro}
+use Rattle.cells.proofs.Members.{Member, some-intro}
 use Rattle.demand.proofs.Single.{Single, single-kept, kept-single}
-use Rattle.demand.proofs.Machine.{count, Stated}
+use Rattle.cells.proofs.Machine.{count, Stated}
 use Rattle.demand.proofs.Whole.{Recorded, AtWork}
 
 -- ---- a chain of refusals

@@ -14,7 +14,7 @@ use Rattle.model.specs.Refusal.{openCall, runCall}
 use Rattle.model.specs.History.{Call}
 use Rattle.model.specs.Demand.{end}
 use Rattle.demand.specs.Promise.{Pair, Alike, Promise}
-use Rattle.demand.proofs.Machine.{count}
+use Rattle.cells.proofs.Machine.{count}
 use Rattle.demand.proofs.Whole.{Whole}
 use Rattle.demand.proofs.Answers.{run-accepted}
 use Rattle.demand.proofs.Moves.{move-whole}

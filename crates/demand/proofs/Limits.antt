@@ -23,15 +23,15 @@ use Rattle.model.specs.Calls.{Lent, worker}
 use Rattle.model.specs.Refusal.{entryLimit, badEntry, badTiles}
 use Rattle.laws.proofs.Tests.{and-intro, lt-or-le}
 use Rattle.laws.proofs.Blocks.{in-block, row-of, column-of, row-below, column-below}
-use Rattle.demand.specs.Cells.{Val, view, tileAt, listAt}
-use Rattle.demand.proofs.Members.{Each, more}
+use Rattle.cells.specs.Cells.{Val, view, tileAt, listAt}
+use Rattle.cells.proofs.Members.{Each, more}
 use Rattle.laws.proofs.Every.{every-at, at-every}
-use Rattle.demand.proofs.Elements.{part-get}
-use Rattle.demand.proofs.Valid.{task-valid}
-use Rattle.demand.proofs.Places.{cell-lt, Proper, is-tile, is-list, proper-touches}
-use Rattle.demand.proofs.View.{Sized, view-tile, view-list, tile-cell, rows-cell, length-tile, length-rows}
-use Rattle.demand.proofs.Kept.{limit, Rows, Tiles}
-use Rattle.demand.proofs.Machine.{count}
+use Rattle.cells.proofs.Elements.{part-get}
+use Rattle.cells.proofs.Valid.{task-valid}
+use Rattle.cells.proofs.Places.{cell-lt, Proper, is-tile, is-list, proper-touches}
+use Rattle.cells.proofs.View.{Sized, view-tile, view-list, tile-cell, rows-cell, length-tile, length-rows}
+use Rattle.cells.proofs.Kept.{limit, Rows, Tiles}
+use Rattle.cells.proofs.Machine.{count}
 
 past-end : (xs : List ℕ) (i : ℕ) → length xs ≤ i → _≡_ {A = ℕ} (getD xs i 0) 0
 past-end [] i h = refl

@@ -18,7 +18,7 @@ use Rattle.model.specs.Task.{Task, T-1, tasks}
 use Rattle.model.specs.Plan.{plan, planOf}
 use Rattle.model.specs.Links.{mark, finished}
 use Rattle.model.specs.Calls.{Lent, RunEnd, marksOf, recordOf, withMark, marked, idle, holding, worker, opened, took, columnOf, advanced, runFrom}
-use Rattle.demand.proofs.Machine.{count, column-ends}
+use Rattle.cells.proofs.Machine.{count, column-ends}
 use Rattle.demand.proofs.Whole.{AtWork, Whole, in-range, mark-at}
 use Rattle.demand.proofs.Steps.{ready-waits}
 use Rattle.demand.proofs.Moves.{Move, takes, works, move-whole}

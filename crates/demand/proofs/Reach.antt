@@ -17,10 +17,10 @@ use Rattle.model.specs.Calls.{Lent, marksOf, worker, took, advanced}
 use Rattle.order_free.specs.Graph.{is-waiting}
 use Rattle.order_free.specs.Machine.{Worker, is-idle, State, Call, take, column, start, effect, accepts, about, works-on, step, after, spent, ready}
 use Rattle.laws.proofs.Tests.{and-left, and-right, and-intro}
-use Rattle.demand.specs.Cells.{Val}
-use Rattle.demand.proofs.Marks.{toMark}
-use Rattle.demand.proofs.Links.{ready-is}
-use Rattle.demand.proofs.Machine.{S, count, workerOf, busy-of, abs, took-is, advanced-is}
+use Rattle.cells.specs.Cells.{Val}
+use Rattle.cells.proofs.Marks.{toMark}
+use Rattle.cells.proofs.Links.{ready-is}
+use Rattle.cells.proofs.Machine.{S, count, workerOf, busy-of, abs, took-is, advanced-is}
 use Rattle.demand.proofs.Whole.{Whole}
 use Rattle.demand.proofs.Moves.{Move, takes, works, move-whole}
 

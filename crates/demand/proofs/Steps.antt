@@ -20,15 +20,15 @@ use Rattle.order_free.specs.Graph as G
 use Rattle.order_free.specs.Loops.{Outcome}
 use Rattle.order_free.specs.Machine.{perform}
 use Rattle.laws.proofs.Tests.{never, and-left}
-use Rattle.demand.specs.Cells.{Val, view}
+use Rattle.cells.specs.Cells.{Val, view}
 use Rattle.demand.proofs.Single.{Single}
-use Rattle.demand.proofs.Choices.{either}
-use Rattle.demand.proofs.Valid.{Valid, task-valid}
-use Rattle.demand.proofs.View.{Sized, tile-cell, length-tile}
-use Rattle.demand.proofs.Kept.{Tiles, Rows, Long, worked-rows, worked-tiles}
-use Rattle.demand.proofs.Fills.{filled-rows, spoiled-tiles, failed-tiles}
-use Rattle.demand.proofs.Marks.{toMark}
-use Rattle.demand.proofs.Machine.{S, count, took-stated, advanced-stated, column-ends}
+use Rattle.cells.proofs.Choices.{either}
+use Rattle.cells.proofs.Valid.{Valid, task-valid}
+use Rattle.cells.proofs.View.{Sized, tile-cell, length-tile}
+use Rattle.cells.proofs.Kept.{Tiles, Rows, Long, worked-rows, worked-tiles}
+use Rattle.cells.proofs.Fills.{filled-rows, spoiled-tiles, failed-tiles}
+use Rattle.cells.proofs.Marks.{toMark}
+use Rattle.cells.proofs.Machine.{S, count, took-stated, advanced-stated, column-ends}
 use Rattle.demand.proofs.Whole.{AtWork, Whole, in-range}
 use Rattle.demand.proofs.Stores.{holds-busy, holds-task, busy-holds, Suits, rests, works, stored-whole}
 

@@ -18,10 +18,10 @@ use Rattle.model.specs.Buffer.{Buffers}
 use Rattle.model.specs.Calls.{Lent, marksOf, recordOf, withMark, marked, idle, worker}
 use Rattle.model.specs.Refusal.{holds}
 use Rattle.laws.proofs.Tests.{never, and-left, and-right, and-intro, same-or-not}
-use Rattle.demand.specs.Cells.{view}
+use Rattle.cells.specs.Cells.{view}
 use Rattle.demand.proofs.Single.{Single}
-use Rattle.demand.proofs.Kept.{Tiles, Rows}
-use Rattle.demand.proofs.Machine.{count, Stated}
+use Rattle.cells.proofs.Kept.{Tiles, Rows}
+use Rattle.cells.proofs.Machine.{count, Stated}
 use Rattle.demand.proofs.Whole.{Recorded, AtWork, Whole, mark-at}
 
 pub holds-busy : (p : ℕ) (h : Worker) → holds p h ≡ true → h .busy ≡ true

@@ -24,13 +24,13 @@ use Rattle.order_free.specs.Loops.{loops}
 use Rattle.order_free.specs.Machine.{after}
 use Rattle.order_free.specs.Theorem as T
 use Rattle.order_free.proofs.OrderFree.{order-free}
-use Rattle.demand.specs.Cells.{Val, view}
+use Rattle.cells.specs.Cells.{Val, view}
 use Rattle.laws.proofs.Every.{every-at}
-use Rattle.demand.proofs.Instance.{system-laws}
-use Rattle.demand.proofs.View.{same-buffers}
-use Rattle.demand.proofs.Marks.{toMark, finished-is, finished-most, mark-same}
-use Rattle.demand.proofs.Loops.{Matches, σ₀, loops-match}
-use Rattle.demand.proofs.Machine.{S, count, abs, length-marks, opened-is}
+use Rattle.cells.proofs.Instance.{system-laws}
+use Rattle.cells.proofs.View.{same-buffers}
+use Rattle.cells.proofs.Marks.{toMark, finished-is, finished-most, mark-same}
+use Rattle.cells.proofs.Loops.{Matches, σ₀, loops-match}
+use Rattle.cells.proofs.Machine.{S, count, abs, length-marks, opened-is}
 use Rattle.demand.proofs.Whole.{Whole, in-range}
 use Rattle.demand.proofs.Answers.{run-accepted, take-accepted, column-accepted}
 use Rattle.demand.proofs.Progress.{Goes, can-work, can-take, goes}

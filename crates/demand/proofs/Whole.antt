@@ -23,14 +23,14 @@ use Rattle.model.specs.Loops.{start}
 use Rattle.model.specs.Calls.{Lent, marksOf, recordOf, idle, worker, opened}
 use Rattle.model.specs.Refusal.{inside, badSizes, holds}
 use Rattle.laws.proofs.Tests.{never, and-left, and-right}
-use Rattle.demand.specs.Cells.{view, listAt}
+use Rattle.cells.specs.Cells.{view, listAt}
 use Rattle.laws.proofs.Every.{every-take, every-drop}
-use Rattle.demand.proofs.Elements.{getD-same}
+use Rattle.cells.proofs.Elements.{getD-same}
 use Rattle.demand.proofs.Single.{Single}
-use Rattle.demand.proofs.View.{tile-cell, rows-cell}
-use Rattle.demand.proofs.Kept.{Tiles, Rows}
-use Rattle.demand.proofs.Marks.{opened-marks}
-use Rattle.demand.proofs.Machine.{count, Stated, opened-stated}
+use Rattle.cells.proofs.View.{tile-cell, rows-cell}
+use Rattle.cells.proofs.Kept.{Tiles, Rows}
+use Rattle.cells.proofs.Marks.{opened-marks}
+use Rattle.cells.proofs.Machine.{count, Stated, opened-stated}
 
 -- r is a record of task a
 pub record Recorded (a : Task) (r : TaskRecord) : Type 0 where

@@ -14,7 +14,7 @@ use Rattle.laws.proofs.Tests.{never, false-if, true-or-false}
 use Rattle.run_laws.proofs.Pointer.{NoneReady}
 use Rattle.run_laws.proofs.NextWorker.{lowest, can-take, only-busy, busy-works, next-here, next-after}
 use Rattle.laws.proofs.Every.{every-at}
-use Rattle.demand.proofs.Machine.{count, length-marks}
+use Rattle.cells.proofs.Machine.{count, length-marks}
 use Rattle.demand.proofs.Whole.{Whole}
 use Rattle.demand.proofs.Steps.{ready-waits}
 use Rattle.demand.proofs.Progress.{Goes, can-work, can-take as can-start, goes}

@@ -31,8 +31,8 @@ use Rattle.checks.specs.Checks.{Sized}
 use Rattle.checks.proofs.Laws.{sized}
 use Rattle.numbering.proofs.Laws.{few-tasks}
 use Rattle.call_laws.proofs.Undamaged.{worker-lent, recorded}
-use Rattle.demand.proofs.Elements.{map-set}
-use Rattle.demand.proofs.Machine.{count, column-ends}
+use Rattle.cells.proofs.Elements.{map-set}
+use Rattle.cells.proofs.Machine.{count, column-ends}
 use Rattle.demand.proofs.Limits.{good-tiles}
 use Rattle.demand.proofs.Whole.{Whole}
 use Rattle.demand.proofs.Steps.{took-whole, advanced-whole}

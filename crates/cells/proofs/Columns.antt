@@ -14,10 +14,10 @@ use Rattle.model.specs.Plan.{Plan, plan}
 use Rattle.model.specs.Links.{task}
 use Rattle.model.specs.Buffer.{Buffers, tileOf, rowsOf, withTile, withRows, factorInput, coupleInput, pairInput, worked, computed, sound, fillTile, fillRows, upperFilled, fillUpper, filled}
 use Rattle.laws.proofs.Blocks.{length-block}
-use Rattle.demand.specs.Cells.{Val, tileAt, listAt, view, putTile, putFactored, putCoupled, putPaired, putZeros, factorIn, coupleIn, pairIn, workedAt, computedAt, soundAt, filledAt, system}
-use Rattle.demand.proofs.Lengths.{factor-size, apply-size, couple-size, pair-size}
-use Rattle.demand.proofs.Valid.{Valid, v₁, v₂, v₃, v₄, task-valid}
-use Rattle.demand.proofs.View.{Sized, Same, tile-cell, rows-cell, length-tile, length-rows, put-tile, put-rows}
+use Rattle.cells.specs.Cells.{Val, tileAt, listAt, view, putTile, putFactored, putCoupled, putPaired, putZeros, factorIn, coupleIn, pairIn, workedAt, computedAt, soundAt, filledAt, system}
+use Rattle.cells.proofs.Lengths.{factor-size, apply-size, couple-size, pair-size}
+use Rattle.cells.proofs.Valid.{Valid, v₁, v₂, v₃, v₄, task-valid}
+use Rattle.cells.proofs.View.{Sized, Same, tile-cell, rows-cell, length-tile, length-rows, put-tile, put-rows}
 
 module _ (N t : ℕ) where
   abbrev z : Plan

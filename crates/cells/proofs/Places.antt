@@ -14,9 +14,9 @@ use Rattle.model.specs.Task.{Task, T-1, T-2, T-3, T-4, Place, A, list, same, am
 use Rattle.model.specs.Links.{task}
 use Rattle.laws.proofs.Tests.{and-left, and-right, and-intro, same-test}
 use Rattle.laws.proofs.Blocks.{row-same, column-same}
-use Rattle.demand.specs.Cells.{cellAt, cellOf, atCell}
-use Rattle.demand.proofs.Members.{Member, Each, none, more, each-member, some-elim, some-intro, some-append-right}
-use Rattle.demand.proofs.Valid.{Valid, v₁, v₂, v₃, v₄, task-valid}
+use Rattle.cells.specs.Cells.{cellAt, cellOf, atCell}
+use Rattle.cells.proofs.Members.{Member, Each, none, more, each-member, some-elim, some-intro, some-append-right}
+use Rattle.cells.proofs.Valid.{Valid, v₁, v₂, v₃, v₄, task-valid}
 
 pub cell-lt : {x y m : ℕ} → x < m → y < m → x * m + y < m * m
 cell-lt {x} {y} {m} hx hy = omega (arith, mul-le-mul-right m hx, suc-mul x m)

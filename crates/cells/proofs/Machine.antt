@@ -29,13 +29,13 @@ use Rattle.order_free.specs.Machine.{Worker, idle, busy, State, take, column, n
 use Rattle.order_free.specs.Machine as OM
 use Rattle.order_free.proofs.Tests.{set-here, set-there}
 use Rattle.laws.proofs.Tests.{same-or-not}
-use Rattle.demand.specs.Cells.{Val, view, system}
-use Rattle.demand.proofs.Elements.{map-set, getD-same}
-use Rattle.demand.proofs.View.{Sized, Same}
-use Rattle.demand.proofs.Columns.{worked-same, filled-same, sound-same}
-use Rattle.demand.proofs.Marks.{toMark, big, marks-set, opened-marks}
-use Rattle.demand.proofs.Spoils.{spoils-is}
-use Rattle.demand.proofs.Loops.{Ends, either-ends, σ₀, start-same}
+use Rattle.cells.specs.Cells.{Val, view, system}
+use Rattle.cells.proofs.Elements.{map-set, getD-same}
+use Rattle.cells.proofs.View.{Sized, Same}
+use Rattle.cells.proofs.Columns.{worked-same, filled-same, sound-same}
+use Rattle.cells.proofs.Marks.{toMark, big, marks-set, opened-marks}
+use Rattle.cells.proofs.Spoils.{spoils-is}
+use Rattle.cells.proofs.Loops.{Ends, either-ends, σ₀, start-same}
 
 -- ---- what is lent, as the machine's state
 

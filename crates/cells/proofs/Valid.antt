@@ -6,7 +6,7 @@ use lib.ListN.{length}
 use Rattle.model.specs.Lists.{below}
 use Rattle.model.specs.Task.{Task, T-1, T-2, T-3, T-4, after, lowerRow, stage, tasks}
 use Rattle.model.specs.Links.{task}
-use Rattle.demand.proofs.Members.{Each, more, each-append, each-run, each-joined, each-getD}
+use Rattle.cells.proofs.Members.{Each, more, each-append, each-run, each-joined, each-getD}
 
 pub data Valid (N : ℕ) : Task → Type 0 where
   v₁ : {k : ℕ} → k < N → Valid N (T-1 k)

@@ -15,9 +15,9 @@ use Rattle.model.specs.Buffer.{upperFilled}
 use Rattle.order_free.specs.Below.{set}
 use Rattle.order_free.specs.System.{Laws}
 use Rattle.laws.proofs.Tests.{never, or-false}
-use Rattle.demand.specs.Cells.{Val, tileAt, listAt, cellOf, atCell, putTile, putFactored, putCoupled, putPaired, putZeros, factorIn, coupleIn, pairIn, workedAt, computedAt, soundAt, filledAt, system}
-use Rattle.demand.proofs.Members.{Member, first, later}
-use Rattle.demand.proofs.Places.{touched-proper, proper-in, at-member, member-at, writes-touch}
+use Rattle.cells.specs.Cells.{Val, tileAt, listAt, cellOf, atCell, putTile, putFactored, putCoupled, putPaired, putZeros, factorIn, coupleIn, pairIn, workedAt, computedAt, soundAt, filledAt, system}
+use Rattle.cells.proofs.Members.{Member, first, later}
+use Rattle.cells.proofs.Places.{touched-proper, proper-in, at-member, member-at, writes-touch}
 
 module _ (N t : ℕ) where
   -- ---- frame

@@ -16,15 +16,15 @@ use Rattle.model.specs.Task.{Task, T-1, T-2, T-3, T-4}
 use Rattle.model.specs.Plan.{plan}
 use Rattle.model.specs.Buffer.{upperFilled}
 use Rattle.order_free.proofs.Tests.{set-here}
-use Rattle.demand.specs.Cells.{Val, tileVal, rowsVal, tileAt, listAt, putTile, putRows, putZeros, coupleIn, workedAt, filledAt}
-use Rattle.demand.proofs.Elements.{getD-same}
-use Rattle.demand.proofs.Places.{cell-lt}
-use Rattle.demand.proofs.Valid.{Valid, v₁, v₂, v₃, v₄}
-use Rattle.demand.proofs.Entries.{AtMost}
+use Rattle.cells.specs.Cells.{Val, tileVal, rowsVal, tileAt, listAt, putTile, putRows, putZeros, coupleIn, workedAt, filledAt}
+use Rattle.cells.proofs.Elements.{getD-same}
+use Rattle.cells.proofs.Places.{cell-lt}
+use Rattle.cells.proofs.Valid.{Valid, v₁, v₂, v₃, v₄}
+use Rattle.cells.proofs.Entries.{AtMost}
 use Rattle.laws.proofs.Finite.{finite-block}
-use Rattle.demand.proofs.Finite.{finite-at, chosen}
-use Rattle.demand.proofs.Written.{upper-kept}
-use Rattle.demand.proofs.Kept.{put-keeps, Rows, rows-tile, rows-rows, Tiles, Long}
+use Rattle.cells.proofs.Finite.{finite-at, chosen}
+use Rattle.cells.proofs.Written.{upper-kept}
+use Rattle.cells.proofs.Kept.{put-keeps, Rows, rows-tile, rows-rows, Tiles, Long}
 
 zeros-finite : (n : ℕ) → allFinite (zeros n) ≡ true
 unfolding allFinite zeros every finite

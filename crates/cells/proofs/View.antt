@@ -17,9 +17,9 @@ use Rattle.order_free.specs.Below.{set}
 use Rattle.order_free.proofs.Tests.{set-here, set-there}
 use Rattle.laws.proofs.Tests.{same-or-not, lt-or-le}
 use Rattle.laws.proofs.Parts.{Fits, Apart, part-put, part-other, length-put}
-use Rattle.demand.specs.Cells.{Val, tileVal, rowsVal, tileAt, listAt, view, putTile, putRows}
-use Rattle.demand.proofs.Elements.{parts-same}
-use Rattle.demand.proofs.Places.{cell-lt}
+use Rattle.cells.specs.Cells.{Val, tileVal, rowsVal, tileAt, listAt, view, putTile, putRows}
+use Rattle.cells.proofs.Elements.{parts-same}
+use Rattle.cells.proofs.Places.{cell-lt}
 
 nil : {Y : Type 0} (xs : List Y) → length xs ≡ 0 → xs ≡ []
 nil [] e = refl

@@ -22,12 +22,12 @@ use Rattle.order_free.specs.Graph.{Mark, spoils}
 use Rattle.order_free.specs.Graph as G
 use Rattle.order_free.specs.Loops.{Outcome, Swept, loops}
 use Rattle.order_free.specs.Loops as OL
-use Rattle.demand.specs.Cells.{Val, view, system}
-use Rattle.demand.proofs.Elements.{getD-same}
-use Rattle.demand.proofs.View.{Same}
-use Rattle.demand.proofs.Columns.{worked-same, filled-same, sound-same}
-use Rattle.demand.proofs.Marks.{toMark, marks-set}
-use Rattle.demand.proofs.Spoils.{spoils-is}
+use Rattle.cells.specs.Cells.{Val, view, system}
+use Rattle.cells.proofs.Elements.{getD-same}
+use Rattle.cells.proofs.View.{Same}
+use Rattle.cells.proofs.Columns.{worked-same, filled-same, sound-same}
+use Rattle.cells.proofs.Marks.{toMark, marks-set}
+use Rattle.cells.proofs.Spoils.{spoils-is}
 
 -- the last of a run of numbers in turn comes last
 in-turn-last : {A : Type 0} (f : ℕ → A → A) (a n : ℕ) (s : A) → inTurn f (run a (suc n)) s ≡ f (a + n) (inTurn f (run a n) s)

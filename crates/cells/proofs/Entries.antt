@@ -13,7 +13,7 @@ use Rattle.model.specs.Lists.{run, below}
 use Rattle.model.specs.Num.{isZero, magnitude, exceeds}
 use Rattle.model.specs.Tile.{at}
 use Rattle.model.specs.Column.{Factored, Coupled, better, searchFrom, search, factorCandidates, factorPivot, factorColumn, coupleCandidates, couplePivot, coupleColumn}
-use Rattle.demand.proofs.Choices.{either}
+use Rattle.cells.proofs.Choices.{either}
 
 -- ---- the place of a pivot
 
