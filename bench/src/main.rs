@@ -5,6 +5,7 @@ mod files;
 mod loops;
 mod plain;
 mod solving;
+mod structs;
 
 use calls::{Worker, IDLE};
 use loops::Record;
@@ -227,6 +228,14 @@ fn runs(tiles: usize, t: usize, rounds: usize) {
         );
         row(&format!("opening and whole run, N = {tiles}, t = {t}, W = {workers}"), both);
     }
+    let both = compare(
+        rounds,
+        1,
+        &start,
+        |x| loops::loops(&s, &mut x.to.matrix, &mut x.to.lists, bytes(&mut x.to.records)),
+        |x| assert_eq!(structs::factorize(&s, 1, u64::MAX, &mut x.to), calls),
+    );
+    row(&format!("opening and whole run over structs, N = {tiles}, t = {t}, W = 1"), both);
 }
 
 // ---- a take and a column call
@@ -254,6 +263,16 @@ fn rattle_column(s: &Shape, workers: usize, x: &mut Lent) {
     assert_eq!(x.to.column(sizes(s, workers), 0), Ok(()));
 }
 
+#[inline(never)]
+fn struct_take(s: &Shape, workers: usize, p: usize, x: &mut Lent) {
+    assert_eq!(structs::take(s, workers, p, &mut x.to), 0);
+}
+
+#[inline(never)]
+fn struct_column(s: &Shape, workers: usize, p: usize, c: usize, x: &mut Lent) {
+    assert_eq!(structs::column(s, workers, p, c, &mut x.to), 0);
+}
+
 /// A T-4 in the middle of the tasks is taken, and worked column by column.
 fn single_calls(tiles: usize, t: usize, rounds: usize) {
     let s = black_box(Shape { tiles, side: t });
@@ -277,6 +296,16 @@ fn single_calls(tiles: usize, t: usize, rounds: usize) {
         );
         row(&format!("a column call of T-4, N = {tiles}, t = {t}, W = {workers}"), (all.0 / t as f64, all.1 / t as f64));
     }
+    let both = compare(rounds, 1, &start, |x| plain_take(&s, 1, p, x), |x| struct_take(&s, 1, p, x));
+    row(&format!("a take over structs, N = {tiles}, t = {t}, W = 1"), both);
+    let all = compare(
+        rounds,
+        1,
+        &taken,
+        |x| (0..t).for_each(|c| plain_column(&s, 1, p, c, x)),
+        |x| (0..t).for_each(|c| struct_column(&s, 1, p, c, x)),
+    );
+    row(&format!("a column call of T-4 over structs, N = {tiles}, t = {t}, W = 1"), (all.0 / t as f64, all.1 / t as f64));
 }
 
 // ---- a solve
@@ -291,6 +320,11 @@ fn rattle_solve(s: &Shape, right: &[f64], x: &mut Lent) {
     assert_eq!(x.to.solve(sizes(s, 1), right, &mut x.answers), Ok(()));
 }
 
+#[inline(never)]
+fn struct_solve(s: &Shape, right: &[f64], x: &mut Lent) {
+    assert_eq!(structs::solve(s, right, &x.to, &mut x.answers), 0);
+}
+
 fn solves(tiles: usize, t: usize, rounds: usize) {
     let s = black_box(Shape { tiles, side: t });
     let mut start = fresh(&s, 17);
@@ -299,6 +333,8 @@ fn solves(tiles: usize, t: usize, rounds: usize) {
     let right = numbers(19, tiles * t);
     let both = compare(rounds, 1, &start, |x| plain_solve(&s, &right, x), |x| rattle_solve(&s, &right, x));
     row(&format!("a solve, N = {tiles}, t = {t}, W = 1"), both);
+    let both = compare(rounds, 1, &start, |x| plain_solve(&s, &right, x), |x| struct_solve(&s, &right, x));
+    row(&format!("a solve over structs, N = {tiles}, t = {t}, W = 1"), both);
 }
 
 // ---- a system file

@@ -4,6 +4,7 @@ ghost use Prim.Native.Nat.{_+_, _<_};
 ghost use Rattle.model.specs.Calls.{idle, holding};
 
 // What a call is told of a system: N tiles a side, each tile t numbers a side, and W workers.
+#[repr(C)]
 pub struct Sizes {
     pub tiles: usize,
     pub side: usize,
@@ -11,6 +12,7 @@ pub struct Sizes {
 }
 
 // What is lent for a task: kind 1 to 4, k, i and j (0 where unused), and its mark.
+#[repr(C)]
 pub struct TaskRecord {
     pub kind: u8,
     pub k: u8,

@@ -1,0 +1,17 @@
+-- `idle_workers` meets its contract. Assumes nothing.
+use mathlib.Core.Path.{ap}
+use lib.ListN.{replicate}
+use Rattle.bench_structs.specs.Bench.{idles}
+use borrow.Author.Needs.{needs}
+use Rattle.bench_structs.proofs.idle_workers.Statement.{statement}
+use Rattle.bench_structs.proofs.idle_workers.Tie as tie
+
+idle-requires : tie.Need-idle-requires
+idle-requires c κs = search needs
+
+returns : tie.Need-returns
+unfolding idles
+returns c = ap (replicate 32) (c .idle .ensures)
+
+pub idle-workers-spec : {M : Type 1} → statement M
+idle-workers-spec = tie.close (tie.spec idle-requires returns)

@@ -1,0 +1,21 @@
+-- `one_holding` meets its contract. Assumes nothing.
+use mathlib.Core.Path.{ap}
+use lib.ListN.{set}
+use Rattle.model.specs.Calls.{holding}
+use Rattle.bench_structs.specs.Bench.{oneHolding}
+use borrow.Author.Needs.{needs}
+use Rattle.bench_structs.proofs.one_holding.Statement.{statement}
+use Rattle.bench_structs.proofs.one_holding.Tie as tie
+
+idle-workers-requires : tie.Need-idle-workers-requires
+idle-workers-requires c κs = search needs
+
+array-set-from-slots : tie.Need-array-set-from-slots
+array-set-from-slots c = search needs
+
+returns : tie.Need-returns
+unfolding oneHolding
+returns c = ap (λ v. set v 0 (holding (c .before .args .p) (c .before .args .c))) (c .idle-workers .ensures)
+
+pub one-holding-spec : {M : Type 1} → statement M
+one-holding-spec = tie.close (tie.spec idle-workers-requires array-set-from-slots returns)

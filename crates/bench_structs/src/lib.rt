@@ -1,0 +1,151 @@
+// What bench/ calls from Rust over task records that are structs: an opening, a take, a column, a run and a solve. Workers are made here: all
+// idle, or one that holds a task.
+ghost use mathlib.Core.Path.{_≡_};
+ghost use Rattle.model.specs.Refusal.{answerNumber, openCall, takeCall, columnCall, runCall};
+ghost use Rattle.model.specs.Solve.{solveCall};
+ghost use Rattle.copies.specs.Whole.{whole};
+ghost use Rattle.bench_structs.specs.Bench.{idles, oneHolding, callsOf};
+use model::Answer;
+use model::CallReply;
+use model::RunAnswer;
+use model::RunReply;
+use model::Sizes;
+use model::TaskRecord;
+use model::Worker;
+
+// The refusal's number: 0 where the call is accepted.
+fn number_of(answer: Answer) -> u8
+    ensures { λ r. ⌜ r ≡ answerNumber answer ⌝ }
+{
+    match answer {
+        Answer::Accepted => 0,
+        Answer::Refused(number, _) => number,
+    }
+}
+
+fn number_in(reply: CallReply) -> u8
+    ensures { λ r. ⌜ r ≡ answerNumber (reply .answer) ⌝ }
+{
+    let answer = reply.answer;
+    number_of(answer)
+}
+
+// The calls that a run made.
+fn calls_of(answer: RunAnswer) -> u64
+    ensures { λ r. ⌜ r ≡ callsOf answer ⌝ }
+{
+    match answer {
+        RunAnswer::Finished(n) => n,
+        RunAnswer::Spent(n) => n,
+        RunAnswer::RunRefused(_, _) => 0,
+    }
+}
+
+fn calls_in(reply: RunReply) -> u64
+    ensures { λ r. ⌜ r ≡ callsOf (reply .answer) ⌝ }
+{
+    let answer = reply.answer;
+    calls_of(answer)
+}
+
+// All workers idle.
+fn idle_workers() -> [Worker; 32]
+    ensures { λ r. ⌜ r ≡ idles ⌝ }
+{
+    let h = Worker::idle();
+    [h; 32]
+}
+
+// Worker 0 holds task p with column c the next, and all others are idle.
+fn one_holding(p: u16, c: u8) -> [Worker; 32]
+    ensures { λ r. ⌜ r ≡ oneHolding p c ⌝ }
+{
+    let mut slots = idle_workers();
+    slots[0] = Worker {
+        busy: true,
+        task: p,
+        column: c,
+    };
+    slots
+}
+
+#[no_mangle]
+pub extern "C" fn bench_open(
+    z: Sizes,
+    matrix: &[f64],
+    lists: &mut [u8],
+    records: &mut [TaskRecord],
+) -> u8
+    ensures { λ r. ⌜ (r ≡ answerNumber (openCall z (whole (now (matrix .entry)) (now (lists .entry)) (now (records .entry)) idles (z .workers)) .answer))
+        × (record { matrix = now (matrix .entry); lists = now (lists .exit) } ≡ openCall z (whole (now (matrix .entry)) (now (lists .entry)) (now (records .entry)) idles (z .workers)) .left .buffers)
+        × (now (records .exit) ≡ openCall z (whole (now (matrix .entry)) (now (lists .entry)) (now (records .entry)) idles (z .workers)) .left .records) ⌝ }
+{
+    let reply = open_call::open(z, matrix, lists, records, idle_workers());
+    number_in(reply)
+}
+
+#[no_mangle]
+pub extern "C" fn bench_take(
+    z: Sizes,
+    matrix: &[f64],
+    lists: &[u8],
+    records: &mut [TaskRecord],
+    w: usize,
+    p: usize,
+) -> u8
+    ensures { λ r. ⌜ (r ≡ answerNumber (takeCall z w p (whole (now (matrix .entry)) (now (lists .entry)) (now (records .entry)) idles (z .workers)) .answer))
+        × (now (records .exit) ≡ takeCall z w p (whole (now (matrix .entry)) (now (lists .entry)) (now (records .entry)) idles (z .workers)) .left .records) ⌝ }
+{
+    let reply = take_call::take(z, matrix, lists, records, idle_workers(), w, p);
+    number_in(reply)
+}
+
+#[no_mangle]
+pub extern "C" fn bench_column(
+    z: Sizes,
+    matrix: &mut [f64],
+    lists: &mut [u8],
+    records: &mut [TaskRecord],
+    w: usize,
+    p: u16,
+    c: u8,
+) -> u8
+    ensures { λ r. ⌜ (r ≡ answerNumber (columnCall z w (whole (now (matrix .entry)) (now (lists .entry)) (now (records .entry)) (oneHolding p c) (z .workers)) .answer))
+        × (record { matrix = now (matrix .exit); lists = now (lists .exit) } ≡ columnCall z w (whole (now (matrix .entry)) (now (lists .entry)) (now (records .entry)) (oneHolding p c) (z .workers)) .left .buffers)
+        × (now (records .exit) ≡ columnCall z w (whole (now (matrix .entry)) (now (lists .entry)) (now (records .entry)) (oneHolding p c) (z .workers)) .left .records) ⌝ }
+{
+    let reply = column_call::column(z, matrix, lists, records, one_holding(p, c), w);
+    number_in(reply)
+}
+
+#[no_mangle]
+pub extern "C" fn bench_run(
+    z: Sizes,
+    matrix: &mut [f64],
+    lists: &mut [u8],
+    records: &mut [TaskRecord],
+    budget: u64,
+) -> u64
+    ensures { λ r. ⌜ (r ≡ callsOf (runCall z budget (whole (now (matrix .entry)) (now (lists .entry)) (now (records .entry)) idles (z .workers)) .answer))
+        × (record { matrix = now (matrix .exit); lists = now (lists .exit) } ≡ runCall z budget (whole (now (matrix .entry)) (now (lists .entry)) (now (records .entry)) idles (z .workers)) .left .buffers)
+        × (now (records .exit) ≡ runCall z budget (whole (now (matrix .entry)) (now (lists .entry)) (now (records .entry)) idles (z .workers)) .left .records) ⌝ }
+{
+    let reply = run_call::run(z, matrix, lists, records, idle_workers(), budget);
+    calls_in(reply)
+}
+
+#[no_mangle]
+pub extern "C" fn bench_solve(
+    z: Sizes,
+    matrix: &[f64],
+    lists: &[u8],
+    records: &[TaskRecord],
+    right: &[f64],
+    answers: &mut [f64],
+) -> u8
+    ensures { λ r. ⌜ (r ≡ answerNumber (solveCall z (whole (now (matrix .entry)) (now (lists .entry)) (now (records .entry)) idles (z .workers)) (now (right .entry)) (now (answers .entry)) .answer))
+        × (now (answers .exit) ≡ solveCall z (whole (now (matrix .entry)) (now (lists .entry)) (now (records .entry)) idles (z .workers)) (now (right .entry)) (now (answers .entry)) .left) ⌝ }
+{
+    let answer = solve_call::solve(z, matrix, lists, records, idle_workers(), right, answers);
+    number_of(answer)
+}
