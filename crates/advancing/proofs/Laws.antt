@@ -9,12 +9,13 @@ use lib.ListN.{length, getD, set, take}
 use lib.Seq.{take-set-lt}
 use borrow.Author.Tests.{eq-eqb, ne-eqb, lt-ltb}
 use Rattle.model.specs.declared.Sizes.{Sizes}
-use Rattle.model.specs.declared.Worker.{Worker}
+use Rattle.worker.specs.declared.Worker.{Worker}
 use Rattle.model.specs.Task.{Task, tasks}
 use Rattle.model.specs.Plan.{plan, planOf}
 use Rattle.model.specs.Links.{task, finished}
 use Rattle.model.specs.Buffer.{Ended}
-use Rattle.model.specs.Calls.{Lent, marked, worker, idle, holding, columnOf, advanced}
+use Rattle.model.specs.Calls.{Lent, marked, worker, columnOf, advanced}
+use Rattle.worker.specs.Holding.{idle, holding}
 use Rattle.model.specs.Refusal.{entryLimit, damaged}
 use Rattle.links.proofs.Order.{Within, within-1, within-2, within-3, within-4}
 use Rattle.column_laws.specs.Placed.{Placed, EntriesFit}

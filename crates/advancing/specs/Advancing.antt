@@ -6,12 +6,13 @@ use mathlib.Core.List.{List}
 use lib.Ieee.{Float}
 use lib.ListN.{getD}
 use Rattle.model.specs.declared.Sizes.{Sizes}
-use Rattle.model.specs.declared.Worker.{Worker}
+use Rattle.worker.specs.declared.Worker.{Worker}
 use Rattle.model.specs.Task.{tasks}
 use Rattle.model.specs.Plan.{planOf}
 use Rattle.model.specs.Links.{task, finished}
 use Rattle.model.specs.Buffer.{Ended, finiteTiles}
-use Rattle.model.specs.Calls.{marked, idle, holding, columnOf}
+use Rattle.model.specs.Calls.{marked, columnOf}
+use Rattle.worker.specs.Holding.{idle, holding}
 use Rattle.records.specs.Records.{recordsFrom, lent}
 use Rattle.states.specs.States.{Sound}
 

@@ -8,9 +8,9 @@ ghost use Rattle.task_columns.specs.Due.{ColumnDue};
 ghost use Rattle.advancing.specs.Advancing.{Advanced, Working};
 use column_marks::moved_on;
 use model::Sizes;
-use model::Worker;
 use record_changes::set_mark;
 use task_columns::work_task;
+use worker::Worker;
 
 // The worker h does the next column of the task it holds, and is handed back as it goes on.
 pub fn advance(

@@ -2,10 +2,10 @@
 use Prim.Native.Nat.{ℕ}
 use mathlib.Core.List.{List}
 use lib.ListN.{set, replicate}
-use Rattle.model.specs.declared.Worker.{Worker}
+use Rattle.worker.specs.declared.Worker.{Worker}
 use Rattle.model.specs.declared.RunAnswer.{RunAnswer}
 use Rattle.model.specs.declared.RunAnswer.the-variants.{Finished, Spent, RunRefused}
-use Rattle.model.specs.Calls.{idle, holding}
+use Rattle.worker.specs.Holding.{idle, holding}
 
 -- all 32 slots idle
 unfoldable pub idles : List Worker

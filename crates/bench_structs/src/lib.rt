@@ -11,7 +11,7 @@ use model::RunAnswer;
 use model::RunReply;
 use model::Sizes;
 use model::TaskRecord;
-use model::Worker;
+use worker::Worker;
 
 // The refusal's number: 0 where the call is accepted.
 fn number_of(answer: Answer) -> u8

@@ -8,11 +8,12 @@ use lib.Ieee.{Float}
 use lib.ListN.{length, getD, take, length-take, List·getD-eq-default}
 use lib.Seq.{getD-take, length-take-le}
 use Rattle.model.specs.declared.Sizes.{Sizes}
-use Rattle.model.specs.declared.Worker.{Worker}
+use Rattle.worker.specs.declared.Worker.{Worker}
 use Rattle.model.specs.Task.{tasks}
 use Rattle.model.specs.Plan.{plan, planOf}
 use Rattle.model.specs.Links.{task, mark, taken}
-use Rattle.model.specs.Calls.{marksOf, worker, idle}
+use Rattle.model.specs.Calls.{marksOf, worker}
+use Rattle.worker.specs.Holding.{idle}
 use Rattle.model.specs.Refusal.{damaged}
 use Rattle.records.specs.Records.{recordsFrom, marksFrom, blank, lent}
 use Rattle.records.proofs.Laws.{length-records}

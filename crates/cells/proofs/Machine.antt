@@ -12,15 +12,17 @@ use lib.ListN.{length, getD, length-set, length-map, length-replicate}
 use lib.ListN as L
 use lib.Seq.{getD-set-same, getD-set-other}
 use Rattle.model.specs.declared.Sizes.{Sizes}
-use Rattle.model.specs.declared.Worker as MW
+use Rattle.worker.specs.declared.Worker as MW
 use Rattle.model.specs.Task.{T-1, tasks}
 use Rattle.model.specs.Plan.{plan, planOf}
 use Rattle.model.specs.Links.{task, mark}
 use Rattle.model.specs.Links as ML
 use Rattle.model.specs.Buffer.{sound, columnEnds}
 use Rattle.model.specs.Loops.{start}
-use Rattle.model.specs.Calls.{Lent, marksOf, recordOf, withMark, marked, worker, holding, opened, took, columnOf, advanced}
+use Rattle.model.specs.Calls.{Lent, marksOf, recordOf, withMark, marked, worker, opened, took, columnOf, advanced}
+use Rattle.worker.specs.Holding.{holding}
 use Rattle.model.specs.Calls as MC
+use Rattle.worker.specs.Holding as MH
 use Rattle.order_free.specs.Below.{set}
 use Rattle.order_free.specs.System.{System}
 use Rattle.order_free.specs.Graph.{Mark, spoils}
@@ -103,7 +105,7 @@ module _ (z : Sizes) where
   took-is s g w p h l = λ i. record {
     cells = view (z .tiles) (z .side) (s .buffers);
     marks = marked-view s g p 1 l i;
-    workers = list-view workerOf MC.idle (s .workers) w (holding p 0) (subst (λ (k : ℕ). w < k) (sym (g .workers)) h) i;
+    workers = list-view workerOf MH.idle (s .workers) w (holding p 0) (subst (λ (k : ℕ). w < k) (sym (g .workers)) h) i;
   }
 
   -- ---- column
@@ -132,7 +134,7 @@ module _ (z : Sizes) where
       (record { left = filled-same N t p h _ _ w'; mark = refl; begun = omega arith; most = omega arith }))
 
   -- the worker stays with its task or is freed alike
-  worker-next : (m p c : ℕ) → 1 ≤ m → workerOf (cond (ML.finished m) MC.idle (holding p (suc c))) ≡ next (toMark m) p c
+  worker-next : (m p c : ℕ) → 1 ≤ m → workerOf (cond (ML.finished m) MH.idle (holding p (suc c))) ≡ next (toMark m) p c
   unfolding ML.finished
   worker-next zero p c h = absurd (omega arith)
   worker-next (suc zero) p c h = refl
@@ -158,9 +160,9 @@ module _ (z : Sizes) where
         let x : abs z (advanced (planOf z) w s) ≡ advance (S z) w (busy q d) (abs z s) = unfold abs advanced advance marksOf worker in (λ i. record {
           cells = en .left .1 i;
           marks = (marked-view s g q (e .mark) hp ∙ (λ k. set (marksFn s) q (en .mark k))) i;
-          workers = (list-view workerOf MC.idle (s .workers) w (cond (ML.finished (e .mark)) MC.idle (holding q (suc d)))
+          workers = (list-view workerOf MH.idle (s .workers) w (cond (ML.finished (e .mark)) MH.idle (holding q (suc d)))
               (subst (λ (k : ℕ). w < k) (sym (g .workers)) hw)
-              ∙ ap (λ (y : Worker). set (λ (j : ℕ). workerOf (getD (s .workers) j MC.idle)) w y)
+              ∙ ap (λ (y : Worker). set (λ (j : ℕ). workerOf (getD (s .workers) j MH.idle)) w y)
               (worker-next (e .mark) q d (en .begun) ∙ (λ k. next (en .mark k) q d))) i;
         }) in
         x ∙ ap (λ (y : Worker). advance (S z) w y (abs z s)) (sym (busy-of (worker s w) hb))
@@ -174,7 +176,7 @@ module _ (z : Sizes) where
       sized = start-same (z .tiles) (z .side) m hm .0;
       records = length-map (tasks (z .tiles)) recordOf;
       workers = length-replicate
-          (z .workers) MC.idle;
+          (z .workers) MH.idle;
     }
 
     pub opened-is : abs z (opened (planOf z) (z .workers) m) ≡ OM.start (S z) (σ₀ (z .tiles) (z .side) m hm)
@@ -182,5 +184,5 @@ module _ (z : Sizes) where
     opened-is = λ i. record {
       cells = view (z .tiles) (z .side) (start (planOf z) m .buffers);
       marks = λ p. toMark (opened-marks (tasks (z .tiles)) p i);
-      workers = λ w. workerOf (getD-same (z .workers) w MC.idle i);
+      workers = λ w. workerOf (getD-same (z .workers) w MH.idle i);
     }

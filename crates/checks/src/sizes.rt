@@ -2,7 +2,7 @@
 ghost use mathlib.Core.Path.{_≡_};
 ghost use lib.ListN.{length};
 ghost use mathlib.Core.List.{List};
-ghost use Rattle.model.specs.declared.Worker.{Worker as SomeWorker};
+ghost use Rattle.worker.specs.declared.Worker.{Worker as SomeWorker};
 ghost use Rattle.model.specs.Plan.{planOf};
 ghost use Rattle.model.specs.Refusal.{inside as isInside, badSizes, badLengths};
 ghost use Rattle.records.specs.Records.{lent};

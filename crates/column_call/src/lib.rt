@@ -2,7 +2,7 @@
 // copies, and those that it may have changed are copied back.
 ghost use mathlib.Core.Path.{_≡_};
 ghost use lib.ListN.{drop, getD};
-ghost use Rattle.model.specs.Calls.{idle};
+ghost use Rattle.worker.specs.Holding.{idle};
 ghost use Rattle.model.specs.Refusal.{columnCall};
 ghost use Rattle.copies.specs.Whole.{whole};
 use column_part::column_part;
@@ -10,10 +10,10 @@ use loading::load;
 use model::CallReply;
 use model::Sizes;
 use model::TaskRecord;
-use model::Worker;
 use storing::store;
 use task_records::looked_at;
 use task_records::past;
+use worker::Worker;
 
 // The task of worker w; 0 if there is no such slot.
 fn task_held(workers: [Worker; 32], w: usize) -> usize

@@ -8,14 +8,15 @@ use lib.Ieee.{Float}
 use lib.ListN.{length, getD}
 use borrow.Author.Tests.{le-leb, lt-leb, leb-false, not-false}
 use Rattle.model.specs.declared.Sizes.{Sizes}
-use Rattle.model.specs.declared.Worker.{Worker}
+use Rattle.worker.specs.declared.Worker.{Worker}
 use Rattle.model.specs.declared.Answer.{Answer}
 use Rattle.model.specs.declared.Answer.the-variants.{Accepted, Refused}
 use Rattle.model.specs.Task.{tasks}
 use Rattle.model.specs.Plan.{plan, planOf}
 use Rattle.model.specs.Links.{task}
 use Rattle.model.specs.Buffer.{Buffers, finiteTiles}
-use Rattle.model.specs.Calls.{Lent, worker, idle}
+use Rattle.model.specs.Calls.{Lent, worker}
+use Rattle.worker.specs.Holding.{idle}
 use Rattle.model.specs.Refusal.{refuse, badSizes, badLengths, damaged, badTiles, noWorker, columnAnswer}
 use Rattle.laws.proofs.Refusals.{passed}
 use Rattle.laws.proofs.Tests.{or-left, or-right, or-false-left, or-false-right}

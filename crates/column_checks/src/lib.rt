@@ -5,10 +5,10 @@ ghost use Rattle.records.specs.Records.{lent};
 use answers::accepted;
 use model::Answer;
 use model::Sizes;
-use model::Worker;
 use records::record_at;
 use states::state_answer;
 use task_tiles::bad_tiles;
+use worker::Worker;
 
 // What a column call of worker w answers. A worker that is idle or doesn't exist has no task, whose tiles could be bad.
 pub fn column_answer(

@@ -5,8 +5,8 @@ use mathlib.Core.Path.{_≡_, ap}
 use native.Mathlib.Omega.{arith}
 use lib.Dec.{eqb}
 use borrow.Author.Tests.{eq-eqb, ne-eqb}
-use Rattle.model.specs.declared.Worker.{Worker}
-use Rattle.model.specs.Calls.{idle, holding}
+use Rattle.worker.specs.declared.Worker.{Worker}
+use Rattle.worker.specs.Holding.{idle, holding}
 
 pub later-column : (c : ℕ) (b : Bool) → (c ≡ 0 → ⊥) → false ≡ (eqb c 0 && b)
 later-column c b h = rw (ne-eqb c 0 h)

@@ -6,14 +6,14 @@ ghost use lib.Dec.{eqb};
 ghost use Rattle.model.specs.Task.{tasks};
 ghost use Rattle.model.specs.Links.{spoils, finished};
 ghost use Rattle.model.specs.Buffer.{markOf};
-ghost use Rattle.model.specs.Calls.{idle, holding};
+ghost use Rattle.worker.specs.Holding.{idle, holding};
 ghost use Rattle.marks.specs.Marks.{Recorded};
 ghost use Rattle.records.specs.Records.{marksFrom};
 use marks::is_finished;
 use model::ColumnEnd;
 use model::Sizes;
-use model::Worker;
 use spoiling::is_spoiled;
+use worker::Worker;
 
 // Whether task p, called for at column c, is spoiled: that is seen at its first column.
 pub fn spoiled_at(z: Sizes, records: &[[u8; 5]], p: usize, c: usize) -> bool

@@ -6,7 +6,7 @@ ghost use Rattle.model.specs.Refusal.{columnCall};
 ghost use Rattle.records.specs.Records.{lent};
 use model::CallReply;
 use model::Sizes;
-use model::Worker;
+use worker::Worker;
 
 // A column call, over the first n of a slice of records.
 pub fn column_part(

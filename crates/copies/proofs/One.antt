@@ -11,13 +11,14 @@ use lib.ListN.{length, getD, set, take, List·getD-eq-default, length-take}
 use lib.Seq.{set-getD, getD-take}
 use Rattle.model.specs.declared.Sizes.{Sizes}
 use Rattle.model.specs.declared.TaskRecord.{TaskRecord}
-use Rattle.model.specs.declared.Worker.{Worker}
+use Rattle.worker.specs.declared.Worker.{Worker}
 use Rattle.model.specs.declared.Answer.{Answer}
 use Rattle.model.specs.declared.Answer.the-variants.{Accepted, Refused}
 use Rattle.model.specs.declared.CallReply.{CallReply}
 use Rattle.model.specs.Task.{T-1}
 use Rattle.model.specs.Plan.{planOf}
-use Rattle.model.specs.Calls.{Lent, worker, idle, recordOf, withMark, marked, took, columnOf, advanced}
+use Rattle.model.specs.Calls.{Lent, worker, recordOf, withMark, marked, took, columnOf, advanced}
+use Rattle.worker.specs.Holding.{idle}
 use Rattle.model.specs.Refusal.{Reply, replied, badSizes, badLengths, damaged, badTiles, noWorker, takeAnswer, takeCall, columnAnswer, columnCall}
 use Rattle.laws.proofs.Refusals.{passed}
 use Rattle.laws.proofs.Tests.{lt-or-le, never, or-right}

@@ -15,12 +15,12 @@ use entries::bad_entries;
 use holds::bad_holds;
 use model::Sizes;
 use model::TaskRecord;
-use model::Worker;
 use numbering::Triple;
 use numbering::next;
 use numbering::record_of;
 use numbering::task_count;
 use records::record_at;
+use worker::Worker;
 use workers::bad_workers;
 
 // Whether a record differs from the one due in more than its mark, or its mark exceeds 4.

@@ -6,14 +6,15 @@ use mathlib.Core.Path.{_≡_, refl, sym, ap, subst}
 use lib.ListN.{length, getD}
 use borrow.Author.Tests.{lt-leb, not-false}
 use Rattle.model.specs.declared.Sizes.{Sizes}
-use Rattle.model.specs.declared.Worker.{Worker}
+use Rattle.worker.specs.declared.Worker.{Worker}
 use Rattle.model.specs.declared.Answer.the-variants.{Accepted}
 use Rattle.model.specs.Lists.{below, some}
 use Rattle.model.specs.Tile.{allFinite}
 use Rattle.model.specs.Task.{tasks}
 use Rattle.model.specs.Plan.{plan, planOf}
 use Rattle.model.specs.Links.{ready}
-use Rattle.model.specs.Calls.{Lent, marksOf, idle, worker}
+use Rattle.model.specs.Calls.{Lent, marksOf, worker}
+use Rattle.worker.specs.Holding.{idle}
 use Rattle.model.specs.Refusal.{badSizes, noWorker, badLengths, badRecord, badHold, badWorker, badEntry, damaged, takeAnswer, columnAnswer, runAnswer}
 use Rattle.laws.proofs.Refusals.{passed}
 use Rattle.laws.proofs.Tests.{never, false-if, or-false, false-or, fails-below}

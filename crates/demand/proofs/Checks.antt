@@ -16,7 +16,8 @@ use Rattle.model.specs.Lists.{some, keep}
 use Rattle.model.specs.Task.{Task, T-1, tasks, kindOf, kOf, iOf, jOf}
 use Rattle.model.specs.Plan.{plan, planOf, order}
 use Rattle.model.specs.Links.{task, mark}
-use Rattle.model.specs.Calls.{Lent, marksOf, recordOf, idle, worker}
+use Rattle.model.specs.Calls.{Lent, marksOf, recordOf, worker}
+use Rattle.worker.specs.Holding.{idle}
 use Rattle.model.specs.Refusal.{refuse, replied, holds, badLengths, badRecord, badHold, badWorker}
 use Rattle.laws.proofs.Every.{getD-any}
 use Rattle.laws.proofs.Tests.{never, and-left, and-right, and-intro, false-if}

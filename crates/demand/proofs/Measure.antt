@@ -12,12 +12,13 @@ use lib.ListN.{length, getD, set, replicate}
 use borrow.Author.Tests.{ne-eqb}
 use Rattle.model.specs.declared.Sizes.{Sizes}
 use Rattle.model.specs.declared.TaskRecord.{TaskRecord}
-use Rattle.model.specs.declared.Worker.{Worker}
+use Rattle.worker.specs.declared.Worker.{Worker}
 use Rattle.model.specs.declared.RunAnswer.the-variants.{Finished}
 use Rattle.model.specs.Task.{Task, T-1, tasks}
 use Rattle.model.specs.Plan.{plan, planOf}
 use Rattle.model.specs.Links.{mark, finished}
-use Rattle.model.specs.Calls.{Lent, RunEnd, marksOf, recordOf, withMark, marked, idle, holding, worker, opened, took, columnOf, advanced, runFrom}
+use Rattle.model.specs.Calls.{Lent, RunEnd, marksOf, recordOf, withMark, marked, worker, opened, took, columnOf, advanced, runFrom}
+use Rattle.worker.specs.Holding.{idle, holding}
 use Rattle.cells.proofs.Machine.{count, column-ends}
 use Rattle.demand.proofs.Whole.{AtWork, Whole, in-range, mark-at}
 use Rattle.demand.proofs.Steps.{ready-waits}

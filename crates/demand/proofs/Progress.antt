@@ -11,12 +11,13 @@ use lib.Dec.{eqb}
 use lib.ListN.{length, getD}
 use borrow.Author.Tests.{eq-eqb, not-true}
 use Rattle.model.specs.declared.Sizes.{Sizes}
-use Rattle.model.specs.declared.Worker.{Worker}
+use Rattle.worker.specs.declared.Worker.{Worker}
 use Rattle.model.specs.Lists.{run, below, some, keep, firstOr}
 use Rattle.model.specs.Task.{tasks}
 use Rattle.model.specs.Plan.{plan, planOf}
 use Rattle.model.specs.Links.{mark, finished, linked, linksTo, ready}
-use Rattle.model.specs.Calls.{Lent, marksOf, idle, worker, took, advanced, readyTasks, allFinished, hasWork, turn, nextWorker}
+use Rattle.model.specs.Calls.{Lent, marksOf, worker, took, advanced, readyTasks, allFinished, hasWork, turn, nextWorker}
+use Rattle.worker.specs.Holding.{idle}
 use Rattle.model.specs.Refusal.{holds}
 use Rattle.model.specs.History.{turnTask}
 use Rattle.order_free.proofs.Progress.{Least, least}

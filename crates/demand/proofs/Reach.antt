@@ -8,7 +8,7 @@ use native.Mathlib.Omega.{arith}
 use lib.Dec.{eqb, ltb}
 use borrow.Author.Tests.{lt-ltb}
 use Rattle.model.specs.declared.Sizes.{Sizes}
-use Rattle.model.specs.declared.Worker as MW
+use Rattle.worker.specs.declared.Worker as MW
 use Rattle.model.specs.Task.{tasks}
 use Rattle.model.specs.Plan.{planOf}
 use Rattle.model.specs.Links.{mark}

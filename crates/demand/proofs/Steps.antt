@@ -13,7 +13,8 @@ use Rattle.model.specs.Plan.{plan, planOf}
 use Rattle.model.specs.Links.{task, mark, finished, ready}
 use Rattle.model.specs.Links as ML
 use Rattle.model.specs.Buffer.{Buffers, Ended, sound, columnEnds}
-use Rattle.model.specs.Calls.{Lent, marksOf, idle, holding, worker, took, columnOf, advanced}
+use Rattle.model.specs.Calls.{Lent, marksOf, worker, took, columnOf, advanced}
+use Rattle.worker.specs.Holding.{idle, holding}
 use Rattle.model.specs.Refusal.{holds}
 use Rattle.order_free.specs.Graph.{Mark, spoils}
 use Rattle.order_free.specs.Graph as G

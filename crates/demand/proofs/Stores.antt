@@ -11,11 +11,12 @@ use lib.Seq.{getD-set-same, getD-set-other}
 use borrow.Author.Tests.{eqb-true, eq-eqb}
 use Rattle.model.specs.declared.Sizes.{Sizes}
 use Rattle.model.specs.declared.TaskRecord.{TaskRecord}
-use Rattle.model.specs.declared.Worker.{Worker}
+use Rattle.worker.specs.declared.Worker.{Worker}
 use Rattle.model.specs.Task.{T-1, tasks}
 use Rattle.model.specs.Links.{task, mark}
 use Rattle.model.specs.Buffer.{Buffers}
-use Rattle.model.specs.Calls.{Lent, marksOf, recordOf, withMark, marked, idle, worker}
+use Rattle.model.specs.Calls.{Lent, marksOf, recordOf, withMark, marked, worker}
+use Rattle.worker.specs.Holding.{idle}
 use Rattle.model.specs.Refusal.{holds}
 use Rattle.laws.proofs.Tests.{never, and-left, and-right, and-intro, same-or-not}
 use Rattle.cells.specs.Cells.{view}

@@ -20,7 +20,8 @@ use Rattle.model.specs.Plan.{plan, planOf}
 use Rattle.model.specs.Links.{task, mark}
 use Rattle.model.specs.Buffer.{Buffers, tileOf, tile, rowsOf, rows}
 use Rattle.model.specs.Loops.{start}
-use Rattle.model.specs.Calls.{Lent, marksOf, recordOf, idle, worker, opened}
+use Rattle.model.specs.Calls.{Lent, marksOf, recordOf, worker, opened}
+use Rattle.worker.specs.Holding.{idle}
 use Rattle.model.specs.Refusal.{inside, badSizes, holds}
 use Rattle.laws.proofs.Tests.{never, and-left, and-right}
 use Rattle.cells.specs.Cells.{view, listAt}

@@ -9,15 +9,12 @@ use lib.Dec.{leb}
 use lib.ListN.{length, replicate, length-append, length-replicate}
 use borrow.Author.Tests.{le-leb, lt-leb}
 use Rattle.laws.proofs.Tests.{Order, less, equal, more, order}
+use Rattle.laws.proofs.Texts.{length-entries}
 use Rattle.model.specs.Lists.{below, joined}
-use Rattle.model.specs.Read.{field, entriesIn}
+use Rattle.model.specs.Read.{entriesIn}
 use Rattle.numbers_read.specs.Decoded.{lineAt}
 use Rattle.entries_read.specs.Entries.{listSize, ListLine, ListLines, above, listFrom, rowFrom}
-use Rattle.numbers_read.proofs.Filled.{length-table, table-last, joined-append, length-run, length-joined}
-
-pub length-entries : (t : ℕ) (l : List ℕ) → length (entriesIn t l) ≡ t
-unfolding entriesIn
-length-entries t l = length-table (λ x. field (6 + 2 * x) 2 l) t
+use Rattle.numbers_read.proofs.Filled.{table-last, joined-append, length-run, length-joined}
 
 module _ (t a : ℕ) (text : List ℕ) (i : ℕ) where
   pub list-above : (j : ℕ) → i < j → replicate t 0 ≡ listFrom t a text i j

@@ -8,9 +8,9 @@ ghost use Rattle.model.specs.Plan.{planOf};
 ghost use Rattle.model.specs.Refusal.{holds as holdsTask, badHold};
 ghost use Rattle.checks.specs.Checks.{Sized, RecordsFit, held};
 use model::Sizes;
-use model::Worker;
 use numbering::task_count;
 use records::mark_of;
+use worker::Worker;
 
 // Whether the worker holds task p.
 fn holds(h: Worker, p: usize) -> bool

@@ -5,7 +5,7 @@ use mathlib.Core.List.{List}
 use lib.Ieee.{Float}
 use lib.ListN.{drop}
 use Rattle.model.specs.declared.Answer.{Answer}
-use Rattle.model.specs.declared.Worker.{Worker}
+use Rattle.worker.specs.declared.Worker.{Worker}
 use Rattle.model.specs.declared.CallReply.{CallReply}
 use Rattle.model.specs.declared.RunReply.{RunReply}
 use Rattle.model.specs.Calls.{Lent, RunEnd}

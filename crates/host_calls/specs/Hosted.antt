@@ -6,7 +6,7 @@ use mathlib.Core.List.{List}
 use lib.ListN.{drop}
 use lib.Ieee.{Float}
 use Rattle.model.specs.declared.Sizes.{Sizes}
-use Rattle.model.specs.declared.Worker.{Worker}
+use Rattle.worker.specs.declared.Worker.{Worker}
 use Rattle.model.specs.Calls.{Lent, RunEnd}
 use Rattle.model.specs.Refusal.{Reply}
 use Rattle.model.specs.Solve.{Answers}

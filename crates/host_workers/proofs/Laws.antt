@@ -7,8 +7,8 @@ use mathlib.Core.Path.{_≡_, sym, subst, _∙_}
 use mathlib.Core.List.{List}
 use lib.ListN.{length, getD, set, length-set}
 use lib.Seq.{getD-set-same, getD-set-other}
-use Rattle.model.specs.declared.Worker.{Worker}
-use Rattle.model.specs.Calls.{idle}
+use Rattle.worker.specs.declared.Worker.{Worker}
+use Rattle.worker.specs.Holding.{idle}
 use Rattle.laws.proofs.Tests.{lt-or-le}
 use Rattle.laws.proofs.Blocks.{table-unique}
 use Rattle.host_workers.specs.Workers.{workerIn, workersIn}

@@ -1,7 +1,7 @@
 // The workers of a host: 32 slots in three arrays.
 ghost use mathlib.Core.Path.{_≡_};
 ghost use Rattle.host_workers.specs.Workers.{workersIn};
-use model::Worker;
+use worker::Worker;
 
 // The 32 worker slots as three arrays.
 pub struct Slots {

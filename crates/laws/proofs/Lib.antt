@@ -4,3 +4,4 @@ pub mod Parts
 pub mod Every
 pub mod Finite
 pub mod Refusals
+pub mod Texts

@@ -7,7 +7,8 @@ use lib.ListN.{length, getD, set, replicate}
 use lib.Dec.{eqb}
 use lib.Ieee.{Float}
 use Rattle.model.specs.declared.TaskRecord.{TaskRecord}
-use Rattle.model.specs.declared.Worker.{Worker}
+use Rattle.worker.specs.declared.Worker.{Worker}
+use Rattle.worker.specs.Holding.{idle, holding}
 use Rattle.model.specs.declared.RunAnswer.{RunAnswer}
 use Rattle.model.specs.declared.RunAnswer.the-variants.{Finished, Spent}
 use Rattle.model.specs.Lists.{below, every, keep, firstOr}
@@ -42,13 +43,6 @@ withMark m r = record { kind = r .kind; k = r .k; i = r .i; j = r .j; mark = m }
 -- the records with the mark m for task p
 unfoldable pub marked : ℕ → ℕ → List TaskRecord → List TaskRecord
 marked p m rs = set rs p (withMark m (getD rs p (recordOf (T-1 0))))
-
--- a worker that holds no task, and one that holds task p with c its next column
-abbrev pub idle : Worker
-idle = record { busy = false; task = 0; column = 0 }
-
-abbrev pub holding : ℕ → ℕ → Worker
-holding p c = record { busy = true; task = p; column = c }
 
 unfoldable pub worker : Lent → ℕ → Worker
 worker s w = getD (s .workers) w idle

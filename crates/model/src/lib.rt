@@ -1,7 +1,5 @@
 // The types that the definitions in specs/ and the code share. The definitions are document 01's, section by section.
-ghost use mathlib.Core.Path.{_≡_};
-ghost use Prim.Native.Nat.{_+_, _<_};
-ghost use Rattle.model.specs.Calls.{idle, holding};
+use worker::Worker;
 
 // What a call is told of a system: N tiles a side, each tile t numbers a side, and W workers.
 #[repr(C)]
@@ -19,55 +17,6 @@ pub struct TaskRecord {
     pub i: u8,
     pub j: u8,
     pub mark: u8,
-}
-
-// A worker: idle, or a task and its next column.
-pub struct Worker {
-    pub busy: bool,
-    pub task: u16,
-    pub column: u8,
-}
-
-impl Worker {
-    pub fn idle() -> Worker
-        ensures { λ r. ⌜ r ≡ idle ⌝ }
-    {
-        Worker {
-            busy: false,
-            task: 0,
-            column: 0,
-        }
-    }
-
-    // The worker takes a task, whose next column is 0.
-    pub fn take(mut self, task: u16) -> Worker
-        ensures { λ r. ⌜ r ≡ holding task 0 ⌝ }
-    {
-        self.busy = true;
-        self.task = task;
-        self.column = 0;
-        self
-    }
-
-    // The worker's next column is one further.
-    pub fn advance(mut self) -> Worker
-        requires { ⌜ self .column < 255 ⌝ }
-        ensures { λ r. ⌜ r ≡ holding (self .task) (self .column + 1) ⌝ }
-    {
-        self.busy = true;
-        self.column += 1;
-        self
-    }
-
-    // The worker's task has finished.
-    pub fn release(mut self) -> Worker
-        ensures { λ r. ⌜ r ≡ idle ⌝ }
-    {
-        self.busy = false;
-        self.task = 0;
-        self.column = 0;
-        self
-    }
 }
 
 // The winner of a pivot search: its place among the candidates, and its magnitude.

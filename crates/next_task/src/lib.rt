@@ -4,12 +4,13 @@ ghost use mathlib.Core.Bool.{cond};
 ghost use Prim.Native.Nat.{suc, min, _<_};
 ghost use lib.ListN.{length};
 ghost use Rattle.model.specs.Links.{taken};
-ghost use Rattle.model.specs.Calls.{holding, marked};
+ghost use Rattle.worker.specs.Holding.{holding};
+ghost use Rattle.model.specs.Calls.{marked};
 ghost use Rattle.records.specs.Records.{recordsFrom};
 ghost use Rattle.next_task.specs.NextTask.{Passed, LowestReady};
-use model::Worker;
 use readiness::is_ready;
 use record_changes::set_mark;
+use worker::Worker;
 
 // The lowest ready task, where none below `from` is ready: the number of tasks where there is none.
 pub fn lowest_ready(n: usize, records: &[[u8; 5]], from: usize) -> usize

@@ -8,8 +8,8 @@ use native.Mathlib.Nat.{add-zero, mod-eq-of-lt, mod-self, mod-add-mod, mul-add-m
 use native.Mathlib.Omega.{arith}
 use lib.ListN.{getD}
 use Rattle.laws.proofs.Tests.{lt-or-le}
-use Rattle.model.specs.declared.Worker.{Worker}
-use Rattle.model.specs.Calls.{idle}
+use Rattle.worker.specs.declared.Worker.{Worker}
+use Rattle.worker.specs.Holding.{idle}
 use Rattle.next_worker.specs.NextWorker.{NextBusy, busy-after}
 
 -- ---- the worker after v

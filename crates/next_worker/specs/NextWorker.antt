@@ -4,8 +4,8 @@ use mathlib.Core.Bool.{true, false}
 use mathlib.Core.Path.{_≡_}
 use mathlib.Core.List.{List}
 use lib.ListN.{getD}
-use Rattle.model.specs.declared.Worker.{Worker}
-use Rattle.model.specs.Calls.{idle}
+use Rattle.worker.specs.declared.Worker.{Worker}
+use Rattle.worker.specs.Holding.{idle}
 
 -- v is the first busy worker from w on, counting W of them round, or W where none is busy
 pub data NextBusy (slots : List Worker) (W w : ℕ) : ℕ → Type 0 where

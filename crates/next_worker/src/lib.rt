@@ -2,7 +2,7 @@
 ghost use mathlib.Core.Path.{_≡_};
 ghost use Prim.Native.Nat.{suc, _%_, _≤_, _<_};
 ghost use Rattle.next_worker.specs.NextWorker.{NextBusy};
-use model::Worker;
+use worker::Worker;
 
 // The worker after v, of `count`.
 pub fn after(count: usize, v: usize) -> usize

@@ -5,10 +5,10 @@ ghost use Rattle.one_worker.specs.Alone.{Lendable, alone, published};
 use failures::outcome_of;
 use model::Outcome;
 use model::Sizes;
-use model::Worker;
 use numbering::task_count;
 use opening::open;
 use runs::run;
+use worker::Worker;
 
 // Worker slots for an opening.
 fn idle_slots() -> [Worker; 32] {

@@ -8,10 +8,10 @@ use loading::load;
 use model::CallReply;
 use model::Sizes;
 use model::TaskRecord;
-use model::Worker;
 use open_part::open_part;
 use storing::store;
 use task_records::looked_at;
+use worker::Worker;
 
 // Opens a system.
 // Of the 32 worker slots the first z.workers are lent, and the others stay as they are.

@@ -2,7 +2,7 @@
 ghost use mathlib.Core.Path.{_≡_};
 ghost use mathlib.Core.List.{List};
 ghost use lib.ListN.{length};
-ghost use Rattle.model.specs.declared.Worker.{Worker as SomeWorker};
+ghost use Rattle.worker.specs.declared.Worker.{Worker as SomeWorker};
 ghost use Rattle.model.specs.Refusal.{openAnswer};
 ghost use Rattle.records.specs.Records.{lent};
 use checks::sizes::bad_lengths;

@@ -6,7 +6,7 @@ ghost use Rattle.model.specs.Refusal.{openCall};
 ghost use Rattle.records.specs.Records.{lent};
 use model::CallReply;
 use model::Sizes;
-use model::Worker;
+use worker::Worker;
 
 // The opening, over the first n of a slice of records.
 pub fn open_part(

@@ -7,10 +7,11 @@ use native.Mathlib.Omega.{arith}
 use lib.ListN.{length, getD, set, take, replicate, length-map, List·getD-map, replicate-append-replicate}
 use lib.Seq.{ext-getD, getD-set-same, getD-set-other, take-suc-set}
 use Rattle.model.specs.declared.TaskRecord.{TaskRecord}
-use Rattle.model.specs.declared.Worker.{Worker}
+use Rattle.worker.specs.declared.Worker.{Worker}
 use Rattle.model.specs.Task.{T-1, tasks}
 use Rattle.model.specs.Links.{task}
-use Rattle.model.specs.Calls.{recordOf, idle}
+use Rattle.model.specs.Calls.{recordOf}
+use Rattle.worker.specs.Holding.{idle}
 use Rattle.laws.proofs.Tests.{same-or-not}
 use Rattle.links.specs.Closed.{Key, key, In, taskAt, offset, number}
 use Rattle.links.proofs.Numbering.{task-is}

@@ -4,16 +4,17 @@ ghost use mathlib.Core.List.{map};
 ghost use Prim.Native.Nat.{_≤_};
 ghost use lib.ListN.{take, drop, replicate};
 ghost use Rattle.model.specs.Task.{tasks};
-ghost use Rattle.model.specs.Calls.{recordOf, idle};
+ghost use Rattle.model.specs.Calls.{recordOf};
+ghost use Rattle.worker.specs.Holding.{idle};
 ghost use Rattle.records.specs.Records.{recordsFrom};
 ghost use Rattle.checks.specs.Checks.{Sized, RecordsFit};
 use model::Sizes;
-use model::Worker;
 use numbering::first;
 use numbering::next;
 use numbering::record_of;
 use numbering::task_count;
 use record_changes::put_record;
+use worker::Worker;
 
 // Sets the records to the numbering and waiting.
 pub fn number_records(z: Sizes, records: &mut [[u8; 5]])

@@ -7,14 +7,15 @@ use lib.Ieee.{Float}
 use lib.ListN.{length, take, replicate}
 use lib.Seq.{drop-length}
 use Rattle.model.specs.declared.Sizes.{Sizes}
-use Rattle.model.specs.declared.Worker.{Worker}
+use Rattle.worker.specs.declared.Worker.{Worker}
 use Rattle.model.specs.declared.Answer.{Answer}
 use Rattle.model.specs.declared.Answer.the-variants.{Accepted}
 use Rattle.model.specs.Lists.{withPart}
 use Rattle.model.specs.Task.{tasks}
 use Rattle.model.specs.Plan.{plan, planOf}
 use Rattle.model.specs.Loops.{start}
-use Rattle.model.specs.Calls.{Lent, recordOf, idle, opened}
+use Rattle.model.specs.Calls.{Lent, recordOf, opened}
+use Rattle.worker.specs.Holding.{idle}
 use Rattle.model.specs.Refusal.{Reply, replied, badSizes, badLengths, openAnswer, openCall}
 use Rattle.laws.proofs.Refusals.{passed}
 use Rattle.records.specs.Records.{recordsFrom, lent}

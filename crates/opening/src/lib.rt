@@ -7,10 +7,10 @@ use answers::accepted;
 use fills::fill::fill_entries;
 use model::CallReply;
 use model::Sizes;
-use model::Worker;
 use open_checks::open_answer;
 use opened::idle_workers;
 use opened::number_records;
+use worker::Worker;
 
 // Opens a system. Of the 32 worker slots the first z.workers are its workers, and the others stay as they are.
 pub fn open(

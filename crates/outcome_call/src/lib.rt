@@ -6,9 +6,9 @@ use loading::load;
 use model::OutcomeAnswer;
 use model::Sizes;
 use model::TaskRecord;
-use model::Worker;
 use outcome_part::outcome_part;
 use task_records::looked_at;
+use worker::Worker;
 
 // The outcome once every task is finished, and before that the lowest unfinished task. Nothing is changed.
 pub fn outcome(

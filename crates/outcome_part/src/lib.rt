@@ -6,7 +6,7 @@ ghost use Rattle.model.specs.Refusal.{outcomeCall};
 ghost use Rattle.records.specs.Records.{lent};
 use model::OutcomeAnswer;
 use model::Sizes;
-use model::Worker;
+use worker::Worker;
 
 // The outcome, over the first n of a slice of records.
 pub fn outcome_part(

@@ -6,7 +6,7 @@ use mathlib.Core.List.{List}
 use lib.Ieee.{Float}
 use lib.ListN.{length}
 use Rattle.model.specs.declared.Sizes.{Sizes}
-use Rattle.model.specs.declared.Worker.{Worker}
+use Rattle.worker.specs.declared.Worker.{Worker}
 use Rattle.model.specs.declared.Outcome.{Outcome}
 use Rattle.model.specs.declared.OutcomeAnswer.the-variants.{Ended, Unfinished, OutcomeRefused}
 use Rattle.model.specs.Lists.{below, keep, firstOr}

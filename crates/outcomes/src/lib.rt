@@ -8,8 +8,8 @@ use failures::outcome_of;
 use finite_numbers::Lowest;
 use model::OutcomeAnswer;
 use model::Sizes;
-use model::Worker;
 use unfinished::first_unfinished;
+use worker::Worker;
 
 // The outcome once every task is finished, and before that the lowest unfinished task. Nothing is changed.
 pub fn outcome(

@@ -1,6 +1,5 @@
 // For test programs: plays a script of calls, one a line, and answers each with a line (reference/README.md has the format). The buffers
 // lent are the fronts of the slices given; what a line lends beyond them is dropped.
-use model::Worker;
 use play_answers::print;
 use play_fields::line_end;
 use play_fields::two;
@@ -8,6 +7,7 @@ use play_lends::Lent;
 use play_lends::lend;
 use play_lines::play_lent;
 use play_solves::solve_lent;
+use worker::Worker;
 
 const LEND: u8 = 16;
 

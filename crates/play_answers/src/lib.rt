@@ -7,7 +7,6 @@ use model::Outcome;
 use model::OutcomeAnswer;
 use model::RunAnswer;
 use model::TaskRecord;
-use model::Worker;
 use play_fields::at_most;
 use records::record_at;
 use script::bits;
@@ -17,6 +16,7 @@ use script::mixed_numbers;
 use script::put;
 use script::set_byte;
 use script::wide;
+use worker::Worker;
 
 // What an answer says: a refusal's number and place, and for a run or an outcome how it ended, with a count or a place.
 pub struct Said {

@@ -1,12 +1,12 @@
 // For test programs: the calls that the lines of a script ask for, on what is lent (reference/README.md has the format).
 use model::Sizes;
-use model::Worker;
 use play_answers::answer_said;
 use play_answers::outcome_said;
 use play_answers::run_said;
 use play_fields::Call;
 use play_starts::Played;
 use play_starts::play_start;
+use worker::Worker;
 
 const COLUMN: u8 = 19;
 

@@ -6,7 +6,6 @@ ghost use Prim.Native.Nat.{_≤_};
 ghost use lib.ListN.{length};
 use model::Answer;
 use model::Sizes;
-use model::Worker;
 use play_answers::put_bytes;
 use play_answers::put_numbers;
 use play_fields::at_most;
@@ -17,6 +16,7 @@ use records::mark_of;
 use script::put;
 use script::set_byte;
 use script::wide;
+use worker::Worker;
 
 // ---- the state that a case stands for
 

@@ -3,10 +3,10 @@ ghost use Prim.Native.Nat.{_≤_};
 ghost use lib.ListN.{length};
 use model::Sizes;
 use model::TaskRecord;
-use model::Worker;
 use record_changes::put_record;
 use script::float;
 use script::number;
+use worker::Worker;
 
 // The smaller of the two.
 pub fn at_most(x: u64, top: usize) -> usize

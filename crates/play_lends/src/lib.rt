@@ -1,13 +1,13 @@
 // For test programs: what a line of a script lends (reference/README.md has the format).
 ghost use Prim.Native.Nat.{_≤_};
 ghost use lib.ListN.{length};
-use model::Worker;
 use play_fields::at_most;
 use play_fields::read_bytes;
 use play_fields::read_numbers;
 use play_fields::read_records;
 use play_fields::read_workers;
 use script::number;
+use worker::Worker;
 
 // How much of each buffer is lent, the workers, and the length of the last answer.
 pub struct Lent {

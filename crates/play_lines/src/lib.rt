@@ -1,5 +1,4 @@
 // For test programs: the answer to a line of a script, on the fronts of the buffers that are lent (reference/README.md has the format).
-use model::Worker;
 use play_answers::put_digest;
 use play_answers::put_said;
 use play_calls::play_call;
@@ -7,6 +6,7 @@ use play_fields::Call;
 use play_fields::at_most;
 use play_fields::call_of;
 use play_lends::Lent;
+use worker::Worker;
 
 // What an answered line leaves: the workers, and the length of its answer.
 struct Answered {

@@ -4,7 +4,6 @@ ghost use mathlib.Core.Path.{_≡_};
 ghost use Prim.Native.Nat.{_≤_};
 ghost use lib.ListN.{length};
 use model::Sizes;
-use model::Worker;
 use play_answers::answer_said;
 use play_answers::put_digest;
 use play_answers::put_numbers;
@@ -13,6 +12,7 @@ use play_fields::at_most;
 use play_fields::call_of;
 use play_lends::Lent;
 use play_lends::lend_numbers;
+use worker::Worker;
 
 // Solves, and writes the answer and the numbers of the answers to the front of out; the length of that.
 fn answer_solve(

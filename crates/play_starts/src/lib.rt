@@ -1,9 +1,9 @@
 // For test programs: openings and takes that the lines of a script ask for, on what is lent (reference/README.md has the format).
 use model::Answer;
-use model::Worker;
 use play_answers::Said;
 use play_answers::answer_said;
 use play_fields::Call;
+use worker::Worker;
 
 const OPEN: u8 = 17;
 

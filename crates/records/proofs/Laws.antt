@@ -4,7 +4,7 @@ use mathlib.Core.Path.{_≡_, refl, _∙_}
 use mathlib.Core.List.{List, []}
 use lib.ListN.{length, getD, length-map, List·getD-map}
 use lib.Ieee.{Float}
-use Rattle.model.specs.declared.Worker.{Worker}
+use Rattle.worker.specs.declared.Worker.{Worker}
 use Rattle.model.specs.Links.{mark}
 use Rattle.model.specs.Calls.{marksOf}
 use Rattle.records.specs.Records.{recordFrom, recordsFrom, marksFrom, blank, lent}

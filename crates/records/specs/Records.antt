@@ -5,7 +5,7 @@ use mathlib.Core.List.{List, map}
 use lib.ListN.{getD, take}
 use lib.Ieee.{Float}
 use Rattle.model.specs.declared.TaskRecord.{TaskRecord}
-use Rattle.model.specs.declared.Worker.{Worker}
+use Rattle.worker.specs.declared.Worker.{Worker}
 use Rattle.model.specs.Calls.{Lent}
 
 -- the record that five bytes hold

@@ -10,11 +10,11 @@ use lib.Dec.{leb}
 use lib.ListN.{length, getD, drop, length-append, length-drop, length-take, length-replicate, replicate, List·getD-eq-default}
 use lib.Seq.{length-take-le, take-all, getD-take, getD-drop}
 use borrow.Author.Tests.{le-leb, lt-leb}
-use Rattle.model.specs.Lists.{run, below, table, joined, part}
+use Rattle.model.specs.Lists.{run, below, joined, part}
 use Rattle.model.specs.Buffer.{rows}
-use Rattle.model.specs.Read.{field, entriesIn, listLine, listsOf}
+use Rattle.model.specs.Read.{entriesIn, listLine, listsOf}
 use Rattle.laws.proofs.Tests.{lt-or-le}
-use Rattle.laws.proofs.Blocks.{length-table}
+use Rattle.laws.proofs.Texts.{length-entries}
 use Rattle.digits_written.proofs.Put.{joined-below}
 use Rattle.digits_written.proofs.Pieces.{length-joined}
 use Rattle.round_trip.specs.Trips.{Lists}
@@ -105,10 +105,6 @@ module _ (N t : ℕ) (f : ℕ → ℕ → List ℕ) (size : (i j : ℕ) → leng
 -- what is read for list (i,j): above the diagonal 0
 abbrev listRead : ℕ → ℕ → List (List ℕ) → ℕ → ℕ → List ℕ
 listRead N t ls i j = cond (leb j i) (entriesIn t (getD ls (listLine N i j) [])) (replicate t 0)
-
-length-entries : (t : ℕ) (l : List ℕ) → length (entriesIn t l) ≡ t
-unfolding entriesIn table
-length-entries t l = length-table t (λ x. field (6 + 2 * x) 2 l)
 
 length-read : (N t : ℕ) (ls : List (List ℕ)) (i j : ℕ) → length (listRead N t ls i j) ≡ t
 length-read N t ls i j = go (leb j i)

@@ -8,10 +8,10 @@ use loading::load;
 use model::RunReply;
 use model::Sizes;
 use model::TaskRecord;
-use model::Worker;
 use run_part::run_part;
 use storing::store;
 use task_records::looked_at;
+use worker::Worker;
 
 // Runs a system for at most `budget` calls. The answer has the count of the calls made.
 // Of the 32 worker slots the first z.workers are lent, and the others stay as they are.

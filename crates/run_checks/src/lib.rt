@@ -8,7 +8,7 @@ use damage::damaged;
 use finite_numbers::all_finite;
 use model::Answer;
 use model::Sizes;
-use model::Worker;
+use worker::Worker;
 
 // What refusals 1, 2 and 4 say.
 pub fn run_answer(

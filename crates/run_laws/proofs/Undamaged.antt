@@ -9,12 +9,13 @@ use lib.Dec.{eqb, leb, ltb}
 use lib.ListN.{length, getD}
 use borrow.Author.Tests.{eqb-true, eq-eqb, leb-true, ltb-true, ltb-false, not-false}
 use Rattle.model.specs.declared.TaskRecord.{TaskRecord}
-use Rattle.model.specs.declared.Worker.{Worker}
+use Rattle.worker.specs.declared.Worker.{Worker}
 use Rattle.model.specs.Lists.{below, some, keep}
 use Rattle.model.specs.Plan.{Plan}
 use Rattle.model.specs.Task.{Task, kindOf, kOf, iOf, jOf}
 use Rattle.model.specs.Links.{task, mark, taken}
-use Rattle.model.specs.Calls.{Lent, marksOf, recordOf, worker, idle}
+use Rattle.model.specs.Calls.{Lent, marksOf, recordOf, worker}
+use Rattle.worker.specs.Holding.{idle}
 use Rattle.model.specs.Refusal.{holds, badRecord, badHold, badWorker, entryLimit, badEntry, damaged}
 use Rattle.laws.proofs.Tests.{never, and-left, and-right, or-false-left, or-false-right, fails-below}
 use Rattle.laws.proofs.Blocks.{in-block, row-of, column-of}

@@ -6,7 +6,7 @@ ghost use Rattle.model.specs.Refusal.{runCall};
 ghost use Rattle.records.specs.Records.{lent};
 use model::RunReply;
 use model::Sizes;
-use model::Worker;
+use worker::Worker;
 
 // The run, over the first n of a slice of records.
 pub fn run_part(

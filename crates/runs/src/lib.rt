@@ -7,9 +7,9 @@ use model::Answer;
 use model::RunAnswer;
 use model::RunReply;
 use model::Sizes;
-use model::Worker;
 use run_checks::run_answer;
 use turns::take_turns;
+use worker::Worker;
 
 // Runs a system with z.workers workers, of the 32 slots the first, for at most `budget` calls. The answer has the count of the calls made.
 pub fn run(

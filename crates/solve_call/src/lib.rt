@@ -6,9 +6,9 @@ use loading::load;
 use model::Answer;
 use model::Sizes;
 use model::TaskRecord;
-use model::Worker;
 use solve_part::solve_part;
 use task_records::looked_at;
+use worker::Worker;
 
 // Solves a factored system for one right side. Only the answers are changed, and only where the call is accepted.
 pub fn solve(

@@ -3,7 +3,7 @@ ghost use mathlib.Core.Path.{_≡_};
 ghost use mathlib.Core.Bool.{not};
 ghost use mathlib.Core.List.{List};
 ghost use Prim.Native.Nat.{ℕ};
-ghost use Rattle.model.specs.declared.Worker.{Worker as SomeWorker};
+ghost use Rattle.worker.specs.declared.Worker.{Worker as SomeWorker};
 ghost use Rattle.model.specs.declared.Answer.the-variants.{Accepted};
 ghost use Rattle.model.specs.Tile.{allFinite};
 ghost use Rattle.model.specs.Refusal.{refuse, firstNotFinite};
@@ -21,8 +21,8 @@ use finite_numbers::first_not_finite;
 use model::Answer;
 use model::Outcome;
 use model::Sizes;
-use model::Worker;
 use unfinished::first_unfinished;
+use worker::Worker;
 
 // Refusal 3.
 fn right_answer(right: &[f64]) -> Answer

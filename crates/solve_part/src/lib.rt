@@ -6,7 +6,7 @@ ghost use Rattle.model.specs.Solve.{solveCall};
 ghost use Rattle.records.specs.Records.{lent};
 use model::Answer;
 use model::Sizes;
-use model::Worker;
+use worker::Worker;
 
 // A solve, over the first n of a slice of records.
 pub fn solve_part(

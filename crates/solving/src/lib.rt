@@ -11,9 +11,9 @@ ghost use Rattle.records.specs.Records.{lent};
 ghost use Rattle.progress.specs.Right.{Solvable, RightSide};
 use model::Answer;
 use model::Sizes;
-use model::Worker;
 use solutions::solve_in;
 use solve_checks::solve_answer;
+use worker::Worker;
 
 // Solves in the front of the work slice, which has room for the largest order.
 fn solve_with(

@@ -7,7 +7,7 @@ use checks::sizes::bad_sizes;
 use damage::damaged;
 use model::Answer;
 use model::Sizes;
-use model::Worker;
+use worker::Worker;
 
 // The first of these refusals that holds of what is lent.
 pub fn state_answer(

@@ -8,11 +8,11 @@ use loading::load;
 use model::CallReply;
 use model::Sizes;
 use model::TaskRecord;
-use model::Worker;
 use storing::store;
 use take_part::take_part;
 use task_records::looked_at;
 use task_records::past;
+use worker::Worker;
 
 // Worker w takes task p.
 // Of the 32 worker slots the first z.workers are lent, and the others stay as they are.

@@ -9,13 +9,14 @@ use lib.Ieee.{Float}
 use lib.ListN.{length, getD}
 use borrow.Author.Tests.{le-leb, lt-leb, leb-false}
 use Rattle.model.specs.declared.Sizes.{Sizes}
-use Rattle.model.specs.declared.Worker.{Worker}
+use Rattle.worker.specs.declared.Worker.{Worker}
 use Rattle.model.specs.declared.Answer.{Answer}
 use Rattle.model.specs.declared.Answer.the-variants.{Accepted, Refused}
 use Rattle.model.specs.Task.{tasks}
 use Rattle.model.specs.Plan.{plan, planOf}
 use Rattle.model.specs.Links.{ready}
-use Rattle.model.specs.Calls.{Lent, marksOf, worker, idle}
+use Rattle.model.specs.Calls.{Lent, marksOf, worker}
+use Rattle.worker.specs.Holding.{idle}
 use Rattle.model.specs.Refusal.{refuse, badSizes, badLengths, damaged, noWorker, takeAnswer}
 use Rattle.laws.proofs.Refusals.{passed}
 use Rattle.laws.proofs.Tests.{or-left, or-right, or-false-left}

@@ -5,10 +5,10 @@ ghost use Rattle.records.specs.Records.{lent};
 use answers::accepted;
 use model::Answer;
 use model::Sizes;
-use model::Worker;
 use numbering::task_count;
 use readiness::is_ready;
 use states::state_answer;
+use worker::Worker;
 
 // What the take of task p by worker w answers.
 pub fn take_answer(

@@ -6,7 +6,7 @@ ghost use Rattle.model.specs.Refusal.{takeCall};
 ghost use Rattle.records.specs.Records.{lent};
 use model::CallReply;
 use model::Sizes;
-use model::Worker;
+use worker::Worker;
 
 // A take, over the first n of a slice of records.
 pub fn take_part(

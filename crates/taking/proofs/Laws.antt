@@ -7,10 +7,11 @@ use lib.Ieee.{Float}
 use lib.ListN.{length, set, take}
 use lib.Seq.{take-set-lt}
 use Rattle.model.specs.declared.Sizes.{Sizes}
-use Rattle.model.specs.declared.Worker.{Worker}
+use Rattle.worker.specs.declared.Worker.{Worker}
 use Rattle.model.specs.declared.Answer.{Answer}
 use Rattle.model.specs.Plan.{planOf}
-use Rattle.model.specs.Calls.{Lent, marked, holding, took}
+use Rattle.model.specs.Calls.{Lent, marked, took}
+use Rattle.worker.specs.Holding.{holding}
 use Rattle.model.specs.Refusal.{Reply, replied, takeAnswer, takeCall}
 use Rattle.records.specs.Records.{recordsFrom, lent}
 use Rattle.answers.specs.Answers.{accepts}

@@ -6,9 +6,9 @@ ghost use Rattle.records.specs.Records.{lent};
 use answers::accepted;
 use model::CallReply;
 use model::Sizes;
-use model::Worker;
 use record_changes::set_mark;
 use take_checks::take_answer;
+use worker::Worker;
 
 // Worker w takes task p. Of the 32 worker slots the first z.workers are lent, and the others stay as they are.
 pub fn take(

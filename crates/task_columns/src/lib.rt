@@ -1,7 +1,7 @@
 // A column of a task by its record: worked, or filled where the task is spoiled.
 ghost use mathlib.Core.Path.{_≡_};
 ghost use mathlib.Core.List.{List};
-ghost use Rattle.model.specs.declared.Worker.{Worker as SomeWorker};
+ghost use Rattle.worker.specs.declared.Worker.{Worker as SomeWorker};
 ghost use Rattle.model.specs.Plan.{planOf};
 ghost use Rattle.model.specs.Calls.{columnOf};
 ghost use Rattle.records.specs.Records.{lent};

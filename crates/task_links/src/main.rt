@@ -2,8 +2,8 @@
 // where p is linked to it.
 use model::Answer;
 use model::Sizes;
-use model::Worker;
 use record_changes::set_mark;
+use worker::Worker;
 
 fn sizes() -> Sizes {
     Sizes {

@@ -8,8 +8,8 @@ ghost use Rattle.model.specs.Refusal.{runAnswer};
 ghost use Rattle.records.specs.Records.{lent};
 use model::RunReply;
 use model::Sizes;
-use model::Worker;
 use turns_from::turns_from;
+use worker::Worker;
 
 // Workers take turns until every task is finished or the budget is spent. Worker 0 begins.
 pub fn take_turns(

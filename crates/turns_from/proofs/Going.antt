@@ -10,7 +10,7 @@ use lib.ListN.{length, getD, set, take, drop, length-set}
 use lib.Seq.{drop-set-lt, take-set-lt}
 use Rattle.model.specs.declared.Sizes.{Sizes}
 use Rattle.model.specs.declared.TaskRecord.{TaskRecord}
-use Rattle.model.specs.declared.Worker.{Worker}
+use Rattle.worker.specs.declared.Worker.{Worker}
 use Rattle.model.specs.declared.Answer.the-variants.{Accepted}
 use Rattle.model.specs.declared.RunAnswer.{RunAnswer}
 use Rattle.model.specs.declared.RunAnswer.the-variants.{Finished, Spent}
@@ -19,7 +19,8 @@ use Rattle.model.specs.Task.{tasks}
 use Rattle.model.specs.Plan.{plan, planOf}
 use Rattle.model.specs.Links.{task, mark, finished, ready}
 use Rattle.model.specs.Buffer.{Ended, finiteTiles}
-use Rattle.model.specs.Calls.{Lent, RunEnd, marksOf, withMark, marked, worker, idle, holding, took, advanced, allFinished, runFrom}
+use Rattle.model.specs.Calls.{Lent, RunEnd, marksOf, withMark, marked, worker, took, advanced, allFinished, runFrom}
+use Rattle.worker.specs.Holding.{idle, holding}
 use Rattle.model.specs.Refusal.{damaged, badTiles, runAnswer}
 use Rattle.laws.proofs.Refusals.{passed}
 use Rattle.laws.proofs.Tests.{never, or-false}

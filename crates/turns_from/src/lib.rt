@@ -10,13 +10,13 @@ use advancing::advance;
 use model::RunAnswer;
 use model::RunReply;
 use model::Sizes;
-use model::Worker;
 use next_task::lowest_ready;
 use next_task::search_from;
 use next_task::take_task;
 use next_worker::after;
 use next_worker::next_busy;
 use unfinished::answer_after;
+use worker::Worker;
 
 // Workers take turns until every task is finished or the budget is spent, once `made` calls are made and the turn is worker `turn`'s. Below `low`,
 // and then below `from`, no task is ready, so a search begins there.

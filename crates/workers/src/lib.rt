@@ -6,9 +6,9 @@ ghost use Rattle.model.specs.Plan.{planOf};
 ghost use Rattle.model.specs.Refusal.{badWorker as badWorkerIn};
 ghost use Rattle.checks.specs.Checks.{Sized, RecordsFit, recordsAlone};
 use model::Sizes;
-use model::Worker;
 use numbering::task_count;
 use records::mark_of;
+use worker::Worker;
 
 // Whether the worker holds a task that doesn't exist or lacks mark 1, or a column not below t.
 fn bad_worker(z: Sizes, records: &[[u8; 5]], h: Worker) -> bool

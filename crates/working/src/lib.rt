@@ -8,7 +8,7 @@ use answers::accepted;
 use column_checks::column_answer;
 use model::CallReply;
 use model::Sizes;
-use model::Worker;
+use worker::Worker;
 
 // Worker w does the next column of the task it holds. Of the 32 worker slots the first z.workers are lent, and the others stay as they are.
 pub fn column(

@@ -1,7 +1,7 @@
 -- `one_holding` meets its contract. Assumes nothing.
 use mathlib.Core.Path.{ap}
 use lib.ListN.{set}
-use Rattle.model.specs.Calls.{holding}
+use Rattle.worker.specs.Holding.{holding}
 use Rattle.bench_structs.specs.Bench.{oneHolding}
 use borrow.Author.Needs.{needs}
 use Rattle.bench_structs.proofs.one_holding.Statement.{statement}

@@ -2,8 +2,8 @@
 use mathlib.Core.Path.{_≡_, sym, ap}
 use native.Mathlib.Omega.{arith}
 use lib.ListN.{length, List·getD-eq-default}
-use Rattle.model.specs.declared.Worker.{Worker}
-use Rattle.model.specs.Calls.{idle}
+use Rattle.worker.specs.declared.Worker.{Worker}
+use Rattle.worker.specs.Holding.{idle}
 use borrow.Author.Needs.{needs}
 use Rattle.column_call.proofs.task_held.Statement.{statement}
 use Rattle.column_call.proofs.task_held.Tie as tie

@@ -6,7 +6,7 @@ use native.Mathlib.Omega.{arith}
 use lib.ListN.{length, getD}
 use borrow.Author.Needs.{needs}
 use Rattle.model.specs.Refusal.{holds}
-use Rattle.model.specs.Calls.{idle}
+use Rattle.worker.specs.Holding.{idle}
 use Rattle.model.specs.Lists.{run, below, keep}
 use Rattle.checks.proofs.Searches.{keep-begins, keep-counts, keep-passes, keep-ends, keep-places}
 use Rattle.holds.proofs.holders.Statement.{statement}

@@ -1,7 +1,7 @@
 -- The workers are gathered, and the answer is told. Assumes nothing.
 use mathlib.Core.Path.{ap, _∙_}
 use mathlib.Core.List.{List}
-use Rattle.model.specs.declared.Worker.{Worker}
+use Rattle.worker.specs.declared.Worker.{Worker}
 use Rattle.model.specs.Refusal.{outcomeCall}
 use Rattle.records.specs.Records.{lent}
 use Rattle.host_answers.specs.Answers.{outcomeTold}

@@ -6,7 +6,7 @@ use native.Mathlib.Nat.{mod-lt}
 use native.Mathlib.Omega.{arith}
 use borrow.Author.Count.{below-more}
 use lib.ListN.{getD}
-use Rattle.model.specs.Calls.{idle}
+use Rattle.worker.specs.Holding.{idle}
 use Rattle.next_worker.specs.NextWorker.{all-idle}
 use Rattle.next_worker.proofs.Rounds.{from-here, one-further, found, idle-here}
 use Rattle.next_worker.proofs.next_busy.Statement.{statement}

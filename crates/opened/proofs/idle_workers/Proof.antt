@@ -5,7 +5,7 @@ use native.Mathlib.Omega.{arith}
 use borrow.Author.Needs.{needs}
 use lib.ListN.{length, take, drop, replicate, length-set}
 use lib.Seq.{drop-set-lt}
-use Rattle.model.specs.Calls.{idle}
+use Rattle.worker.specs.Holding.{idle}
 use Rattle.opened.proofs.Laws.{idle-more}
 use Rattle.opened.proofs.idle_workers.Statement.{statement}
 use Rattle.opened.proofs.idle_workers.Tie as tie

@@ -4,7 +4,7 @@ use mathlib.Core.Path.{_≡_, sym, _∙_}
 use native.Mathlib.Omega.{arith}
 use lib.ListN.{length, getD, take}
 use Rattle.model.specs.Refusal.{badWorker}
-use Rattle.model.specs.Calls.{idle}
+use Rattle.worker.specs.Holding.{idle}
 use Rattle.model.specs.Plan.{planOf}
 use Rattle.model.specs.Lists.{run, some}
 use Rattle.checks.proofs.Searches.{some-begins, some-stops, some-goes-on, some-ends, some-places}
