@@ -3,6 +3,7 @@
 
 use std::sync::Mutex;
 use std::thread;
+use std::time::Duration;
 
 use reference::families::numbers;
 use reference::loops::published_loops;
@@ -11,6 +12,7 @@ use reference::tile::Shape;
 use solumivaf::{Lent, Sizes};
 
 const THREADS: usize = 8;
+const IDLE: Duration = Duration::from_micros(200);
 
 fn bits(numbers: &[f64]) -> Vec<u64> {
     numbers.iter().map(|number| number.to_bits()).collect()
@@ -29,8 +31,14 @@ fn work(sizes: Sizes, shared: &Mutex<Lent>, worker: usize) {
                 return;
             }
         }
+        let busy = lent.workers.busy[worker];
         drop(lent);
-        thread::yield_now();
+        // A worker with nothing to do leaves the lock to the others: each of its looks costs a take call for every task.
+        if busy {
+            thread::yield_now();
+        } else {
+            thread::sleep(IDLE);
+        }
     }
 }
 
