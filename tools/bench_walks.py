@@ -6,7 +6,7 @@ Such a function makes the workers, hands everything lent on to crates/CALL_call,
 import os
 import re
 
-from call_walks import ROOT, SLICE, Walk, answers, callee, lists, matrix, nested, nth, number, product, records, right, seps, sizes, sub
+from call_walks import SLICE, Walk, answers, callee, lists, matrix, nested, nth, number, product, records, right, save, seps, sizes, sub, theorem
 
 CRATE = "bench_structs"
 WIDTH = {"usize": "w64", "u64": "w64", "u16": "w16", "u8": "w8"}
@@ -319,42 +319,17 @@ def write(call):
         g.split(x, "tokens")
     g.move("tokens")
     g.split3(tokens[-2], tokens[-1], "true")
-    g.emit("returns ! (look ! %d refl) $ " % g.at("L0"))
-    for i in range(top + 1):
-        g.emit("forget ! %d refl $ " % g.at("L%d" % i))
-    g.line()
-    for i in range(top + 1):
-        g.move("L%d" % i, "D%d" % i)
-        g.gone("free1 ! $ ")
-        del g.ctx[0]
-    g.emit("free0 ! $ ")
-    g.line()
+    g.leaves(top)
     g.keep(tokens + ["end " + p.name for p in muts] + ["number"])
     g.emit("by ! (exits t₂ w₂ %s (%s) %s)" % (" ".join("(%s)" % nth("ws₁", order.index(p)) for p in muts), call["law"], " ".join("same-" + p.name for p in muts)))
-    body = "".join(g.out)
-    bare = re.sub(r"--[^\n]*", "", body)
-    s.append(body + ")" * (bare.count("(") - bare.count(")")) + "\n\n")
-    # ---- the theorem
-    known = " ".join("(known-%s : Triple 𝓤 (𝓣 .C #%s) (%s 𝓤 H A mem run))" % (n, n, x) for x, n in cited)
-    walked = "(WpFn 𝓤 H (𝓣 .C) (𝓣 .Λ) code.function)"
-    s.append("module _ {M : Type 1} (𝓤 : URA M) (H : Heap 𝓤) (A : Atoms 𝓤) (W : Given 𝓤 H A) (mem : Memory → SProp 𝓤) (run : Routine → Fun 𝓤) (𝓣 : Tables 𝓤 H) %s where\n" % known)
-    s.append("  walks : Walks 𝓤 H A f.ended stayed %s (f.clauses 𝓤 H A mem run)\n  walks = walked 𝓤 H A f.ended stayed (f.clauses 𝓤 H A mem run) %s (λ κs. %s)\n      (λ κs. %s)\n" % (walked, walked, nested(vals_fn), nested(tells)))
-    s.append("      (λ κs qs bounds a g are. via 𝓤 _ (fst∗ 𝓤 _ (emp 𝓤)) (walk 𝓤 H A W mem run %s\n      %s (𝓣 .C) (𝓣 .Λ) (fmOf 𝓤 H (W .laws) 𝓣) %s))\n\n" % (" ".join("(%s)" % nth(x, i) for x in ("κs", "qs") for i in range(len(slices))), " ".join(actuals), " ".join("known-" + n for _, n in cited)))
-    s.append("  goes : AllGo 𝓤 H A W %d (f.signature .params) (f.ended .kept) stayed\n  goes = %s\n\n" % (len(slices), nested(goes)))
-    s.append("  meets : Meets 𝓤 H A f.signature %s (f.spec 𝓤 H A mem run)\n  meets = walk-meets 𝓤 H A f.ended stayed W goes (f.clauses 𝓤 H A mem run) %s (WpFn-mono 𝓤 H (W .laws) 𝓣 code.function) walks\n\n" % (walked, walked))
-    spec = function.replace("_", "-")
-    s.append("pub %s-spec : {M : Type 1} → stated.statement M\nunfolding code.routine tablesOf\n%s-spec 𝓤 H 𝓜 𝓖 𝓡 =\n    entered 𝓤 H (tripleOf 𝓤 H (𝓖 .A) f.signature (f.spec 𝓤 H (𝓖 .A) (𝓜 .mem) (𝓡 .run)))\n    (tables 𝓤 H 𝓜 𝓡 code.env .C) (tables 𝓤 H 𝓜 𝓡 code.env .Λ) #f code.function (code.unfolded 𝓤 H 𝓜 𝓡)\n    (meets 𝓤 H (𝓖 .A) (givenOf 𝓤 H 𝓜 𝓖) (𝓜 .mem) (𝓡 .run) (tablesOf 𝓤 H 𝓜 (tables 𝓤 H 𝓜 𝓡 code.env))\n" % (spec, spec))
+    s.append(g.text() + "\n\n")
     symbol = {"mk": CRATE + "·" + maker, "co": "%s_call·%s" % (name, name), "tl": CRATE + "·" + call["tell"]}
-    s.append("\n".join("    (cited 𝓤 H (%s 𝓤 H (𝓖 .A) (𝓜 .mem) (𝓡 .run)) 𝓜 𝓡 code.env #%s %s-def.routine code.calls-%s (%s-thm.met 𝓤 H 𝓜 𝓖 𝓡))" % (x, n, n, symbol[n].replace("_", "-"), n) for x, n in cited) + ")\n")
+    symbol = {n: x.replace("_", "-") for n, x in symbol.items()}
+    s.append(theorem(function.replace("_", "-"), slices, vals_fn, tells, goes, actuals, cited, symbol))
     body = "".join(s)
     uses = open(os.path.join(os.path.dirname(os.path.abspath(__file__)), "call_walks.uses"), encoding="utf-8").read() + MORE_USES.replace("REPLY", reply)
     head = "-- `%s` meets its contract: a walk of its MIR. What is lent goes on to the call at its own lifetime. Written by tools/bench_walks.py.\n-- Assumes nothing.\n" % function
-    folder = os.path.join(ROOT, CRATE, "proofs", function)
-    os.makedirs(folder, exist_ok=True)
-    # in the layout of `rt fmt`: no blanks at a line's end, and one between words
-    text = re.sub(r"(?<=\S) +", " ", head + used(uses, body) + body).replace(" \n", "\n").replace(" )", ")")
-    with open(os.path.join(folder, "Proof.antt"), "w", encoding="utf-8") as file:
-        file.write(text)
+    save(CRATE, function, head + used(uses, body) + body)
 
 
 MORE_USES = """use mir.Syntax.{w16}

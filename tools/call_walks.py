@@ -159,6 +159,25 @@ class Walk:
     def line(self):
         self.emit("\n        ")
 
+    def leaves(self, top):
+        """the function returns, and its locals are given back"""
+        self.emit("returns ! (look ! %d refl) $ " % self.at("L0"))
+        for i in range(top + 1):
+            self.emit("forget ! %d refl $ " % self.at("L%d" % i))
+        self.line()
+        for i in range(top + 1):
+            self.move("L%d" % i, "D%d" % i)
+            self.gone("free1 ! $ ")
+            del self.ctx[0]
+        self.emit("free0 ! $ ")
+        self.line()
+
+    def text(self):
+        """the walk, with the parentheses closed that are open at its end"""
+        body = "".join(self.out)
+        bare = re.sub(r"--[^\n]*", "", body)
+        return body + ")" * (bare.count("(") - bare.count(")"))
+
     def look(self, i):
         return "(load ! (from ! (stop !)) (look ! %d refl))" % self.at("L%d" % i)
 
@@ -197,6 +216,29 @@ def uses_of(walk):
             elif not brace and module.split(" as ")[-1] in words:
                 lines.append(line)
     return "".join(lines)
+
+
+def theorem(spec, slices, vals, tells, goes, actuals, cited, symbol):
+    """the walk as the function's theorem; `cited` has the callees' contracts and short names, `symbol` how the code names them"""
+    known = " ".join("(known-%s : Triple 𝓤 (𝓣 .C #%s) (%s 𝓤 H A mem run))" % (n, n, c) for c, n in cited)
+    code = "(WpFn 𝓤 H (𝓣 .C) (𝓣 .Λ) code.function)"
+    s = ["module _ {M : Type 1} (𝓤 : URA M) (H : Heap 𝓤) (A : Atoms 𝓤) (W : Given 𝓤 H A) (mem : Memory → SProp 𝓤) (run : Routine → Fun 𝓤) (𝓣 : Tables 𝓤 H) %s where\n" % known]
+    s.append("  walks : Walks 𝓤 H A f.ended stayed %s (f.clauses 𝓤 H A mem run)\n  walks = walked 𝓤 H A f.ended stayed (f.clauses 𝓤 H A mem run) %s (λ κs. %s)\n      (λ κs. %s)\n" % (code, code, nested(vals), nested(tells)))
+    s.append("      (λ κs qs bounds a g are. via 𝓤 _ (fst∗ 𝓤 _ (emp 𝓤)) (walk 𝓤 H A W mem run %s\n      %s (𝓣 .C) (𝓣 .Λ) (fmOf 𝓤 H (W .laws) 𝓣) %s))\n\n" % (" ".join("(%s)" % nth(x, i) for x in ("κs", "qs") for i in range(len(slices))), " ".join(actuals), " ".join("known-" + n for _, n in cited)))
+    s.append("  goes : AllGo 𝓤 H A W %d (f.signature .params) (f.ended .kept) stayed\n  goes = %s\n\n" % (len(slices), nested(goes)))
+    s.append("  meets : Meets 𝓤 H A f.signature %s (f.spec 𝓤 H A mem run)\n  meets = walk-meets 𝓤 H A f.ended stayed W goes (f.clauses 𝓤 H A mem run) %s (WpFn-mono 𝓤 H (W .laws) 𝓣 code.function) walks\n\n" % (code, code))
+    s.append("pub %s-spec : {M : Type 1} → stated.statement M\nunfolding code.routine tablesOf\n%s-spec 𝓤 H 𝓜 𝓖 𝓡 =\n    entered 𝓤 H (tripleOf 𝓤 H (𝓖 .A) f.signature (f.spec 𝓤 H (𝓖 .A) (𝓜 .mem) (𝓡 .run)))\n    (tables 𝓤 H 𝓜 𝓡 code.env .C) (tables 𝓤 H 𝓜 𝓡 code.env .Λ) #f code.function (code.unfolded 𝓤 H 𝓜 𝓡)\n    (meets 𝓤 H (𝓖 .A) (givenOf 𝓤 H 𝓜 𝓖) (𝓜 .mem) (𝓡 .run) (tablesOf 𝓤 H 𝓜 (tables 𝓤 H 𝓜 𝓡 code.env))\n" % (spec, spec))
+    s.append("\n".join("    (cited 𝓤 H (%s 𝓤 H (𝓖 .A) (𝓜 .mem) (𝓡 .run)) 𝓜 𝓡 code.env #%s %s-def.routine code.calls-%s (%s-thm.met 𝓤 H 𝓜 𝓖 𝓡))" % (c, n, n, symbol[n], n) for c, n in cited) + ")\n")
+    return "".join(s)
+
+
+def save(crate, function, text):
+    """writes a proof in the layout of `rt fmt`: no blanks at a line's end, and one between words"""
+    folder = os.path.join(ROOT, crate, "proofs", function)
+    os.makedirs(folder, exist_ok=True)
+    text = re.sub(r"(?<=\S) +", " ", text).replace(" \n", "\n").replace(" )", ")")
+    with open(os.path.join(folder, "Proof.antt"), "w", encoding="utf-8") as file:
+        file.write(text)
 
 
 def write(call):
@@ -798,16 +840,7 @@ def write(call):
         g.line()
         g.emit("assigns ! (of-opd ! %s) (from ! (stop !)) (init ! %d refl (LL.lawful Rp.the-type Rp′.the-laws 𝓤 H A W .typed t₂ _ is₂ .0)) $ " % (g.look(dst), g.at("L0")))
         g.line()
-    g.emit("returns ! (look ! %d refl) $ " % g.at("L0"))
-    for i in range(top + 1):
-        g.emit("forget ! %d refl $ " % g.at("L%d" % i))
-    g.line()
-    for i in range(top + 1):
-        g.move("L%d" % i, "D%d" % i)
-        g.gone("free1 ! $ ")
-        del g.ctx[0]
-    g.emit("free0 ! $ ")
-    g.line()
+    g.leaves(top)
     g.keep(["κ" + k for k in indices] + (["finM"] if mat.mut else []) + (["finL"] if lis.mut else []) + (["finR"] if has_store else []) + (["finA"] if ans else []) + ["Rp"])
     fin_vals = [v.replace("ws", "ws₂") for v, on in ((wms, mat.mut), (wls, lis.mut)) if on] + (["(zs .0)"] if has_store else []) + ([wus.replace("ws", "ws₂")] if ans else [])
     lens_ = ["sameM"] * mat.mut + ["sameL"] * lis.mut + ["sameR"] * has_store + ["sameA"] * ans
@@ -818,27 +851,11 @@ def write(call):
     else:
         law = "(e₂ ∙ %s z ms ls ys slots%s X₀ %s (good₁ .1 .0 .1) e₁)" % (call["law"], told_too, X1)
     g.emit("by ! (exits t₂ w₂ %s %s %s)" % (" ".join(fin_vals), law.replace("  ", " "), " ".join(lens_)))
-    body = "".join(g.out)
-    bare = re.sub(r"--[^\n]*", "", body)
-    body += ")" * (bare.count("(") - bare.count(")"))
-    s.append(body + "\n\n")
-    # ---- the theorem
-    knownT = " ".join("(known-%s : Triple 𝓤 (𝓣 .C #%s) (%s 𝓤 H A mem run))" % (n, n, c) for c, n in cited)
-    s.append("module _ {M : Type 1} (𝓤 : URA M) (H : Heap 𝓤) (A : Atoms 𝓤) (W : Given 𝓤 H A) (mem : Memory → SProp 𝓤) (run : Routine → Fun 𝓤) (𝓣 : Tables 𝓤 H) %s where\n" % knownT)
-    s.append("  walks : Walks 𝓤 H A f.ended stayed (WpFn 𝓤 H (𝓣 .C) (𝓣 .Λ) code.function) (f.clauses 𝓤 H A mem run)\n  walks = walked 𝓤 H A f.ended stayed (f.clauses 𝓤 H A mem run) (WpFn 𝓤 H (𝓣 .C) (𝓣 .Λ) code.function) (λ κs. %s)\n      (λ κs. %s)\n" % (nested(vals_fn), nested(tells_fn)))
-    s.append("      (λ κs qs bounds a g are. via 𝓤 _ (fst∗ 𝓤 _ (emp 𝓤)) (walk 𝓤 H A W mem run %s\n      %s (𝓣 .C) (𝓣 .Λ) (fmOf 𝓤 H (W .laws) 𝓣) %s))\n\n" % (" ".join("(%s)" % nth(x, i) for x in ("κs", "qs") for i in range(len(slices))), " ".join(actuals), " ".join("known-" + n for _, n in cited)))
-    s.append("  goes : AllGo 𝓤 H A W %d (f.signature .params) (f.ended .kept) stayed\n  goes = %s\n\n" % (len(slices), nested(goes)))
-    s.append("  meets : Meets 𝓤 H A f.signature (WpFn 𝓤 H (𝓣 .C) (𝓣 .Λ) code.function) (f.spec 𝓤 H A mem run)\n  meets = walk-meets 𝓤 H A f.ended stayed W goes (f.clauses 𝓤 H A mem run) (WpFn 𝓤 H (𝓣 .C) (𝓣 .Λ) code.function) (WpFn-mono 𝓤 H (W .laws) 𝓣 code.function) walks\n\n")
-    s.append("pub %s-spec : {M : Type 1} → stated.statement M\nunfolding code.routine tablesOf\n%s-spec 𝓤 H 𝓜 𝓖 𝓡 =\n    entered 𝓤 H (tripleOf 𝓤 H (𝓖 .A) f.signature (f.spec 𝓤 H (𝓖 .A) (𝓜 .mem) (𝓡 .run)))\n    (tables 𝓤 H 𝓜 𝓡 code.env .C) (tables 𝓤 H 𝓜 𝓡 code.env .Λ) #f code.function (code.unfolded 𝓤 H 𝓜 𝓡)\n    (meets 𝓤 H (𝓖 .A) (givenOf 𝓤 H 𝓜 𝓖) (𝓜 .mem) (𝓡 .run) (tablesOf 𝓤 H 𝓜 (tables 𝓤 H 𝓜 𝓡 code.env))\n" % (name, name))
+    s.append(g.text() + "\n\n")
     symbol = {"lk": "task-records·looked-at", "ld": "loading·load", "co": "%s-part·%s-part" % (name, name), "th": "%s-call·task-held" % name, "pt": "task-records·past", "st": "storing·store"}
-    cites = ["    (cited 𝓤 H (%s 𝓤 H (𝓖 .A) (𝓜 .mem) (𝓡 .run)) 𝓜 𝓡 code.env #%s %s-def.routine code.calls-%s (%s-thm.met 𝓤 H 𝓜 𝓖 𝓡))" % (c, n, n, symbol[n], n) for c, n in cited]
-    s.append("\n".join(cites) + ")\n")
+    s.append(theorem(name, slices, vals_fn, tells_fn, goes, actuals, cited, symbol))
     s[1] = uses_of("".join(s[:1] + s[2:]))
-    folder = os.path.join(ROOT, name + "_call", "proofs", name)
-    os.makedirs(folder, exist_ok=True)
-    # in the layout of `rt fmt`: no blanks at a line's end, and one between words
-    text = re.sub(r"(?<=\S) +", " ", "".join(s)).replace(" \n", "\n").replace(" )", ")")
-    open(os.path.join(folder, "Proof.antt"), "w", encoding="utf-8").write(text)
+    save(name + "_call", name, "".join(s))
 
 
 CALLS = [
