@@ -6,32 +6,12 @@ Such a function makes the workers, hands everything lent on to crates/CALL_call,
 import os
 import re
 
-from call_walks import SLICE, Walk, answers, callee, lists, matrix, nested, nth, number, product, records, right, save, seps, sizes, sub, theorem
+from call_walks import SLICE, Walk, answers, callee, lists, matrix, nested, nth, number, product, records, right, save, seps, sizes, sub, theorem, uses_of
 
 CRATE = "bench_structs"
 WIDTH = {"usize": "w64", "u64": "w64", "u16": "w16", "u8": "w8"}
 ARRAY = "Array Wk.the-row 32"
 SIZES = "LL.vals Sz.the-type Sz′.the-laws"
-
-
-def used(uses, body):
-    """Those of the imports that the body names."""
-    out = []
-    for line in uses.strip().split("\n"):
-        listed = re.match(r"use (.*)\.\{(.*)\}$", line)
-        if not listed:
-            if re.search(r"(?<![\w′·])" + re.escape(line.split(" as ")[1]) + r"\.", body):
-                out.append(line)
-            continue
-        keep = []
-        for name in listed[2].split(", "):
-            alias = name.split(" as ")[-1]
-            words = [x for x in alias.split("_") if x]
-            if alias == "[]" or all(re.search(r"(?<![\w·\-′])%s(?![\w·\-′])" % re.escape(x) if re.match(r"\w", x) else re.escape(x), body) for x in words):
-                keep.append(name)
-        if keep:
-            out.append("use %s.{%s}" % (listed[1], ", ".join(keep)))
-    return "\n".join(out) + "\n"
 
 
 def reference(p):
@@ -327,9 +307,8 @@ def write(call):
     symbol = {n: x.replace("_", "-") for n, x in symbol.items()}
     s.append(theorem(function.replace("_", "-"), slices, vals_fn, tells, goes, actuals, cited, symbol))
     body = "".join(s)
-    uses = open(os.path.join(os.path.dirname(os.path.abspath(__file__)), "call_walks.uses"), encoding="utf-8").read() + MORE_USES.replace("REPLY", reply)
     head = "-- `%s` meets its contract: a walk of its MIR. What is lent goes on to the call at its own lifetime. Written by tools/bench_walks.py.\n-- Assumes nothing.\n" % function
-    save(CRATE, function, head + used(uses, body) + body)
+    save(CRATE, function, head + uses_of(body, MORE_USES.replace("REPLY", reply)) + body)
 
 
 MORE_USES = """use mir.Syntax.{w16}

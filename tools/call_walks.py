@@ -203,18 +203,19 @@ def callee(path, n):
     return "use %s as %s\nuse %s.Symbol as %s-def\nuse %s.Symbol.{name as #%s}\nuse %s.Met as %s-thm\n" % (path, n, path, n, path, n, path, n)
 
 
-def uses_of(walk):
-    """the lines of call_walks.uses, each with what the walk names"""
+def uses_of(walk, more=""):
+    """the lines of call_walks.uses, and of more, each with what the walk names"""
     words = set(re.findall(r"[^\s(){}.,;]+", re.sub(r"--[^\n]*", "", walk)))
-    lines = []
     with open(os.path.join(os.path.dirname(os.path.abspath(__file__)), "call_walks.uses"), encoding="utf-8") as file:
-        for line in file:
-            module, brace, names = line.rstrip("}\n").partition("{")
-            listed = [x for x in names.split(", ") if x.split(" as ")[-1].strip("_") in words]
-            if listed:
-                lines.append(module + "{" + ", ".join(listed) + "}\n")
-            elif not brace and module.split(" as ")[-1] in words:
-                lines.append(line)
+        uses = file.read() + more
+    lines = []
+    for line in uses.splitlines(keepends=True):
+        module, brace, names = line.rstrip("}\n").partition("{")
+        listed = [x for x in names.split(", ") if x.split(" as ")[-1].strip("_") in words]
+        if listed:
+            lines.append(module + "{" + ", ".join(listed) + "}\n")
+        elif not brace and module.split(" as ")[-1] in words:
+            lines.append(line)
     return "".join(lines)
 
 

@@ -101,7 +101,3 @@ pub record TilesCoupled (t c e u d : ℕ) (before after : List Float) (answer : 
   pub whole : answer ≡ true
       → after ≡ withTwo (t * t) u d (upperAt t t c c e u d before) (eliminatedRows t t c (at t (upperAt t t c c e u d before) c) (lowerAt t t c c e u d before)) before
   pub frame : after ≡ withTwo (t * t) u d (upperAt t t c c e u d before) (part d (t * t) after) before
-
-unfoldable pub Steps·open : Unit {0}
-unfolding applied appliedComputes paired pairedComputes upperAt lowerAt withTwo eliminatedRows eliminatedComputes factored factoredComputes exchangedAt
-Steps·open = tt

@@ -7,7 +7,3 @@ use Rattle.model.specs.Lists.{part, withPart}
 -- n numbers from a on exchanged with the n from b on
 unfoldable pub exchangedParts : ℕ → ℕ → ℕ → List Float → List Float
 exchangedParts a b n m = withPart a n (part b n m) (withPart b n (part a n m) m)
-
-unfoldable pub Exchanged·open : Unit {0}
-unfolding exchangedParts
-Exchanged·open = tt

@@ -131,7 +131,3 @@ module _ (N : ℕ) (ms : List ℕ) where
   -- some latest writer of what b touches is failed or spoiled
   unfoldable pub spoilsAt : Key → Bool
   spoilsAt b = broken (backMark b) || broken (aboveMark (b .k) b) || broken (leftMark b)
-
-unfoldable pub Closed·open : Unit {0}
-unfolding taskAt keyOf offset squares number keyFrom keyAt markAt backMark leftMark aboveMark T-2s-finished neighboursFinished linksFinished readyAt spoilsAt
-Closed·open = tt

@@ -8,7 +8,3 @@ use Rattle.model.specs.Lists.{table}
 -- the number at `first`, then `count` numbers from `rest` on, `stride` apart
 unfoldable pub candidates : List Float → ℕ → ℕ → ℕ → ℕ → List Float
 candidates m first rest stride count = getD m first nan ∷ table count (λ i. getD m (rest + i * stride) nan)
-
-unfoldable pub Candidates·open : Unit {0}
-unfolding candidates
-Candidates·open = tt

@@ -29,7 +29,3 @@ lent matrix lists records slots W = record {
   records = recordsFrom records;
   workers = take W slots;
 }
-
-unfoldable pub Records·open : Unit {0}
-unfolding recordFrom recordsFrom marksFrom lent
-Records·open = tt

@@ -21,7 +21,3 @@ pub record RowsUpdated (rows w f start : ℕ) (l u : ℕ → Float) (before afte
   pub sound : answer ≡ every finite (rowsCompute rows w f l u (part start (rows * w) before))
   pub whole : answer ≡ true → after ≡ withPart start (rows * w) (updatedRows rows w f l u (part start (rows * w) before)) before
   pub frame : after ≡ withPart start (rows * w) (part start (rows * w) after) before
-
-unfoldable pub Updates·open : Unit {0}
-unfolding updatedRows rowsCompute
-Updates·open = tt

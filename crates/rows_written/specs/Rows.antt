@@ -30,7 +30,3 @@ systemLength N t = 7 + N * (N * (7 + t * t * 16))
 
 unfoldable pub resultLength : ℕ → ℕ → ℕ
 resultLength N t = systemLength N t + triangle N * (7 + t * 2) + 9
-
-unfoldable pub Rows·open : Unit {0}
-unfolding tileRow tileRows listRow listRows triangle systemLength resultLength
-Rows·open = tt

@@ -27,7 +27,7 @@ fn copy(from: &[f64], to: &mut [f64])
     }
 }
 
-// Solves in y, which is as long as the right side. The answers are written where all of them are computed.
+// Solves in y, which is as long as the right side, and where what is left is free. The answers are written where all of them are computed.
 pub fn solve_in(
     z: Sizes,
     matrix: &[f64],
