@@ -1,7 +1,10 @@
-"""Tests of tools/contracts_table: docs/CONTRACTS.md is up to date, and every function on it has two must-fail edits."""
+"""Tests of tools/contracts_table: docs/CONTRACTS.md is up to date, and every function on it has two must-fail edits. The edits that
+docs/ARCHITECTURE.md names exist."""
+import os
+import re
 import unittest
 
-from loading import load, text_of
+from loading import ROOT, load, text_of
 
 contracts = load("contracts_table")
 
@@ -14,6 +17,13 @@ class Contracts(unittest.TestCase):
         for _, names in contracts.PRODUCT:
             for function, functions in contracts.chosen(names):
                 self.assertGreaterEqual(len(list(contracts.edits(function, functions))), 2, function.path)
+
+    def test_edits_of_the_architecture_exist(self):
+        page = text_of("docs", "ARCHITECTURE.md")
+        named = re.findall(r"`(\w+)/(\w+)`", page[page.index("## Programs that the promises shut out"):])
+        self.assertGreater(len(named), 30)
+        for crate, name in named:
+            self.assertTrue(os.path.exists(os.path.join(ROOT, "crates", crate, "must-fail", name + ".edit")), "%s/%s" % (crate, name))
 
 
 if __name__ == "__main__":

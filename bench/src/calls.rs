@@ -75,7 +75,7 @@ fn bad_entries(s: &Shape, lists: &[u8]) -> bool {
 /// Refusals 1 and 2.
 pub fn bad_sizes(s: &Shape, matrix: &[f64], lists: &[u8], records: &[Record], workers: &[Worker]) -> u8 {
     let (n, t) = (s.tiles, s.side);
-    if n < 1 || n > 16 || t < 1 || t > 16 || workers.is_empty() || workers.len() > 32 {
+    if !s.in_range() || workers.is_empty() || workers.len() > 32 {
         return 1;
     }
     if matrix.len() != n * t * n * t || lists.len() != n * n * t || records.len() != task_count(n) {

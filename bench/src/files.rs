@@ -1,4 +1,5 @@
 //! System files in Rust: a text is checked line by line before the matrix is written, and a matrix is written as a text.
+use crate::plain::Shape;
 
 fn is_digit(b: u8) -> bool {
     matches!(b, b'0'..=b'9' | b'A'..=b'F')
@@ -81,7 +82,7 @@ pub fn read_system(text: &[u8], matrix: &mut [f64]) -> Result<(usize, usize), (u
         return Err((13, 1));
     }
     let (n, t) = (field(&text[2..4]) as usize, field(&text[4..6]) as usize);
-    if n < 1 || n > 16 || t < 1 || t > 16 {
+    if !(Shape { tiles: n, side: t }.in_range()) {
         return Err((1, 1));
     }
     if matrix.len() != n * t * n * t {
@@ -98,12 +99,12 @@ pub fn read_system(text: &[u8], matrix: &mut [f64]) -> Result<(usize, usize), (u
             if rest.len() < size {
                 return Err((12, place));
             }
-            let (line, behind) = rest.split_at(size);
+            let (line, after) = rest.split_at(size);
             let number = tile_refusal(line, t, i, j);
             if number != 0 {
                 return Err((number, place));
             }
-            rest = behind;
+            rest = after;
         }
     }
     if !rest.is_empty() {
@@ -128,7 +129,7 @@ fn put(text: &mut [u8], value: u64) {
 
 /// The length written, or a refusal's number.
 pub fn write_system(n: usize, t: usize, matrix: &[f64], text: &mut [u8]) -> Result<usize, u8> {
-    if n < 1 || n > 16 || t < 1 || t > 16 {
+    if !(Shape { tiles: n, side: t }.in_range()) {
         return Err(1);
     }
     if matrix.len() != n * t * n * t {

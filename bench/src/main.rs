@@ -15,10 +15,10 @@ use std::hint::black_box;
 
 // The functions of crates/bench_host. A slice is its start and its length.
 extern "C" {
-    fn bench_factor_column(tiles: usize, side: usize, matrix: *mut f64, matrix_len: usize, lists: *mut u8, lists_len: usize, k: usize, c: usize) -> u8;
-    fn bench_apply_column(tiles: usize, side: usize, matrix: *mut f64, matrix_len: usize, lists: *const u8, lists_len: usize, k: usize, j: usize, c: usize) -> u8;
-    fn bench_couple_column(tiles: usize, side: usize, matrix: *mut f64, matrix_len: usize, lists: *mut u8, lists_len: usize, k: usize, i: usize, c: usize) -> u8;
-    fn bench_pair_column(tiles: usize, side: usize, matrix: *mut f64, matrix_len: usize, lists: *const u8, lists_len: usize, k: usize, i: usize, j: usize, c: usize) -> u8;
+    fn bench_factor_column(tiles: usize, side: usize, matrix: *mut f64, matrix_length: usize, lists: *mut u8, lists_length: usize, k: usize, c: usize) -> u8;
+    fn bench_apply_column(tiles: usize, side: usize, matrix: *mut f64, matrix_length: usize, lists: *const u8, lists_length: usize, k: usize, j: usize, c: usize) -> u8;
+    fn bench_couple_column(tiles: usize, side: usize, matrix: *mut f64, matrix_length: usize, lists: *mut u8, lists_length: usize, k: usize, i: usize, c: usize) -> u8;
+    fn bench_pair_column(tiles: usize, side: usize, matrix: *mut f64, matrix_length: usize, lists: *const u8, lists_length: usize, k: usize, i: usize, j: usize, c: usize) -> u8;
 }
 
 // ---- time
@@ -37,6 +37,7 @@ extern "C" {
 fn thread_time() -> f64 {
     const THREAD: i32 = 3;
     let mut spent = Spent { seconds: 0, nanoseconds: 0 };
+    // SAFETY: `spent` is laid out as C's timespec on x86-64 Linux, and is written alone.
     assert_eq!(unsafe { clock_gettime(THREAD, &mut spent) }, 0);
     spent.seconds as f64 * 1e9 + spent.nanoseconds as f64
 }
@@ -88,6 +89,7 @@ fn fresh(s: &Shape, seed: u64) -> Lent {
 
 /// The records as the Rust side has them, five bytes each.
 fn bytes(records: &mut [solumivaf::Record]) -> &mut [Record] {
+    // SAFETY: a `solumivaf::Record` is five `u8` in C's layout, so it has the size and alignment of five bytes; the borrow passes on.
     unsafe { std::slice::from_raw_parts_mut(records.as_mut_ptr().cast(), records.len()) }
 }
 
@@ -170,7 +172,7 @@ fn rattle_columns(kind: usize, s: &Shape, k: usize, i: usize, x: &mut Lent) {
     let (n, t, ml, ll) = (s.tiles, s.side, x.to.matrix.len(), x.to.lists.len());
     let (m, l) = (x.to.matrix.as_mut_ptr(), x.to.lists.as_mut_ptr());
     for c in 0..t {
-        // What the functions require holds: sizes and lengths that fit, finite numbers, entries in range.
+        // SAFETY: what the functions require holds: sizes and lengths that fit, finite numbers, entries in range. The two buffers are apart.
         let mark = unsafe {
             match kind {
                 1 => bench_factor_column(n, t, m, ml, l, ll, k, c),

@@ -7,6 +7,11 @@ pub struct Shape {
 }
 
 impl Shape {
+    /// Refusal 1, but for the workers.
+    pub fn in_range(&self) -> bool {
+        (1..=16).contains(&self.tiles) && (1..=16).contains(&self.side)
+    }
+
     pub fn tile(&self, i: usize, j: usize) -> usize {
         (i * self.tiles + j) * self.side * self.side
     }

@@ -10,13 +10,14 @@ struct Sizes {
     workers: usize,
 }
 
-// A slice is its start and its length.
+// A slice is its start and its length. To be safe a call needs starts and lengths that belong together, of buffers that do not overlap and that
+// no one else writes: each is that of a Vec or slice of its own, borrowed for the call. The functions require nothing else.
 extern "C" {
-    fn bench_open(z: Sizes, matrix: *const f64, matrix_len: usize, lists: *mut u8, lists_len: usize, records: *mut Record, records_len: usize) -> u8;
-    fn bench_take(z: Sizes, matrix: *const f64, matrix_len: usize, lists: *const u8, lists_len: usize, records: *mut Record, records_len: usize, w: usize, p: usize) -> u8;
-    fn bench_column(z: Sizes, matrix: *mut f64, matrix_len: usize, lists: *mut u8, lists_len: usize, records: *mut Record, records_len: usize, w: usize, p: u16, c: u8) -> u8;
-    fn bench_run(z: Sizes, matrix: *mut f64, matrix_len: usize, lists: *mut u8, lists_len: usize, records: *mut Record, records_len: usize, budget: u64) -> u64;
-    fn bench_solve(z: Sizes, matrix: *const f64, matrix_len: usize, lists: *const u8, lists_len: usize, records: *const Record, records_len: usize, right: *const f64, right_len: usize, answers: *mut f64, answers_len: usize) -> u8;
+    fn bench_open(z: Sizes, matrix: *const f64, matrix_length: usize, lists: *mut u8, lists_length: usize, records: *mut Record, records_length: usize) -> u8;
+    fn bench_take(z: Sizes, matrix: *const f64, matrix_length: usize, lists: *const u8, lists_length: usize, records: *mut Record, records_length: usize, w: usize, p: usize) -> u8;
+    fn bench_column(z: Sizes, matrix: *mut f64, matrix_length: usize, lists: *mut u8, lists_length: usize, records: *mut Record, records_length: usize, w: usize, p: u16, c: u8) -> u8;
+    fn bench_run(z: Sizes, matrix: *mut f64, matrix_length: usize, lists: *mut u8, lists_length: usize, records: *mut Record, records_length: usize, budget: u64) -> u64;
+    fn bench_solve(z: Sizes, matrix: *const f64, matrix_length: usize, lists: *const u8, lists_length: usize, records: *const Record, records_length: usize, right: *const f64, right_length: usize, answers: *mut f64, answers_length: usize) -> u8;
 }
 
 fn sizes(s: &Shape, workers: usize) -> Sizes {
@@ -27,6 +28,7 @@ fn sizes(s: &Shape, workers: usize) -> Sizes {
 pub fn factorize(s: &Shape, workers: usize, budget: u64, x: &mut Lent) -> u64 {
     let (ml, ll, rl) = (x.matrix.len(), x.lists.len(), x.records.len());
     let (m, l, r) = (x.matrix.as_mut_ptr(), x.lists.as_mut_ptr(), x.records.as_mut_ptr());
+    // SAFETY: as above the functions' declarations.
     unsafe {
         assert_eq!(bench_open(sizes(s, workers), m, ml, l, ll, r, rl), 0);
         bench_run(sizes(s, workers), m, ml, l, ll, r, rl, budget)
@@ -35,17 +37,20 @@ pub fn factorize(s: &Shape, workers: usize, budget: u64, x: &mut Lent) -> u64 {
 
 pub fn take(s: &Shape, workers: usize, p: usize, x: &mut Lent) -> u8 {
     let (ml, ll, rl) = (x.matrix.len(), x.lists.len(), x.records.len());
+    // SAFETY: as above the functions' declarations.
     unsafe { bench_take(sizes(s, workers), x.matrix.as_ptr(), ml, x.lists.as_ptr(), ll, x.records.as_mut_ptr(), rl, 0, p) }
 }
 
 pub fn column(s: &Shape, workers: usize, p: usize, c: usize, x: &mut Lent) -> u8 {
     let (ml, ll, rl) = (x.matrix.len(), x.lists.len(), x.records.len());
     let (m, l, r) = (x.matrix.as_mut_ptr(), x.lists.as_mut_ptr(), x.records.as_mut_ptr());
+    // SAFETY: as above the functions' declarations.
     unsafe { bench_column(sizes(s, workers), m, ml, l, ll, r, rl, 0, p as u16, c as u8) }
 }
 
 pub fn solve(s: &Shape, right: &[f64], x: &Lent, answers: &mut [f64]) -> u8 {
     let (ml, ll, rl, al) = (x.matrix.len(), x.lists.len(), x.records.len(), answers.len());
     let (m, l, r) = (x.matrix.as_ptr(), x.lists.as_ptr(), x.records.as_ptr());
+    // SAFETY: as above the functions' declarations.
     unsafe { bench_solve(sizes(s, 1), m, ml, l, ll, r, rl, right.as_ptr(), right.len(), answers.as_mut_ptr(), al) }
 }

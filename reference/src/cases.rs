@@ -4,6 +4,7 @@ use crate::families::{numbers, FAMILIES};
 use crate::kernels::Case;
 use crate::numbers::{LARGEST as M, SMALLEST as S};
 use crate::rng::Rng;
+use crate::tile::Shape;
 
 /// Four tiles in tile order with lists of zeros.
 fn crafted(kind: u8, side: usize, column: usize, tiles: [&[f64]; 4]) -> Case {
@@ -72,19 +73,13 @@ fn crafted_doubles() -> Vec<Case> {
     cases
 }
 
-/// Entries valid for their place: up to t − 1 on the diagonal, t below it, 0 above it.
-pub fn random_lists(rng: &mut Rng, tiles: usize, side: usize) -> Vec<u8> {
+/// Entries valid for their place.
+pub fn random_lists(rng: &mut Rng, shape: Shape) -> Vec<u8> {
     let mut lists = Vec::new();
-    for i in 0..tiles {
-        for j in 0..tiles {
-            for _ in 0..side {
-                let entry = if i == j {
-                    rng.below(side)
-                } else if i > j {
-                    rng.below(side + 1)
-                } else {
-                    0
-                };
+    for i in 0..shape.tiles {
+        for j in 0..shape.tiles {
+            for _ in 0..shape.side {
+                let entry = if i < j { 0 } else { rng.below(shape.largest_entry(i, j) + 1) };
                 lists.push(entry as u8);
             }
         }
@@ -100,7 +95,7 @@ fn random_case(rng: &mut Rng, kind: u8, side: usize, family: usize) -> Case {
         1 => set_column(rng, side, column, &mut matrix, &[1.0, -1.0]),
         _ => {}
     }
-    let lists = random_lists(rng, 2, side);
+    let lists = random_lists(rng, Shape { tiles: 2, side });
     Case { kind, side, column, matrix, lists }
 }
 

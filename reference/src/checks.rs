@@ -101,15 +101,8 @@ fn workers_fit(shape: Shape, workers: usize, lent: &Lent) -> bool {
 fn entries_fit(shape: Shape, lent: &Lent) -> bool {
     for i in 0..shape.tiles {
         for j in 0..shape.tiles {
-            let most = if i == j {
-                shape.side - 1
-            } else if i > j {
-                shape.side
-            } else {
-                0
-            };
             for c in 0..shape.side {
-                if lent.lists[shape.entry(i, j, c)] as usize > most {
+                if lent.lists[shape.entry(i, j, c)] as usize > shape.largest_entry(i, j) {
                     return false;
                 }
             }

@@ -32,6 +32,11 @@ pub fn divide(x: f64, d: f64) -> Option<f64> {
     Some(quotient)
 }
 
+/// The numbers' bits, by which a result is compared.
+pub fn bits(numbers: &[f64]) -> Vec<u64> {
+    numbers.iter().map(|number| number.to_bits()).collect()
+}
+
 /// The offset of the first element that is not finite.
 pub fn first_not_finite(numbers: &[f64]) -> Option<usize> {
     for offset in 0..numbers.len() {

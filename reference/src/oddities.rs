@@ -49,7 +49,7 @@ pub fn odd_state(rng: &mut Rng, shape: Shape, workers: usize, family: usize, all
     let count = table(shape.tiles).tasks.len();
     let mut lent = Lent {
         matrix: numbers(rng, family, shape.matrix_length()),
-        lists: random_lists(rng, shape.tiles, shape.side),
+        lists: random_lists(rng, shape),
         records: Vec::new(),
         workers: [IDLE; SLOTS],
     };
@@ -168,14 +168,8 @@ fn raise_entry(rng: &mut Rng, shape: Shape, lent: &mut Lent) {
     let i = rng.below(shape.tiles);
     let j = rng.below(shape.tiles);
     let c = rng.below(shape.side);
-    let most = if i == j {
-        shape.side - 1
-    } else if i > j {
-        shape.side
-    } else {
-        0
-    };
-    lent.lists[shape.entry(i, j, c)] = if rng.percent(70) { most as u8 + 1 } else { 255 };
+    let most = shape.largest_entry(i, j) as u8;
+    lent.lists[shape.entry(i, j, c)] = if rng.percent(70) { most + 1 } else { 255 };
 }
 
 /// A busy worker's column set to t or beyond, where one is busy.

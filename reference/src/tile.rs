@@ -1,5 +1,7 @@
 //! The columns of T-1 to T-4 on the lent matrix and row lists, and the fill of a failed or spoiled task.
 
+use std::cmp::Ordering;
+
 use crate::numbers::{divide, update};
 use crate::tasks::Task;
 
@@ -32,6 +34,15 @@ impl Shape {
     /// The offset of entry c of row list (i, j).
     pub fn entry(self, i: usize, j: usize, c: usize) -> usize {
         (i * self.tiles + j) * self.side + c
+    }
+
+    /// The largest entry that row list (i, j) may hold: a row of its own tile on the diagonal, none or a lower row below it, 0 above it.
+    pub fn largest_entry(self, i: usize, j: usize) -> usize {
+        match i.cmp(&j) {
+            Ordering::Equal => self.side - 1,
+            Ordering::Greater => self.side,
+            Ordering::Less => 0,
+        }
     }
 
     /// The offset of row and column counted over the whole matrix.

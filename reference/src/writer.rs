@@ -51,22 +51,30 @@ impl Writer {
         self.options.max_bytes.saturating_sub(used)
     }
 
-    /// Adds a line and plays it; true where the call was accepted. A line that would pass the
-    /// greatest size is left out.
-    pub fn say(&mut self, line: String) -> bool {
+    /// Adds a line and plays it: its answer. A line that would pass the greatest size is left out.
+    fn add(&mut self, line: &str) -> Option<String> {
         if self.script.len() + line.len() + 1 > self.options.max_bytes {
-            return false;
+            return None;
         }
-        let answer = self.player.play(&line);
-        self.script.push_str(&line);
+        self.script.push_str(line);
         self.script.push('\n');
-        self.calls += 1;
-        answer.starts_with("00")
+        Some(self.player.play(line))
     }
 
+    /// Adds a call, where there is room for it; true where it was accepted.
+    pub fn say(&mut self, line: String) -> bool {
+        match self.add(&line) {
+            Some(answer) => {
+                self.calls += 1;
+                answer.starts_with("00")
+            }
+            None => false,
+        }
+    }
+
+    /// Adds a lend line, which is no call.
     pub fn lend(&mut self, lent: &Lent) {
-        self.say(lend_line(lent));
-        self.calls -= 1;
+        self.add(&lend_line(lent));
     }
 
     pub fn told(&self) -> Sizes {

@@ -5,14 +5,11 @@ use reference::crafted::all_crafted;
 use reference::families::{numbers, FAMILIES};
 use reference::lent::{Lent, Sizes};
 use reference::loops::published_loops;
+use reference::numbers::bits;
 use reference::oddities::before_opening;
 use reference::rng::Rng;
 use reference::solve::marks;
 use reference::tile::Shape;
-
-fn bits(numbers: &[f64]) -> Vec<u64> {
-    numbers.iter().map(|number| number.to_bits()).collect()
-}
 
 fn told(shape: Shape, workers: usize) -> Sizes {
     Sizes { tiles: shape.tiles as u64, side: shape.side as u64, workers: workers as u64 }

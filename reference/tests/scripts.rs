@@ -4,7 +4,7 @@ use reference::cases::all_cases;
 use reference::kernels::{kernel_line, Case};
 use reference::script::Player;
 use reference::vectors::script;
-use reference::writer::Options;
+use reference::writer::{Options, Writer};
 
 fn short_script(seed: u64) -> String {
     script(Options { seed, calls: 2500, max_bytes: 600_000 })
@@ -108,4 +108,13 @@ fn cases_end_in_every_way() {
             assert!(met[kind][answer] >= 2, "{met:?}");
         }
     }
+}
+
+#[test]
+fn a_line_left_out_is_no_call() {
+    let mut writer = Writer::new(Options { seed: 1, calls: 5, max_bytes: 10 });
+    let lent = writer.player.lent.clone();
+    writer.lend(&lent);
+    assert!(!writer.open());
+    assert_eq!((writer.calls, writer.script.as_str()), (0, ""));
 }

@@ -4,7 +4,7 @@ use reference::calls::{opening, run, take, Run};
 use reference::crafted::tile_order;
 use reference::lent::{Lent, Record, Refusal, Sizes, IDLE, SLOTS};
 use reference::loops::published_loops;
-use reference::numbers::LARGEST as M;
+use reference::numbers::{bits, LARGEST as M};
 use reference::solve::{solve, Outcome};
 use reference::tasks::table;
 use reference::tile::Shape;
@@ -40,10 +40,6 @@ fn finished(tiles: usize, side: usize, rows: &[f64]) -> (Sizes, Lent, Outcome) {
     assert_eq!(lent.lists, last.lists);
     assert_eq!(reference::solve::marks(&lent), last.marks);
     (told, lent, last.outcome)
-}
-
-fn bits(numbers: &[f64]) -> Vec<u64> {
-    numbers.iter().map(|number| number.to_bits()).collect()
 }
 
 #[test]

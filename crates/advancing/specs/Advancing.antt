@@ -14,7 +14,7 @@ use Rattle.model.specs.Buffer.{Ended, finiteTiles}
 use Rattle.model.specs.Calls.{marked, columnOf}
 use Rattle.worker.specs.Holding.{idle, holding}
 use Rattle.records.specs.Records.{recordsFrom, lent}
-use Rattle.states.specs.States.{Sound}
+use Rattle.states.specs.States.{Undamaged}
 
 -- what the column of worker h leaves, for any slots beside it: the buffers and the task's mark as its column makes them, and the worker h'
 pub record Advanced (z : Sizes) (h : Worker) (m : List Float) (l : List ℕ) (r : List (List ℕ)) (m' : List Float) (l' : List ℕ) (r' : List (List ℕ)) (h' : Worker) : Type 0 where
@@ -24,9 +24,9 @@ pub record Advanced (z : Sizes) (h : Worker) (m : List Float) (l : List ℕ) (r 
   pub records : recordsFrom r' ≡ marked (h .task) mark (recordsFrom r)
   pub worker : h' ≡ cond (finished mark) idle (holding (h .task) (suc (h .column)))
 
--- worker w is busy in a sound state, and the tiles that its task touches are finite
+-- worker w is busy in an undamaged state, and the tiles that its task touches are finite
 pub record Working (z : Sizes) (w : ℕ) (m : List Float) (l : List ℕ) (r : List (List ℕ)) (ws : List Worker) : Type 0 where
-  pub sound : Sound z m l r ws
+  pub sound : Undamaged z m l r ws
   pub exists : w < z .workers
   pub busy : getD ws w idle .busy ≡ true
   pub tiles-finite : finiteTiles (planOf z) (task (tasks (z .tiles)) (getD ws w idle .task)) (record { matrix = m; lists = l }) ≡ true

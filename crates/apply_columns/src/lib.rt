@@ -2,11 +2,11 @@
 ghost use mathlib.Core.Path.{_≡_};
 ghost use Rattle.model.specs.Task.{T-2};
 ghost use Rattle.model.specs.Plan.{planOf};
-ghost use Rattle.model.specs.Buffer.{markOf, columnEnds};
+ghost use Rattle.model.specs.Buffer.{markAfter, columnEnds};
 ghost use Rattle.column_laws.specs.Workable.{Workable};
 use apply_blocks::apply_rows;
 use block_starts::start_block;
-use column_ends::ended;
+use column_ends::column_end;
 use fills::fill::fill_numbers;
 use model::ColumnEnd;
 use model::Sizes;
@@ -24,7 +24,7 @@ pub fn apply_column(
     c: usize,
 ) -> ColumnEnd
     requires { ⌜ Workable z (T-2 k j) c (now matrix) (now lists) ⌝ }
-    ensures { λ r. ⌜ record { left = record { matrix = now (matrix .exit); lists = now (lists .entry) }; mark = markOf r }
+    ensures { λ r. ⌜ record { left = record { matrix = now (matrix .exit); lists = now (lists .entry) }; mark = markAfter r }
         ≡ columnEnds (planOf z) (T-2 k j) c (record { matrix = now (matrix .entry); lists = now (lists .entry) }) ⌝ }
 {
     let n = z.tiles;
@@ -35,7 +35,7 @@ pub fn apply_column(
     let l = read_column(matrix, d + ((c + 1) * t + c), t, t - (c + 1));
     start_block(matrix, lists, t, t, a, p, c);
     if apply_rows(matrix, t, t, a, c, l) {
-        return ended(t, c);
+        return column_end(t, c);
     }
     fill_numbers(matrix, a, t * t);
     ColumnEnd::Failed

@@ -1,8 +1,7 @@
 -- The rows from last to first, as loops do them. Assumes nothing.
 use mathlib.Core.Path.{_≡_, refl, sym, _∙_, ap}
-use mathlib.Core.List.{List, [], _∷_, _++_, reverse, reverse-append}
-use Prim.Native.Nat.{ℕ, zero, suc, _+_}
-use native.Mathlib.Nat.{add-zero, zero-add, add-suc, suc-add}
+use mathlib.Core.List.{List, [], _∷_, reverse, reverse-append}
+use Prim.Native.Nat.{ℕ, suc}
 use lib.ListN.{set}
 use lib.Ieee.{Float}
 use Rattle.model.specs.declared.Row.{Row}
@@ -15,17 +14,12 @@ use Rattle.progress.specs.declared.Progress.{Progress}
 use Rattle.progress.specs.declared.Progress.the-variants.{Going, Stopped}
 use Rattle.progress.specs.Right.{passedOf}
 use Rattle.progress.proofs.Turns.{turns-stop}
+use Rattle.laws.proofs.Runs.{below-last}
 use Rattle.backward.specs.Rows.{backBelow}
 
--- one number more
-run-last : (a n : ℕ) → run a (suc n) ≡ run a n ++ ((a + n) ∷ [])
-unfolding run
-run-last a zero = rw (add-zero a)
-run-last a (suc n) = ap (λ (xs : List ℕ). a ∷ xs) (run-last (suc a) n ∙ rw (suc-add a n, ← add-suc a n))
-
-below-last : (k : ℕ) → reverse (below (suc k)) ≡ k ∷ reverse (below k)
-unfolding below
-below-last k = ap reverse (run-last 0 k) ∙ reverse-append (run 0 k) ((0 + k) ∷ []) ∙ rw (zero-add k)
+-- the last number comes first
+reverse-below : (k : ℕ) → reverse (below (suc k)) ≡ k ∷ reverse (below k)
+reverse-below k = ap reverse (below-last k) ∙ reverse-append (below k) (k ∷ [])
 
 module _ (z : Plan) (s : Buffers) where
   back-keeps : (x e : ℕ) → back z s x (stopped e) ≡ stopped e
@@ -42,7 +36,7 @@ module _ (z : Plan) (s : Buffers) where
 
   back-last : (k : ℕ) (p : Passed) → backBelow z s (suc k) p ≡ backBelow z s k (back z s k p)
   unfolding backBelow inTurn
-  back-last k p = ap (λ (xs : List ℕ). inTurn (back z s) xs p) (below-last k)
+  back-last k p = ap (λ (xs : List ℕ). inTurn (back z s) xs p) (reverse-below k)
 
   -- row k by what it yields
   module _ (k : ℕ) (y : List Float) (r : Row) (e : r ≡ row z s k y) where

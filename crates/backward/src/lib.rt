@@ -5,7 +5,7 @@ ghost use Prim.Native.Nat.{ℕ, _+_, _*_, _<_};
 ghost use Rattle.model.specs.Plan.{planOf};
 ghost use Rattle.model.specs.Solve.{going};
 ghost use Rattle.progress.specs.Right.{passedOf};
-ghost use Rattle.subtractions.specs.Subtracted.{Upper};
+ghost use Rattle.subtractions.specs.Subtracted.{BackwardFits};
 ghost use Rattle.backward.specs.Rows.{backBelow};
 use backward_row::back_row;
 use model::Row;
@@ -14,7 +14,7 @@ use progress::Progress;
 
 // The rows of tile row i, from last to first: each row's number takes its place in y. Where one isn't finite the row is told.
 fn back_tile(z: Sizes, matrix: &[f64], y: &mut [f64], i: usize) -> Progress
-    requires { ⌜ Upper z (now matrix) (now y) ⌝ }
+    requires { ⌜ BackwardFits z (now matrix) (now y) ⌝ }
     requires { ⌜ i < z .tiles ⌝ }
     ensures { λ r. ⌜ ((lists : List ℕ) → backBelow (planOf z) (record { matrix = now (matrix .entry); lists = lists }) (i * z .side) (passedOf r (now (y .exit)))
         ≡ backBelow (planOf z) (record { matrix = now (matrix .entry); lists = lists }) (i * z .side + z .side) (going (now (y .entry)))) ⌝ }
@@ -35,7 +35,7 @@ fn back_tile(z: Sizes, matrix: &[f64], y: &mut [f64], i: usize) -> Progress
 
 // All rows, from last to first. Where one isn't finite the row is told, and y is left as far as it came.
 pub fn back_rows(z: Sizes, matrix: &[f64], y: &mut [f64]) -> Progress
-    requires { ⌜ Upper z (now matrix) (now y) ⌝ }
+    requires { ⌜ BackwardFits z (now matrix) (now y) ⌝ }
     ensures { λ r. ⌜ ((lists : List ℕ) → passedOf r (now (y .exit))
         ≡ backBelow (planOf z) (record { matrix = now (matrix .entry); lists = lists }) (z .tiles * z .side) (going (now (y .entry)))) ⌝ }
 {

@@ -15,11 +15,11 @@ use Rattle.model.specs.Plan.{plan, planOf, order}
 use Rattle.model.specs.Buffer.{Buffers}
 use Rattle.model.specs.Solve.{coefficient, rowLeft, rowValue}
 use Rattle.column_laws.specs.Steps.{tileStart}
-use Rattle.column_laws.proofs.Places.{slot-room}
 use Rattle.laws.proofs.Finite.{finite-get}
 use Rattle.subtractions.specs.Subtracted.{subtracted}
 use Rattle.subtractions.proofs.Segments.{row-run, row-split, factor-at}
 use Rattle.subtractions.proofs.Places.{Placed}
+use Rattle.laws.proofs.Blocks.{row-end}
 
 module _ (z : Sizes) (m : List Float) (l : List ℕ) (y : List Float) (i r : ℕ) (hr : r < z .side) where
   abbrev N : ℕ
@@ -55,7 +55,7 @@ module _ (z : Sizes) (m : List Float) (l : List ℕ) (y : List Float) (i r : ℕ
     rest-is : rest ≡ rowLeft (planOf z) s (i * t + r) y (beyond (order (planOf z)) (i * t + r)) (getD y (i * t + r) nan)
     unfolding beyond order plan
     rest-is =
-        let room = slot-room N t i hi in
+        let room = row-end i N t hi in
         let all : N * t - suc (i * t + r) ≡ t - suc r + (N * t - suc i * t) = omega arith in
         let next : suc (i * t + r) + (t - suc r) ≡ suc i * t = omega arith in
         e ∙ rw (beside-is, all, row-split (planOf z) s (i * t + r) y (suc (i * t + r)) (t - suc r) (N * t - suc i * t) (getD y (i * t + r) nan), next)

@@ -4,7 +4,7 @@ ghost use mathlib.Core.List.{List};
 ghost use Prim.Native.Nat.{ℕ, _+_, _*_, _<_};
 ghost use Rattle.model.specs.Plan.{planOf};
 ghost use Rattle.model.specs.Solve.{row as rowOf};
-ghost use Rattle.subtractions.specs.Subtracted.{Upper};
+ghost use Rattle.subtractions.specs.Subtracted.{BackwardFits};
 use model::Row;
 use model::Sizes;
 use numbers::number::is_finite;
@@ -14,7 +14,7 @@ use subtractions::subtract_tiles;
 
 // Row i·t + r: its number is y's own, less u·y for the columns right of the diagonal, left to right, divided by the diagonal.
 pub fn back_row(z: Sizes, matrix: &[f64], y: &[f64], i: usize, r: usize) -> Row
-    requires { ⌜ Upper z (now matrix) (now y) ⌝ }
+    requires { ⌜ BackwardFits z (now matrix) (now y) ⌝ }
     requires { ⌜ (i < z .tiles) × (r < z .side) ⌝ }
     ensures { λ v. ⌜ ((lists : List ℕ) → v ≡ rowOf (planOf z) (record { matrix = now (matrix .entry); lists = lists }) (i * z .side + r) (now (y .entry))) ⌝ }
 {

@@ -2,27 +2,15 @@
 // afterwards.
 ghost use mathlib.Core.Path.{_≡_};
 ghost use Rattle.model.specs.Task.{T-1, T-2, T-3, T-4};
-ghost use Rattle.model.specs.Plan.{planOf};
-ghost use Rattle.model.specs.Buffer.{markOf, columnEnds};
+ghost use Rattle.model.specs.Plan.{sizes, planOf};
+ghost use Rattle.model.specs.Buffer.{columnEnds};
 ghost use Rattle.column_laws.specs.Workable.{Workable};
-ghost use Rattle.bench_host.specs.Bench.{sizes};
 use apply_columns::apply_column;
+use column_marks::mark_after;
 use couple_columns::couple_column;
 use factor_columns::factor_column;
-use model::ColumnEnd;
 use model::Sizes;
 use pair_columns::pair_column;
-
-// The mark that a column's end gives its task.
-fn mark_after(end: ColumnEnd) -> u8
-    ensures { λ r. ⌜ r ≡ markOf end ⌝ }
-{
-    match end {
-        ColumnEnd::GoesOn => 1,
-        ColumnEnd::Done => 2,
-        ColumnEnd::Failed => 3,
-    }
-}
 
 // Column c of T-1(k).
 #[no_mangle]

@@ -2,17 +2,18 @@
 -- Assumes nothing.
 use Prim.Native.Nat.{ℕ, zero, suc, _+_, _-_, _≤_, _<_}
 use mathlib.Core.Bool.{Bool, true, false, cond}
-use mathlib.Core.Path.{_≡_, refl, ap}
+use mathlib.Core.Path.{_≡_}
 use mathlib.Core.List.{List, [], _∷_, map}
 use native.Mathlib.Omega.{arith}
 use lib.Ieee.{Float}
-use lib.ListN.{length, getD, length-map}
+use lib.ListN.{length, getD}
 use lib.ListN as L
 use Rattle.model.specs.declared.Pivot.{Pivot}
 use Rattle.model.specs.Lists.{run, below}
 use Rattle.model.specs.Num.{isZero, magnitude, exceeds}
 use Rattle.model.specs.Tile.{at}
 use Rattle.model.specs.Column.{Factored, Coupled, better, searchFrom, search, factorCandidates, factorPivot, factorColumn, coupleCandidates, couplePivot, coupleColumn}
+use Rattle.laws.proofs.Runs.{length-map-run}
 use Rattle.cells.proofs.Choices.{either}
 
 -- ---- the place of a pivot
@@ -35,16 +36,11 @@ unfolding search
 search-place m [] l = omega arith
 search-place m (x ∷ xs) l = search-from 1 m (record { place = 0; magnitude = magnitude x }) xs (omega arith) (omega arith)
 
-length-run : (a n : ℕ) → length (run a n) ≡ n
-unfolding run
-length-run a zero = refl
-length-run a (suc n) = ap suc (length-run (suc a) n)
-
 module _ (t c : ℕ) where
   pub factor-place : c < t → (a : List Float) → c + factorPivot t c a .place < t
   unfolding factorPivot factorCandidates
   factor-place h a =
-      let l : length (map (λ r. at t a r c) (run c (t - c))) ≡ t - c = rw (length-map, length-run) in
+      let l : length (map (λ r. at t a r c) (run c (t - c))) ≡ t - c = length-map-run _ c (t - c) in
       let k : search (map (λ r. at t a r c) (run c (t - c))) .place ≤ t - c - 1 = search-place (t - c - 1) (map (λ r. at t a r c) (run c (t - c)))
       (omega arith) in
       omega arith
@@ -52,7 +48,7 @@ module _ (t c : ℕ) where
   pub couple-place : (u d : List Float) → couplePivot t c u d .place ≤ t
   unfolding couplePivot coupleCandidates below
   couple-place u d =
-      let l : length (map (λ r. at t d r c) (run 0 t)) ≡ t = rw (length-map, length-run) in
+      let l : length (map (λ r. at t d r c) (run 0 t)) ≡ t = length-map-run _ 0 t in
       search-place t (at t u c c ∷ map (λ r. at t d r c) (run 0 t)) (omega arith)
 
 -- ---- the entries of a list

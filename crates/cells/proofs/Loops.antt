@@ -20,7 +20,7 @@ use Rattle.order_free.specs.Below.{set}
 use Rattle.order_free.specs.System.{System}
 use Rattle.order_free.specs.Graph.{Mark, spoils}
 use Rattle.order_free.specs.Graph as G
-use Rattle.order_free.specs.Loops.{Outcome, Swept, loops}
+use Rattle.order_free.specs.Loops.{TaskEnd, Swept, loops}
 use Rattle.order_free.specs.Loops as OL
 use Rattle.cells.specs.Cells.{Val, view, system}
 use Rattle.cells.proofs.Elements.{getD-same}
@@ -51,13 +51,13 @@ module _ (N t : ℕ) where
   -- ---- a task
 
   -- what a task or a column left in the model, and in the system
-  pub record Ends (e : Ended) (o : Outcome S) : Type 0 where
+  pub record Ends (e : Ended) (o : TaskEnd S) : Type 0 where
     pub left : Same N t (e .left) (o .cells)
     pub mark : toMark (e .mark) ≡ o .mark
     pub begun : 1 ≤ e .mark
     pub most : e .mark ≤ 4
 
-  pub either-ends : (b b' : Bool) → b ≡ b' → (x y : Ended) (u v : Outcome S) → Ends x u → Ends y v
+  pub either-ends : (b b' : Bool) → b ≡ b' → (x y : Ended) (u v : TaskEnd S) → Ends x u → Ends y v
       → Ends (elim b as (λ q. Ended) [ true ↦ x | false ↦ y ]) (cond b' u v)
   either-ends true b' e x y u v p q = subst (λ (c : Bool). Ends x (cond c u v)) e p
   either-ends false b' e x y u v p q = subst (λ (c : Bool). Ends y (cond c u v)) e q

@@ -21,7 +21,6 @@ use Rattle.model.specs.Buffer.{sound, columnEnds}
 use Rattle.model.specs.Loops.{start}
 use Rattle.model.specs.Calls.{Lent, marksOf, recordOf, withMark, marked, worker, opened, took, columnOf, advanced}
 use Rattle.worker.specs.Holding.{holding}
-use Rattle.model.specs.Calls as MC
 use Rattle.worker.specs.Holding as MH
 use Rattle.order_free.specs.Below.{set}
 use Rattle.order_free.specs.System.{System}

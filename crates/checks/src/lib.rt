@@ -1,2 +1,2 @@
-// The tests behind refusals 1 and 2: each answers what the definition of its refusal says. And what the checks may count on.
+// Refusals 1 and 2, and what later checks may count on.
 pub mod sizes;

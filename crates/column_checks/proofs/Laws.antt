@@ -19,14 +19,13 @@ use Rattle.model.specs.Calls.{Lent, worker}
 use Rattle.worker.specs.Holding.{idle}
 use Rattle.model.specs.Refusal.{refuse, badSizes, badLengths, damaged, badTiles, noWorker, columnAnswer}
 use Rattle.laws.proofs.Refusals.{passed}
-use Rattle.laws.proofs.Tests.{or-left, or-right, or-false-left, or-false-right}
+use Rattle.laws.proofs.Tests.{or-left, or-right, or-false-left, or-false-right, and-true-not}
 use Rattle.records.specs.Records.{recordsFrom, blank, lent}
 use Rattle.checks.specs.Checks.{Inside, taskFrom}
 use Rattle.answers.specs.Answers.{accepts}
 use Rattle.answers.proofs.Refusals.{refuses, passes, is-accepted}
-use Rattle.states.specs.States.{stateAnswer, Sound}
+use Rattle.states.specs.States.{stateAnswer, Undamaged}
 use Rattle.states.proofs.Laws.{sound, goes-on, stops}
-use Rattle.run_laws.proofs.Undamaged.{and-true-not}
 use Rattle.call_laws.proofs.Undamaged.{worker-lent, worker-beyond, workers-long, worker-holds, record-named, record-inside}
 
 module _ (z : Sizes) (m : List Float) (l : List ℕ) (r : List (List ℕ)) (ws : List Worker) (w : ℕ) where
@@ -57,7 +56,7 @@ module _ (z : Sizes) (m : List Float) (l : List ℕ) (r : List (List ℕ)) (ws :
     state-stops q = e ∙ stops z old bad (badTiles (planOf z) w old) damaged-is-bad else-tiles from-5 (ap accepts (sym e) ∙ sym f ∙ q)
 
     module _ (q : b ≡ true) (long : length ws ≡ 32) where
-      pub is-sound : Sound z m l r ws
+      pub is-sound : Undamaged z m l r ws
       is-sound = sound z m l r ws (sym e ∙ is-accepted a b f q)
 
       -- refusal 4 is left for the tiles
@@ -124,7 +123,7 @@ module _ (z : Sizes) (m : List Float) (l : List ℕ) (r : List (List ℕ)) (ws :
 
   -- the state is sound, and worker w exists, is busy and has finite tiles
   pub accepted-then : length ws ≡ 32 → columnAnswer z w old ≡ Accepted
-      → Sound z m l r ws × (w < z .workers) × (getD ws w idle .busy ≡ true) × (finiteTiles (planOf z) (task (tasks (z .tiles)) (getD ws w idle .task)) buffers ≡ true)
+      → Undamaged z m l r ws × (w < z .workers) × (getD ws w idle .busy ≡ true) × (finiteTiles (planOf z) (task (tasks (z .tiles)) (getD ws w idle .task)) buffers ≡ true)
   unfolding columnAnswer stateAnswer noWorker badTiles
   accepted-then long e =
       let a = passed 1 0 (badSizes z) _ e in

@@ -10,7 +10,8 @@ use states::state_answer;
 use task_tiles::bad_tiles;
 use worker::Worker;
 
-// What a column call of worker w answers. A worker that is idle or doesn't exist has no task, whose tiles could be bad.
+// What a column call of worker w answers. 5 is tested before 4's tiles: a worker that is idle or doesn't exist has no tiles to test, and a busy one
+// is never refused with 5.
 pub fn column_answer(
     z: Sizes,
     matrix: &[f64],

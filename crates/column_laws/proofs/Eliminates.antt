@@ -20,9 +20,8 @@ use Rattle.multipliers.specs.Divided.{ColumnDivided}
 use Rattle.row_updates.specs.Updates.{RowsUpdated, updatedRows, rowsCompute}
 use Rattle.laws.proofs.Tests.{Order, less, equal, more, order, lt-or-le}
 use Rattle.laws.proofs.Blocks.{block-cong, in-block, column-same}
-use Rattle.laws.proofs.Parts.{Fits, length-put, get-in, get-before, get-after, put-put}
+use Rattle.laws.proofs.Parts.{Fits, length-put, get-in, get-before, get-after, put-put, length-part, get-part}
 use Rattle.column_laws.specs.Steps.{RowsEliminated, eliminatedRows, eliminatedComputes}
-use Rattle.column_laws.proofs.Nested.{length-part, get-part}
 use Rattle.column_laws.proofs.Computes.{every-joined}
 use Rattle.laws.proofs.Finite.{finite-at, finite-rows}
 use Rattle.column_laws.proofs.Updates.{compare-less, compare-equal, compare-more, at-part, row-finite}
@@ -75,7 +74,7 @@ module _ (k t c s top : ℕ) (hc : c < t) (m : List Float) (room : s + k * t ≤
       (λ g. ⊎-elim
       (λ l.
       let e : s + (i - s) ≡ i = omega arith in
-      let p = get-in (k * t) nan s m (part s (k * t) mid) mid-fits (i - s) (omega arith) ∙ get-part s (k * t) mid mid-room nan (i - s) (omega arith) in
+      let p = get-in (k * t) nan s m (part s (k * t) mid) mid-fits (i - s) (omega arith) ∙ get-part s (k * t) mid nan (i - s) (omega arith) in
       sym (rw e at p))
       (λ r.
       div .other-at i (λ j hj p. omega (arith, in-block k t j c hj hc)) ∙ sym (get-after (k * t) nan s m (part s (k * t) mid) mid-fits i r))

@@ -19,10 +19,10 @@ use Rattle.model.specs.Links.{taken, done, failed}
 use Rattle.model.specs.Plan.{Plan, plan}
 use Rattle.model.specs.Buffer.{Buffers, tile, putTile, putRows, tileOf, withTile, withRows, worked, sound, fillTile, fillRows, upperFilled, fillUpper, filled, columnEnds}
 use Rattle.upper_fills.specs.Zeroed.{upperZeroed}
-use Rattle.laws.proofs.Parts.{Apart, Fits, length-put, part-put, put-put}
+use Rattle.laws.specs.Apart.{Apart}
+use Rattle.laws.proofs.Parts.{Fits, length-put, part-put, put-put, length-part}
 use Rattle.laws.proofs.Blocks.{block-cong}
-use Rattle.column_laws.specs.Steps.{tileStart, listStart, RowsApplied, applied, appliedComputes, RowsPaired, paired, pairedComputes, upperAt, lowerAt, withTwo, TileFactored, factored, exchangedAt, TilesCoupled, eliminatedRows}
-use Rattle.column_laws.proofs.Nested.{length-part}
+use Rattle.column_laws.specs.Steps.{tileStart, listStart, RowsApplied, appliedBlock, appliedComputes, RowsPaired, pairedBlock, pairedComputes, upperAt, lowerAt, withTwo, TileFactored, factored, exchangedAt, TilesCoupled, eliminatedRows}
 use Rattle.column_laws.proofs.Computes.{every-joined}
 use Rattle.column_laws.proofs.Updates.{at-part}
 use Rattle.column_laws.proofs.Two.{put-upper, put-lower}
@@ -86,16 +86,16 @@ module _ (t w c : ℕ) (l l′ : ℕ → Float) where
   applied-at c′ r q b h hr true e = refl
   applied-at c′ r q b h hr false e = rw (h r (leb-false r c′ e) hr)
 
-  pub applied-same : ((r : ℕ) → c < r → r < t → l r ≡ l′ r) → (b : List Float) → applied t w c l b ≡ applied t w c l′ b
-  unfolding applied
+  pub applied-same : ((r : ℕ) → c < r → r < t → l r ≡ l′ r) → (b : List Float) → appliedBlock t w c l b ≡ appliedBlock t w c l′ b
+  unfolding appliedBlock
   applied-same h b = block-cong t w _ _ (λ r q hr hq. applied-at c r q b h hr (leb r c) refl)
 
   pub applied-finite : ((r : ℕ) → c < r → r < t → l r ≡ l′ r) → (b : List Float) → every finite (appliedComputes t w c l b) ≡ every finite (appliedComputes t w c l′ b)
   unfolding appliedComputes beyond
   applied-finite h b = every-joined finite _ _ (suc c) (suc c) (t - suc c) (λ r hr. rw (h (suc c + r) (omega arith) (omega arith)))
 
-  pub paired-same : ((r : ℕ) → r < t → l r ≡ l′ r) → (u d : List Float) → paired t w c l u d ≡ paired t w c l′ u d
-  unfolding paired
+  pub paired-same : ((r : ℕ) → r < t → l r ≡ l′ r) → (u d : List Float) → pairedBlock t w c l u d ≡ pairedBlock t w c l′ u d
+  unfolding pairedBlock
   paired-same h u d = block-cong t w _ _ (λ r q hr hq. rw (h r hr))
 
   pub paired-finite : ((r : ℕ) → r < t → l r ≡ l′ r) → (u d : List Float) → every finite (pairedComputes t w c l u d) ≡ every finite (pairedComputes t w c l′ u d)
@@ -175,7 +175,7 @@ module _ (N t k j c a b : ℕ) (m : List Float) (l : List ℕ) (ha : a ≡ tileS
   unfolding plan
   apply-ends mark h q =
       ends-sound (plan N t) (T-2 k j) c (record { matrix = m; lists = l }) (record { matrix = after; lists = l }) mark
-      (ap (λ (y : List Float). record { matrix = y; lists = l }) (p .whole h ∙ put-mid (applied t t c (λ i. getD mult (i - suc c) nan) (part a (t * t) mid)))
+      (ap (λ (y : List Float). record { matrix = y; lists = l }) (p .whole h ∙ put-mid (appliedBlock t t c (λ i. getD mult (i - suc c) nan) (part a (t * t) mid)))
       ∙ rw (begun, applied-same t t c (λ i. getD mult (i - suc c) nan) (λ r. at t (part (tileStart N t k k) (t * t) m) r c) read, ha, hb) (sym (apply-worked N t c m l k j)))
       (sym apply-sound ∙ h) q
 
@@ -187,7 +187,7 @@ module _ (N t k j c a b : ℕ) (m : List Float) (l : List ℕ) (ha : a ≡ tileS
       let stopped : withPart a n (zeros n) after ≡ withPart a n (zeros n) m =
       ap (withPart a n (zeros n)) (p .frame)
       ∙ put-put n nan a mid (part a n after) (record { whole = length-part a n after (rw long here); room = here }) (zeros n) ∙ put-mid (zeros n) in
-      let whole = put-put n nan a m (applied t t c (λ r. at t (part (tileStart N t k k) n m) r c) (applyStart t t c (part b t l) (part a n m)))
+      let whole = put-put n nan a m (appliedBlock t t c (λ r. at t (part (tileStart N t k k) n m) r c) (applyStart t t c (part b t l) (part a n m)))
       (record { whole = length-applied t t c _ _; room = room }) (zeros n) in
       ends-failed (plan N t) (T-2 k j) c (record { matrix = m; lists = l }) (record { matrix = last; lists = l })
       (rw (apply-worked N t c m l k j, apply-filled N t, ← ha, ← hb) (ap (λ (y : List Float). record { matrix = y; lists = l }) (q ∙ stopped ∙ sym whole)))

@@ -10,10 +10,12 @@ use borrow.Rule.Slice.PartMut.{put-same}
 use Rattle.model.specs.Lists.{part, withPart}
 use Rattle.model.specs.Tile.{exchanged}
 use Rattle.exchanges.specs.Exchanged.{exchangedParts}
-use Rattle.laws.proofs.Parts.{Apart, Fits, length-put, part-put, put-put, part-other}
+use Rattle.laws.specs.Apart.{Apart}
+use Rattle.laws.proofs.Parts.{Fits, length-put, part-put, put-put, part-other, length-part}
+use Rattle.laws.proofs.Blocks.{row-end}
 use Rattle.column_laws.specs.Steps.{upperAt, lowerAt, withTwo, exchangedAt}
-use Rattle.column_laws.proofs.Nested.{length-part, part-in, put-in}
-use Rattle.column_laws.proofs.Rows.{row-room, length-run, length-put-run, exchange-rows, upper-row, lower-row, upper-stays, lower-stays}
+use Rattle.column_laws.proofs.Nested.{part-in, put-in}
+use Rattle.column_laws.proofs.Rows.{length-run, length-put-run, exchange-rows, upper-row, lower-row, upper-stays, lower-stays}
 
 -- ---- within the tile at a
 
@@ -24,18 +26,18 @@ module _ (t w a x y : ℕ) (hx : x < t) (hy : y < t) (m : List Float) (room : a 
   pub exchange-tile : exchangedParts (a + x * w) (a + y * w) w m ≡ withPart a (t * w) (exchanged t w x y (part a (t * w) m)) m
   unfolding exchangedParts tile
   exchange-tile =
-      let px = part-in a (t * w) m room (x * w) w (row-room t w x hx) nan in
-      let py = part-in a (t * w) m room (y * w) w (row-room t w y hy) nan in
+      let px = part-in a (t * w) m room (x * w) w (row-end x t w hx) nan in
+      let py = part-in a (t * w) m room (y * w) w (row-end y t w hy) nan in
       let whole : length tile ≡ t * w = length-part a (t * w) m room in
       let q : List Float = withPart (y * w) w (part (x * w) w tile) tile in
       let long : length q ≡ t * w = length-put w nan (y * w) tile (part (x * w) w tile)
-      (record { whole = length-part (x * w) w tile (rw whole (row-room t w x hx)); room = rw whole (row-room t w y hy) }) ∙ whole in
+      (record { whole = length-part (x * w) w tile (rw whole (row-end x t w hx)); room = rw whole (row-end y t w hy) }) ∙ whole in
       let fits : Fits (t * w) a m q = record { whole = long; room = room } in
       rw (
         px,
         py,
-        put-in a (t * w) m room (y * w) w (row-room t w y hy) (part (x * w) w tile),
-        put-in a (t * w) (withPart a (t * w) q m) (rw (length-put (t * w) nan a m q fits) room) (x * w) w (row-room t w x hx) (part (y * w) w tile),
+        put-in a (t * w) m room (y * w) w (row-end y t w hy) (part (x * w) w tile),
+        put-in a (t * w) (withPart a (t * w) q m) (rw (length-put (t * w) nan a m q fits) room) (x * w) w (row-end x t w hx) (part (y * w) w tile),
         part-put (t * w) nan a m q fits,
         put-put (t * w) nan a m q fits,
       )
@@ -63,8 +65,8 @@ module _ (t w u d c : ℕ) (hc : c < t) (m : List Float) (ru : u + t * w ≤ len
     exchange-two : exchangedParts (u + (c * w + f)) (d + (y * w + f)) n m ≡ withTwo (t * w) u d (upperAt t w f c (suc y) u d m) (lowerAt t w f c (suc y) u d m) m
     unfolding exchangedParts upper lower withTwo upperAt lowerAt
     exchange-two =
-        let rc : c * w + f + n ≤ t * w = omega (arith, row-room t w c hc) in
-        let ry : y * w + f + n ≤ t * w = omega (arith, row-room t w y hy) in
+        let rc : c * w + f + n ≤ t * w = omega (arith, row-end c t w hc) in
+        let ry : y * w + f + n ≤ t * w = omega (arith, row-end y t w hy) in
         let hu : length upper ≡ t * w = length-part u (t * w) m ru in
         let hd : length lower ≡ t * w = length-part d (t * w) m rd in
         let b : List Float = withPart (y * w + f) n (part (c * w + f) n upper) lower in
@@ -94,14 +96,14 @@ module _ (t w u d c : ℕ) (hc : c < t) (m : List Float) (ru : u + t * w ≤ len
 -- rows of two blocks that share no number
 module _ (t w u d c : ℕ) (hc : c < t) (apart : Apart (t * w) u d) where
   runs-by : (y f n : ℕ) → y < t → f + n ≡ w → Apart (t * w) u d → Apart n (u + (c * w + f)) (d + (y * w + f))
-  runs-by y f n hy ends (inl h) = inl (omega (arith, row-room t w c hc))
-  runs-by y f n hy ends (inr h) = inr (omega (arith, row-room t w y hy))
+  runs-by y f n hy ends (inl h) = inl (omega (arith, row-end c t w hc))
+  runs-by y f n hy ends (inr h) = inr (omega (arith, row-end y t w hy))
 
   pub runs-apart : (y f n : ℕ) → y < t → f + n ≡ w → Apart n (u + (c * w + f)) (d + (y * w + f))
   runs-apart y f n hy ends = runs-by y f n hy ends apart
 
   row-by : Apart (t * w) u d → (u + c * w + w ≤ d) ⊎ (d + t * w ≤ u + c * w)
-  row-by (inl h) = inl (omega (arith, row-room t w c hc))
+  row-by (inl h) = inl (omega (arith, row-end c t w hc))
   row-by (inr h) = inr (omega arith)
 
   pub row-apart : (u + c * w + w ≤ d) ⊎ (d + t * w ≤ u + c * w)

@@ -9,7 +9,7 @@ use lib.Ieee.{Float, nan}
 use Rattle.model.specs.Lists.{part}
 use Rattle.model.specs.Tile.{allFinite}
 use Rattle.laws.proofs.Finite.{finite-get, finite-all}
-use Rattle.column_laws.proofs.Nested.{get-part, length-part}
+use Rattle.laws.proofs.Parts.{length-part, get-part}
 
 pub finite-part : (a n s k : ℕ) (m : List Float) → a + n ≤ length m → a ≤ s → s + k ≤ a + n → allFinite (part a n m) ≡ true → allFinite (part s k m) ≡ true
 finite-part a n s k m room low high e =
@@ -18,5 +18,5 @@ finite-part a n s k m room low high e =
     let l : i < k = (let q = rw (length-part s k m (omega arith)) at h in q) in
     let x : a + (s + i - a) ≡ s + i = omega arith in
     let p = finite-get (part a n m) (s + i - a) e (rw (length-part a n m room) (omega arith)) in
-    let q = rw (get-part a n m room nan (s + i - a) (omega arith), x) at p in
-    rw (get-part s k m (omega arith) nan i l) q)
+    let q = rw (get-part a n m nan (s + i - a) (omega arith), x) at p in
+    rw (get-part s k m nan i l) q)

@@ -4,18 +4,13 @@ use mathlib.Core.List.{List, _++_, append-assoc}
 use Prim.Native.Nat.{ℕ, _+_, _<_, _≤_}
 use native.Mathlib.Nat.{add-assoc}
 use native.Mathlib.Omega.{arith}
-use lib.ListN.{length, getD, take, drop, length-take, length-drop, take-append-drop}
+use lib.ListN.{length, take, drop, length-take, length-drop, take-append-drop}
 use lib.Seq.{getD-drop, getD-take, take-take, drop-drop, take-add, drop-append-le, ext-getD}
 use Rattle.model.specs.Lists.{part, withPart}
 use Rattle.model.specs.Tile.{at}
+use Rattle.laws.proofs.Parts.{length-part, get-part}
 
 module _ {A : Type 0} (a n : ℕ) (m : List A) (room : a + n ≤ length m) where
-  pub length-part : length (part a n m) ≡ n
-  length-part = simp (length-take, length-drop) (omega arith)
-
-  pub get-part : (d : A) (j : ℕ) → j < n → getD (part a n m) j d ≡ getD m (a + j) d
-  get-part d j h = getD-take n (drop a m) j d h ∙ getD-drop a m j d
-
   module _ (x k : ℕ) (inside : x + k ≤ n) where
     -- k elements of the part are k elements of the whole
     pub part-in : (d : A) → part (a + x) k m ≡ part x k (part a n m)
@@ -25,12 +20,12 @@ module _ {A : Type 0} (a n : ℕ) (m : List A) (room : a + n ≤ length m) where
         (λ i h.
         let l : i < k = (let q = simp (length-take, length-drop) at h in omega arith) in
         getD-take k (drop (a + x) m) i d l ∙ getD-drop (a + x) m i d ∙ rw (add-assoc a x i)
-        (sym (getD-take k (drop x (part a n m)) i d l ∙ getD-drop x (part a n m) i d ∙ get-part d (x + i) (omega arith))))
+        (sym (getD-take k (drop x (part a n m)) i d l ∙ getD-drop x (part a n m) i d ∙ get-part a n m d (x + i) (omega arith))))
 
     rest : drop k (drop x (part a n m)) ++ drop n (drop a m) ≡ drop k (drop (a + x) m)
     rest =
         rw (drop-drop k x (part a n m))
-        (sym (drop-append-le (x + k) (part a n m) (drop n (drop a m)) (rw length-part inside))
+        (sym (drop-append-le (x + k) (part a n m) (drop n (drop a m)) (rw (length-part a n m room) inside))
         ∙ rw (take-append-drop n (drop a m), drop-drop (x + k) a m, drop-drop k (a + x) m) (rw (add-assoc a x k)))
 
     -- k elements put into the whole are put into the part

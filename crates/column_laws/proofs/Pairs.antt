@@ -15,10 +15,10 @@ use Rattle.model.specs.Tile.{at, block, swapped, exchanged, allFinite}
 use Rattle.model.specs.Column.{beyond, eliminated, eliminationComputes, rowComputes, upperExchanged, lowerExchanged}
 use Rattle.row_updates.specs.Updates.{RowsUpdated, updatedRows, rowsCompute}
 use Rattle.laws.proofs.Tests.{and-left}
-use Rattle.laws.proofs.Blocks.{length-block, block-cong}
-use Rattle.laws.proofs.Parts.{Apart, Fits, length-put, part-put, put-put}
-use Rattle.column_laws.specs.Steps.{applied, RowsPaired, paired, pairedComputes, upperAt, lowerAt, withTwo, RowsEliminated, eliminatedRows, eliminatedComputes, TileFactored, factored, factoredComputes, exchangedAt, TilesCoupled}
-use Rattle.column_laws.proofs.Nested.{length-part}
+use Rattle.laws.proofs.Blocks.{length-block, block-cong, swapped-below}
+use Rattle.laws.specs.Apart.{Apart}
+use Rattle.laws.proofs.Parts.{Fits, length-put, part-put, put-put, length-part}
+use Rattle.column_laws.specs.Steps.{appliedBlock, RowsPaired, pairedBlock, pairedComputes, upperAt, lowerAt, withTwo, RowsEliminated, eliminatedRows, eliminatedComputes, TileFactored, factored, factoredComputes, exchangedAt, TilesCoupled}
 use Rattle.column_laws.proofs.Computes.{every-joined}
 use Rattle.laws.proofs.Finite.{finite-at, finite-block}
 use Rattle.column_laws.proofs.Finite.{finite-part}
@@ -35,12 +35,12 @@ pub length-lower : (t w f c e u d : ℕ) (m : List Float) → length (lowerAt t 
 unfolding lowerAt lowerExchanged
 length-lower t w f c e u d m = length-block t w _
 
-pub length-applied : (t w c : ℕ) (l : ℕ → Float) (b : List Float) → length (applied t w c l b) ≡ t * w
-unfolding applied
+pub length-applied : (t w c : ℕ) (l : ℕ → Float) (b : List Float) → length (appliedBlock t w c l b) ≡ t * w
+unfolding appliedBlock
 length-applied t w c l b = length-block t w _
 
-pub length-paired : (t w c : ℕ) (l : ℕ → Float) (u d : List Float) → length (paired t w c l u d) ≡ t * w
-unfolding paired
+pub length-paired : (t w c : ℕ) (l : ℕ → Float) (u d : List Float) → length (pairedBlock t w c l u d) ≡ t * w
+unfolding pairedBlock
 length-paired t w c l u d = length-block t w _
 
 pub length-eliminated : (k t c : ℕ) (u : ℕ → Float) (b : List Float) → length (eliminatedRows k t c u b) ≡ k * t
@@ -71,15 +71,6 @@ finite-upper t w f c e u d he hu hd fu fd =
     finite-choice (ltb 0 e && eqb r c && leb f q) (at w d (pred e) q) (at w u r q)
     (λ p. let h = ltb-true 0 e (and-left (ltb 0 e) (eqb r c) (and-left (ltb 0 e && eqb r c) (leb f q) p)) in finite-at t w d (pred e) q fd hd (omega arith) hq)
     (finite-at t w u r q fu hu hr hq))
-
-swapped-by : (t x y r : ℕ) → x < t → y < t → r < t → (a b : Bool) → cond a y (cond b x r) < t
-swapped-by t x y r hx hy hr true b = hy
-swapped-by t x y r hx hy hr false true = hx
-swapped-by t x y r hx hy hr false false = hr
-
-pub swapped-below : (t x y r : ℕ) → x < t → y < t → r < t → swapped x y r < t
-unfolding swapped
-swapped-below t x y r hx hy hr = swapped-by t x y r hx hy hr (eqb r x) (eqb r y)
 
 pub finite-exchanged : (t w x y : ℕ) (a : List Float) → x < t → y < t → length a ≡ t * w → allFinite a ≡ true → allFinite (exchanged t w x y a) ≡ true
 unfolding exchanged
@@ -140,8 +131,8 @@ module _ (t w c e u d top : ℕ) (hc : c < t) (m : List Float) (ru : u + t * w �
       (at w (lowerAt t w 0 c e u d m) (0 + i)) (at w (lowerAt t w 0 c e u d m) (0 + i)) refl (λ q hf hq. row q (omega arith)) (λ q hf hq. refl)))
 
   paired-whole : withPart d (t * w) (updatedRows t w 0 (λ i. getD l i nan) (λ q. getD mid (top + q) nan) (part d (t * w) mid)) mid
-      ≡ withTwo (t * w) u d upper (paired t w c (λ i. getD l i nan) upper lower) m
-  unfolding updatedRows paired upper lower
+      ≡ withTwo (t * w) u d upper (pairedBlock t w c (λ i. getD l i nan) upper lower) m
+  unfolding updatedRows pairedBlock upper lower
   paired-whole =
       mid-put t w 0 c e u d m ru rd apart mid x (updatedRows t w 0 (λ i. getD l i nan) (λ q. getD mid (top + q) nan) (part d (t * w) mid)) (length-block t w _)
       ∙ ap (λ (b : List Float). withTwo (t * w) u d (upperAt t w 0 c e u d m) b m)

@@ -18,8 +18,8 @@ use Rattle.model.specs.Column.{permuted, applyStart}
 use Rattle.exchanges.specs.Exchanged.{exchangedParts}
 use Rattle.laws.proofs.Tests.{Order, less, equal, more, order}
 use Rattle.laws.proofs.Blocks.{length-block}
-use Rattle.laws.proofs.Parts.{Apart, Fits, length-put, part-put, put-put}
-use Rattle.column_laws.proofs.Nested.{length-part, get-part}
+use Rattle.laws.specs.Apart.{Apart}
+use Rattle.laws.proofs.Parts.{Fits, length-put, part-put, put-put, length-part, get-part}
 use Rattle.column_laws.proofs.Exchanges.{exchange-tile}
 use Rattle.column_laws.proofs.Pairs.{finite-exchanged}
 
@@ -92,7 +92,7 @@ module _ (t w c a p : ℕ) (l : List ℕ) (m mid : List Float) (room : a + t * w
   pub started-finite : p + t ≤ length l → ((i : ℕ) → i < t → getD l (p + i) 0 < t) → allFinite (part a (t * w) m) ≡ true → allFinite (part a (t * w) mid) ≡ true
   started-finite lists e f =
       rw (x, part-put (t * w) nan a m (applyStart t w c (part p t l) (part a (t * w) m)) started)
-      (finite-start t w c (part p t l) (part a (t * w) m) (λ i h. rw (get-part p t l lists 0 i h) (e i h)) (length-part a (t * w) m room) f)
+      (finite-start t w c (part p t l) (part a (t * w) m) (λ i h. rw (get-part p t l 0 i h) (e i h)) (length-part a (t * w) m room) f)
 
 -- ---- the loop over the entries: c of them are done
 
@@ -123,7 +123,7 @@ module _ (t w a p : ℕ) (l : List ℕ) (before : List Float) (room : a + t * w 
         let fits₀ : Fits n a before b = record { whole = length-part a n present here; room = room } in
         let own : part a n after ≡ b′ = rw put (part-put n nan a present b′ fits) in
         let more : t - c ≡ suc (t - suc c) = omega arith in
-        let entry : getD (part p t l) c 0 ≡ y = get-part p t l lists 0 c hc ∙ sym e in
+        let entry : getD (part p t l) c 0 ≡ y = get-part p t l 0 c hc ∙ sym e in
         let next : permuted t w (part p t l) (part a n before) ≡ inTurn (λ x. exchanged t w x (getD (part p t l) x 0)) (run (suc c) (t - suc c)) b′ =
         sym (s .left) ∙ rw (more, ← entry) in
         record {

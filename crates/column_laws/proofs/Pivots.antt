@@ -4,7 +4,7 @@ use mathlib.Core.Path.{_≡_, refl, sym, _∙_, ap}
 use mathlib.Core.Bool.{Bool, true, false, cond, _&&_}
 use mathlib.Core.List.{List, map}
 use Prim.Native.Nat.{ℕ, zero, suc, pred, _+_, _-_, _*_, _<_, _≤_}
-use native.Mathlib.Nat.{add-zero, add-suc, suc-add, zero-add, le-of-suc-le-suc}
+use native.Mathlib.Nat.{zero-add, le-of-suc-le-suc}
 use native.Mathlib.Omega.{arith}
 use lib.Dec.{eqb, ltb, leb}
 use lib.ListN.{length, getD}
@@ -17,25 +17,18 @@ use Rattle.model.specs.Tile.{at, swapped, exchanged, allFinite}
 use Rattle.model.specs.Column.{search, factorCandidates, factorPivot, coupleCandidates, couplePivot, upperExchanged, lowerExchanged}
 use Rattle.pivot_search.specs.Candidates.{candidates}
 use Rattle.laws.proofs.Blocks.{length-table, getD-table, at-block}
+use Rattle.laws.proofs.Runs.{map-runs}
 use Rattle.float_laws.proofs.Rounding.{within}
 use Rattle.float_laws.proofs.Quotient.{within-finite}
 use Rattle.float_laws.proofs.Search.{Largest, search-finds-at, multiplier-at-most-one}
 use Rattle.column_laws.specs.Steps.{upperAt, lowerAt, exchangedAt}
-use Rattle.column_laws.proofs.Nested.{length-part}
 use Rattle.laws.proofs.Finite.{finite-at}
+use Rattle.laws.proofs.Parts.{length-part}
 use Rattle.column_laws.proofs.Updates.{at-part}
 
-module _ {A : Type 0} where
-  map-run : (f g : ℕ → A) (a b n : ℕ) → ((i : ℕ) → i < n → f (a + i) ≡ g (b + i)) → map f (run a n) ≡ map g (run b n)
-  unfolding run
-  map-run f g a b zero h = refl
-  map-run f g a b (suc n) h =
-      let first : f a ≡ g b = rw (add-zero a, add-zero b) at (h 0 (omega arith)) in
-      rw (first, map-run f g (suc a) (suc b) n (λ i l. rw (suc-add a i, suc-add b i, ← add-suc a i, ← add-suc b i) (h (suc i) (omega arith))))
-
-  run-table : (f : ℕ → A) (a n : ℕ) → map f (run a n) ≡ table n (λ i. f (a + i))
-  unfolding table below
-  run-table f a n = map-run f (λ i. f (a + i)) a 0 n (λ i h. rw (zero-add i))
+run-table : {A : Type 0} (f : ℕ → A) (a n : ℕ) → map f (run a n) ≡ table n (λ i. f (a + i))
+unfolding table below
+run-table f a n = map-runs f (λ i. f (a + i)) a 0 n (λ i h. rw (zero-add i))
 
 -- ---- T-1
 
@@ -48,7 +41,7 @@ module _ (t c a : ℕ) (hc : c < t) (m : List Float) (room : a + t * t ≤ lengt
       let n : t - c ≡ suc k = omega arith in
       let top : getD m first nan ≡ at t (part a (t * t) m) c c = rw ef (sym (at-part t t a m c c room hc hc)) in
       let others : map (λ i. getD m (rest + i * t) nan) (run 0 k) ≡ map (λ r. at t (part a (t * t) m) r c) (run (suc c) k) =
-      map-run (λ i. getD m (rest + i * t) nan) (λ r. at t (part a (t * t) m) r c) 0 (suc c) k
+      map-runs (λ i. getD m (rest + i * t) nan) (λ r. at t (part a (t * t) m) r c) 0 (suc c) k
       (λ i h.
       let e : rest + i * t ≡ a + ((suc c + i) * t + c) = omega arith in
       rw (zero-add i, e) (sym (at-part t t a m (suc c + i) c room (omega arith) hc))) in
@@ -111,7 +104,7 @@ module _ (t c u d : ℕ) (hc : c < t) (m : List Float) (ru : u + t * t ≤ lengt
   couple-search first rest ef er =
       let top : getD m first nan ≡ at t (part u (t * t) m) c c = rw ef (sym (at-part t t u m c c ru hc hc)) in
       let others : map (λ i. getD m (rest + i * t) nan) (run 0 t) ≡ map (λ r. at t (part d (t * t) m) r c) (run 0 t) =
-      map-run (λ i. getD m (rest + i * t) nan) (λ r. at t (part d (t * t) m) r c) 0 0 t
+      map-runs (λ i. getD m (rest + i * t) nan) (λ r. at t (part d (t * t) m) r c) 0 0 t
       (λ i h.
       let e : rest + i * t ≡ d + (i * t + c) = omega arith in
       rw (zero-add i, e) (sym (at-part t t d m i c rd h hc))) in

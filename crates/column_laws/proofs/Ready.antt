@@ -7,10 +7,10 @@ use lib.ListN.{length, getD}
 use lib.Ieee.{Float}
 use Rattle.model.specs.declared.Sizes.{Sizes}
 use Rattle.model.specs.Task.{Task, T-1, T-2, T-3, T-4}
-use Rattle.laws.proofs.Parts.{Apart}
+use Rattle.laws.specs.Apart.{Apart}
+use Rattle.laws.proofs.Blocks.{place-room, square-most, row-end}
 use Rattle.column_laws.specs.Steps.{tileStart, listStart}
-use Rattle.column_laws.proofs.Places.{place-room, matrix-most, lists-most, square-most, rows-apart}
-use Rattle.column_laws.proofs.Rows.{row-room}
+use Rattle.column_laws.proofs.Places.{matrix-most, lists-most, rows-apart}
 use Rattle.column_laws.proofs.Touched.{FiniteAt, factor-touched, apply-touched, couple-touched, pair-touched}
 use Rattle.column_laws.specs.Workable.{Workable}
 
@@ -45,7 +45,7 @@ factor-ready {z} {k} {c} {m} {l} w = record {
   side-most = w .side-most;
   square = square-most (z .side) (w .side-most);
   column = w .column;
-  row = row-room (z .side) (z .side) c (w .column);
+  row = row-end c (z .side) (z .side) (w .column);
   few = numbers-few w;
   lists-few = lists-few w;
   room = tile-room w k k (w .placed) (w .placed);
@@ -76,7 +76,7 @@ apply-ready {z} {k} {j} {c} {m} {l} w =
       side-most = w .side-most;
       square = square-most (z .side) (w .side-most);
       column = w .column;
-      row = row-room (z .side) (z .side) c (w .column);
+      row = row-end c (z .side) (z .side) (w .column);
       few = numbers-few w;
       lists-few = lists-few w;
       mult-room = tile-room w k k hk hk;
@@ -111,7 +111,7 @@ couple-ready {z} {k} {i} {c} {m} {l} w =
       side-most = w .side-most;
       square = square-most (z .side) (w .side-most);
       column = w .column;
-      row = row-room (z .side) (z .side) c (w .column);
+      row = row-end c (z .side) (z .side) (w .column);
       few = numbers-few w;
       lists-few = lists-few w;
       upper-room = tile-room w k k hk hk;
@@ -150,7 +150,7 @@ pair-ready {z} {k} {i} {j} {c} {m} {l} w =
       side-most = w .side-most;
       square = square-most (z .side) (w .side-most);
       column = w .column;
-      row = row-room (z .side) (z .side) c (w .column);
+      row = row-end c (z .side) (z .side) (w .column);
       few = numbers-few w;
       lists-few = lists-few w;
       mult-room = tile-room w i k hi hk;

@@ -15,20 +15,15 @@ use Rattle.model.specs.Tile.{at, swapped, exchanged}
 use Rattle.model.specs.Column.{upperExchanged, lowerExchanged}
 use Rattle.exchanges.specs.Exchanged.{exchangedParts}
 use Rattle.laws.proofs.Tests.{lt-or-le}
-use Rattle.laws.proofs.Blocks.{block-unique, block-at, block-cong}
-use Rattle.laws.proofs.Parts.{Fits, length-put, get-in, get-before, get-after}
-use Rattle.column_laws.proofs.Nested.{length-part, get-part}
-
--- row c ends inside the tile
-pub row-room : (t w c : ℕ) → c < t → c * w + w ≤ t * w
-row-room t w c h = omega (arith, mul-le-mul-right w h)
+use Rattle.laws.proofs.Blocks.{block-unique, block-at, block-cong, row-end}
+use Rattle.laws.proofs.Parts.{Fits, length-put, get-in, get-before, get-after, length-part, get-part}
 
 -- ---- one run of numbers: columns f to w - 1 of row c, which starts at s
 
 module _ (t w c f n s : ℕ) (hc : c < t) (start : s ≡ c * w + f) (ends : f + n ≡ w) where
   module _ (tile : List Float) (whole : length tile ≡ t * w) where
     pub run-room : s + n ≤ length tile
-    run-room = omega (arith, row-room t w c hc)
+    run-room = omega (arith, row-end c t w hc)
 
     pub length-run : length (part s n tile) ≡ n
     length-run = length-part s n tile run-room
@@ -38,7 +33,7 @@ module _ (t w c f n s : ℕ) (hc : c < t) (start : s ≡ c * w + f) (ends : f + 
     unfolding at
     get-run q hf hq =
         let e : s + (q - f) ≡ c * w + q = omega arith in
-        get-part s n tile run-room nan (q - f) (omega arith) ∙ ap (λ (i : ℕ). getD tile i nan) e
+        get-part s n tile nan (q - f) (omega arith) ∙ ap (λ (i : ℕ). getD tile i nan) e
 
     module _ (ys : List Float) (long : length ys ≡ n) where
       pub run-fits : Fits n s tile ys

@@ -14,11 +14,11 @@ use Rattle.model.specs.Tile.{at, allFinite}
 use Rattle.model.specs.Column.{beyond, rowComputes}
 use Rattle.laws.proofs.Every.{every-of-joined}
 use Rattle.laws.proofs.Finite.{finite-at, finite-block, row-finite}
-use Rattle.column_laws.specs.Steps.{applied, appliedComputes, paired, pairedComputes}
+use Rattle.column_laws.specs.Steps.{appliedBlock, appliedComputes, pairedBlock, pairedComputes}
 
 module _ (t w c : ℕ) (l : ℕ → Float) where
-  pub paired-all-finite : (u d : List Float) → length d ≡ t * w → allFinite d ≡ true → every finite (pairedComputes t w c l u d) ≡ true → allFinite (paired t w c l u d) ≡ true
-  unfolding paired pairedComputes below
+  pub paired-all-finite : (u d : List Float) → length d ≡ t * w → allFinite d ≡ true → every finite (pairedComputes t w c l u d) ≡ true → allFinite (pairedBlock t w c l u d) ≡ true
+  unfolding pairedBlock pairedComputes below
   paired-all-finite u d hd fd e =
       finite-block t w (λ r q. update (at w d r q) (l r) (at w u c q))
       (λ r q hr hq.
@@ -34,6 +34,6 @@ module _ (t w c : ℕ) (l : ℕ → Float) where
       row-finite w (l r) (at w b c) (at w b r) q hq (finite-at t w b r q fb hb hr hq)
       (every-of-joined finite (λ r. rowComputes w (l r) (at w b c) (at w b r)) (suc c) (t - suc c) r (omega arith) (omega arith) e)
 
-  pub applied-all-finite : (b : List Float) → length b ≡ t * w → allFinite b ≡ true → every finite (appliedComputes t w c l b) ≡ true → allFinite (applied t w c l b) ≡ true
-  unfolding applied
+  pub applied-all-finite : (b : List Float) → length b ≡ t * w → allFinite b ≡ true → every finite (appliedComputes t w c l b) ≡ true → allFinite (appliedBlock t w c l b) ≡ true
+  unfolding appliedBlock
   applied-all-finite b hb fb e = finite-block t w _ (λ r q hr hq. applied-by b hb fb e r q hr hq (leb r c) refl)

@@ -5,7 +5,8 @@ use Prim.Native.Nat.{ℕ, _+_, _≤_}
 use lib.ListN.{length}
 use lib.Ieee.{Float, nan}
 use Rattle.model.specs.Lists.{part, withPart}
-use Rattle.laws.proofs.Parts.{Apart, Fits, length-put, part-put, put-put, part-other, put-comm}
+use Rattle.laws.specs.Apart.{Apart}
+use Rattle.laws.proofs.Parts.{Fits, length-put, part-put, put-put, part-other, put-comm}
 use Rattle.column_laws.specs.Steps.{withTwo}
 
 module _ (n u d : ℕ) (m : List Float) (apart : Apart n u d) (ru : u + n ≤ length m) (rd : d + n ≤ length m) where

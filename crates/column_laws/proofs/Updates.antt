@@ -15,9 +15,9 @@ use Rattle.model.specs.Tile.{at, block}
 use Rattle.model.specs.Column.{beyond, rowComputes}
 use Rattle.row_updates.specs.Updates.{RowsUpdated, updatedRows, rowsCompute}
 use Rattle.laws.proofs.Blocks.{length-block, block-unique, block-cong, at-block, in-block}
-use Rattle.laws.proofs.Parts.{Fits, length-put, get-in, get-before, part-put}
-use Rattle.column_laws.specs.Steps.{RowsApplied, applied, appliedComputes}
-use Rattle.column_laws.proofs.Nested.{length-part, get-part, put-in}
+use Rattle.laws.proofs.Parts.{Fits, length-put, get-in, get-before, part-put, length-part, get-part}
+use Rattle.column_laws.specs.Steps.{RowsApplied, appliedBlock, appliedComputes}
+use Rattle.column_laws.proofs.Nested.{put-in}
 use Rattle.column_laws.proofs.Computes.{every-joined}
 
 -- ---- comparisons
@@ -52,7 +52,7 @@ module _ (q c : ℕ) where
 -- an element of a tile is an element of the matrix
 pub at-part : (t w a : ℕ) (m : List Float) (r q : ℕ) → a + t * w ≤ length m → r < t → q < w → at w (part a (t * w) m) r q ≡ getD m (a + (r * w + q)) nan
 unfolding at
-at-part t w a m r q room hr hq = get-part a (t * w) m room nan (r * w + q) (in-block t w r q hr hq)
+at-part t w a m r q room hr hq = get-part a (t * w) m nan (r * w + q) (in-block t w r q hr hq)
 
 pub get-row : (t w a c top : ℕ) (m : List Float) (q : ℕ) → a + t * w ≤ length m → c < t → top ≡ a + c * w → q < w → getD m (top + q) nan ≡ at w (part a (t * w) m) c q
 get-row t w a c top m q room hc e hq =
@@ -166,8 +166,8 @@ module _ (t w c k a s top : ℕ) (m : List Float) (room : a + t * w ≤ length m
       let p : suc c + (i - suc c) ≡ i = omega arith in
       rw (le-ltb q 0 (omega arith), at-rows t w c k a s m room ends start (i - suc c) q (omega arith) hq, p, get-row t w a c top m q room (omega arith) first hq)
 
-  applied-whole : withPart s (k * w) (updatedRows k w 0 (λ i. getD l i nan) (λ q. getD m (top + q) nan) (part s (k * w) m)) m ≡ withPart a (t * w) (applied t w c l′ (part a (t * w) m)) m
-  unfolding updatedRows applied
+  applied-whole : withPart s (k * w) (updatedRows k w 0 (λ i. getD l i nan) (λ q. getD m (top + q) nan) (part s (k * w) m)) m ≡ withPart a (t * w) (appliedBlock t w c l′ (part a (t * w) m)) m
+  unfolding updatedRows appliedBlock
   applied-whole =
       put-rows t w c k a s m room ends start
       (λ i q. cond (ltb q 0) (at w (part s (k * w) m) i q) (update (at w (part s (k * w) m) i q) (getD l i nan) (getD m (top + q) nan)))

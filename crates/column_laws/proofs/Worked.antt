@@ -13,8 +13,8 @@ use Rattle.model.specs.Column.{factorPivot, factorExchanged, factorColumn, fact
 use Rattle.model.specs.Task.{T-1, T-2, T-3, T-4}
 use Rattle.model.specs.Plan.{plan}
 use Rattle.model.specs.Buffer.{tile, putTile, rows, putRows, tileOf, rowsOf, withTile, withRows, factorInput, coupleInput, pairInput, worked, computed}
-use Rattle.column_laws.specs.Steps.{tileStart, listStart, applied, appliedComputes, paired, pairedComputes, upperAt, lowerAt, withTwo, eliminatedRows, eliminatedComputes, factored, factoredComputes, exchangedAt}
-use Rattle.column_laws.proofs.Nested.{length-part, get-part}
+use Rattle.laws.proofs.Parts.{length-part, get-part}
+use Rattle.column_laws.specs.Steps.{tileStart, listStart, appliedBlock, appliedComputes, pairedBlock, pairedComputes, upperAt, lowerAt, withTwo, eliminatedRows, eliminatedComputes, factored, factoredComputes, exchangedAt}
 
 -- an entry set in a list is set in the lists
 set-entry : (p t c v : ℕ) (l : List ℕ) → p + t ≤ length l → c < t → withPart p t (set (part p t l) c v) l ≡ set l (p + c) v
@@ -55,10 +55,10 @@ module _ (N t c : ℕ) (m : List Float) (l : List ℕ) where
   module _ (k j : ℕ) where
     pub apply-worked : worked (plan N t) (T-2 k j) c (record { matrix = m; lists = l })
         ≡ record {
-          matrix = withPart (tileStart N t k j) (t * t) (applied t t c (λ r. at t (part (tileStart N t k k) (t * t) m) r c) (applyStart t t c (part (listStart N t k k) t l) (part (tileStart N t k j) (t * t) m))) m;
+          matrix = withPart (tileStart N t k j) (t * t) (appliedBlock t t c (λ r. at t (part (tileStart N t k k) (t * t) m) r c) (applyStart t t c (part (listStart N t k k) t l) (part (tileStart N t k j) (t * t) m))) m;
           lists = l;
         }
-    unfolding plan worked withTile tileOf rowsOf tile putTile rows applyColumn applied
+    unfolding plan worked withTile tileOf rowsOf tile putTile rows applyColumn appliedBlock
     apply-worked = refl
 
     pub apply-computed : computed (plan N t) (T-2 k j) c (record { matrix = m; lists = l })
@@ -102,16 +102,16 @@ module _ (N t c : ℕ) (m : List Float) (l : List ℕ) where
 
   module _ (k i j : ℕ) (hc : c < t) (room : listStart N t i k + t ≤ length l) where
     entry : getD (part (listStart N t i k) t l) c 0 ≡ getD l (listStart N t i k + c) 0
-    entry = get-part (listStart N t i k) t l room 0 c hc
+    entry = get-part (listStart N t i k) t l 0 c hc
 
     pub pair-worked : (e : ℕ) → e ≡ getD l (listStart N t i k + c) 0
         → worked (plan N t) (T-4 k i j) c (record { matrix = m; lists = l })
         ≡ record {
           matrix = withTwo (t * t) (tileStart N t k j) (tileStart N t i j) (upperAt t t 0 c e (tileStart N t k j) (tileStart N t i j) m)
-              (paired t t c (λ r. at t (part (tileStart N t i k) (t * t) m) r c) (upperAt t t 0 c e (tileStart N t k j) (tileStart N t i j) m) (lowerAt t t 0 c e (tileStart N t k j) (tileStart N t i j) m)) m;
+              (pairedBlock t t c (λ r. at t (part (tileStart N t i k) (t * t) m) r c) (upperAt t t 0 c e (tileStart N t k j) (tileStart N t i j) m) (lowerAt t t 0 c e (tileStart N t k j) (tileStart N t i j) m)) m;
           lists = l;
         }
-    unfolding plan worked withTile pairInput tileOf rowsOf tile putTile rows pairColumn pairExchanged paired upperAt lowerAt withTwo
+    unfolding plan worked withTile pairInput tileOf rowsOf tile putTile rows pairColumn pairExchanged pairedBlock upperAt lowerAt withTwo
     pair-worked e p = rw (p, entry)
 
     pub pair-computed : (e : ℕ) → e ≡ getD l (listStart N t i k + c) 0

@@ -1,9 +1,7 @@
--- When a task and a column fit the sizes and the lent slices. Assumes nothing.
-use Prim.Native.Nat.{ℕ, _+_, _*_, _<_, _≤_}
-use mathlib.Core.Path.{_≡_}
+-- When a task and the list entries that it reads fit the sizes. Assumes nothing.
+use Prim.Native.Nat.{ℕ, _+_, _<_, _≤_}
 use mathlib.Core.List.{List}
-use lib.ListN.{length, getD}
-use lib.Ieee.{Float}
+use lib.ListN.{getD}
 use Rattle.model.specs.Task.{Task, T-1, T-2, T-3, T-4}
 use Rattle.column_laws.specs.Steps.{listStart}
 
@@ -20,10 +18,3 @@ EntriesFit N t (T-1 k) l = Unit {0}
 EntriesFit N t (T-2 k j) l = (x : ℕ) → x < t → getD l (listStart N t k k + x) 0 < t
 EntriesFit N t (T-3 k i) l = Unit {0}
 EntriesFit N t (T-4 k i j) l = (x : ℕ) → x < t → getD l (listStart N t i k + x) 0 ≤ t
-
--- the slices have the lengths that the sizes ask for
-pub record Fitting (N t : ℕ) (a : Task) (c : ℕ) (m : List Float) (l : List ℕ) : Type 0 where
-  pub placed : Placed N a
-  pub column : c < t
-  pub matrix-long : length m ≡ N * t * (N * t)
-  pub lists-long : length l ≡ N * N * t

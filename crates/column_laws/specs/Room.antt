@@ -4,7 +4,7 @@ use mathlib.Core.List.{List}
 use mathlib.Core.Logic.{_⊎_}
 use lib.ListN.{length}
 use lib.Ieee.{Float}
-use Rattle.laws.proofs.Parts.{Apart}
+use Rattle.laws.specs.Apart.{Apart}
 
 -- t rows of width w from a on
 pub record Block (t w a : ℕ) (m : List Float) : Type 0 where

@@ -21,8 +21,8 @@ listStart N t i j = (i * N + j) * t
 
 -- ---- T-2: the rows of a block below row c, updated by row c
 
-unfoldable pub applied : ℕ → ℕ → ℕ → (ℕ → Float) → List Float → List Float
-applied t w c l b = block t w (λ r q. cond (leb r c) (at w b r q) (update (at w b r q) (l r) (at w b c q)))
+unfoldable pub appliedBlock : ℕ → ℕ → ℕ → (ℕ → Float) → List Float → List Float
+appliedBlock t w c l b = block t w (λ r q. cond (leb r c) (at w b r q) (update (at w b r q) (l r) (at w b c q)))
 
 unfoldable pub appliedComputes : ℕ → ℕ → ℕ → (ℕ → Float) → List Float → List Float
 appliedComputes t w c l b = joined (map (λ r. rowComputes w (l r) (at w b c) (at w b r)) (beyond t c))
@@ -31,13 +31,13 @@ appliedComputes t w c l b = joined (map (λ r. rowComputes w (l r) (at w b c) (a
 pub record RowsApplied (t w c a : ℕ) (l : ℕ → Float) (before after : List Float) (answer : Bool) : Type 0 where
   pub long : length after ≡ length before
   pub sound : answer ≡ every finite (appliedComputes t w c l (part a (t * w) before))
-  pub whole : answer ≡ true → after ≡ withPart a (t * w) (applied t w c l (part a (t * w) before)) before
+  pub whole : answer ≡ true → after ≡ withPart a (t * w) (appliedBlock t w c l (part a (t * w) before)) before
   pub frame : after ≡ withPart a (t * w) (part a (t * w) after) before
 
 -- ---- T-4: all rows of the lower block d, updated by row c of the upper block u
 
-unfoldable pub paired : ℕ → ℕ → ℕ → (ℕ → Float) → List Float → List Float → List Float
-paired t w c l u d = block t w (λ r q. update (at w d r q) (l r) (at w u c q))
+unfoldable pub pairedBlock : ℕ → ℕ → ℕ → (ℕ → Float) → List Float → List Float → List Float
+pairedBlock t w c l u d = block t w (λ r q. update (at w d r q) (l r) (at w u c q))
 
 unfoldable pub pairedComputes : ℕ → ℕ → ℕ → (ℕ → Float) → List Float → List Float → List Float
 pairedComputes t w c l u d = joined (map (λ r. rowComputes w (l r) (at w u c) (at w d r)) (below t))
@@ -58,7 +58,7 @@ pub record RowsPaired (t w c e u d : ℕ) (l : ℕ → Float) (before after : Li
   pub long : length after ≡ length before
   pub sound : answer ≡ every finite (pairedComputes t w c l (upperAt t w 0 c e u d before) (lowerAt t w 0 c e u d before))
   pub whole : answer ≡ true
-      → after ≡ withTwo (t * w) u d (upperAt t w 0 c e u d before) (paired t w c l (upperAt t w 0 c e u d before) (lowerAt t w 0 c e u d before)) before
+      → after ≡ withTwo (t * w) u d (upperAt t w 0 c e u d before) (pairedBlock t w c l (upperAt t w 0 c e u d before) (lowerAt t w 0 c e u d before)) before
   pub frame : after ≡ withTwo (t * w) u d (upperAt t w 0 c e u d before) (part d (t * w) after) before
 
 -- ---- T-1 and T-3: rows from which the pivot row is eliminated

@@ -5,7 +5,7 @@ ghost use Prim.Native.Nat.{suc, _<_};
 ghost use lib.Dec.{eqb};
 ghost use Rattle.model.specs.Task.{tasks};
 ghost use Rattle.model.specs.Links.{spoils, finished};
-ghost use Rattle.model.specs.Buffer.{markOf};
+ghost use Rattle.model.specs.Buffer.{markAfter};
 ghost use Rattle.worker.specs.Holding.{idle, holding};
 ghost use Rattle.marks.specs.Marks.{Recorded};
 ghost use Rattle.records.specs.Records.{marksFrom};
@@ -28,7 +28,7 @@ pub fn spoiled_at(z: Sizes, records: &[[u8; 5]], p: usize, c: usize) -> bool
 
 // The mark that a column's end gives its task.
 pub fn mark_after(end: ColumnEnd) -> u8
-    ensures { λ r. ⌜ r ≡ markOf end ⌝ }
+    ensures { λ r. ⌜ r ≡ markAfter end ⌝ }
 {
     match end {
         ColumnEnd::GoesOn => 1,

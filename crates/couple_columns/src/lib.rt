@@ -2,9 +2,9 @@
 ghost use mathlib.Core.Path.{_≡_};
 ghost use Rattle.model.specs.Task.{T-3};
 ghost use Rattle.model.specs.Plan.{planOf};
-ghost use Rattle.model.specs.Buffer.{markOf, columnEnds};
+ghost use Rattle.model.specs.Buffer.{markAfter, columnEnds};
 ghost use Rattle.column_laws.specs.Workable.{Workable};
-use column_ends::ended;
+use column_ends::column_end;
 use couple_fills::fill_coupled;
 use couple_tiles::couple_rows;
 use model::ColumnEnd;
@@ -23,7 +23,7 @@ pub fn couple_column(
     c: usize,
 ) -> ColumnEnd
     requires { ⌜ Workable z (T-3 k i) c (now matrix) (now lists) ⌝ }
-    ensures { λ r. ⌜ record { left = record { matrix = now (matrix .exit); lists = now (lists .exit) }; mark = markOf r }
+    ensures { λ r. ⌜ record { left = record { matrix = now (matrix .exit); lists = now (lists .exit) }; mark = markAfter r }
         ≡ columnEnds (planOf z) (T-3 k i) c (record { matrix = now (matrix .entry); lists = now (lists .entry) }) ⌝ }
 {
     let n = z.tiles;
@@ -33,14 +33,14 @@ pub fn couple_column(
     let p = list_start(n, t, i, k);
     let found = couple_pivot(matrix, t, u, d, c);
     let e = found.place;
-    let size = found.magnitude;
-    if size == 0.0 {
+    let magnitude = found.magnitude;
+    if magnitude == 0.0 {
         lists[p + c] = 0;
-        return ended(t, c);
+        return column_end(t, c);
     }
     lists[p + c] = e as u8;
     if couple_rows(matrix, t, u, d, c, e) {
-        return ended(t, c);
+        return column_end(t, c);
     }
     fill_coupled(matrix, lists, t, u, d, p);
     ColumnEnd::Failed

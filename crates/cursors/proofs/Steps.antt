@@ -14,9 +14,8 @@ use Rattle.model.specs.Refusal.{refuse}
 use Rattle.model.specs.Read.{Frame, lineLength, lineAnswer}
 use Rattle.lines_read.proofs.Tested.{length-above}
 use Rattle.cursors.specs.declared.Cursor.{Cursor}
-use Rattle.cursors.specs.declared.Step.{Step}
 use Rattle.cursors.specs.declared.Step.the-variants.{Next, Stopped}
-use Rattle.cursors.specs.Steps.{Placed, lineDue, landed, stepOf}
+use Rattle.cursors.specs.Steps.{CursorFits, lineDue, landed, stepOf}
 
 -- ---- one step
 
@@ -28,7 +27,7 @@ module _ (t : ℕ) (text : List ℕ) (f : Frame) (c : Cursor) where
   unfolding stepOf lineDue refuse
   at-end e = rw (eq-eqb (length (drop (c .at) text)) 0 (rw left (omega arith)))
 
-  module _ (p : Placed text c) (n : length text ≡ c .at → ⊥) (s : ℕ) (size : s ≡ lineLength t (f .kind)) where
+  module _ (p : CursorFits text c) (n : length text ≡ c .at → ⊥) (s : ℕ) (size : s ≡ lineLength t (f .kind)) where
     more : eqb (length (drop (c .at) text)) 0 ≡ false
     more = ne-eqb (length (drop (c .at) text)) 0 (λ e. n (omega (arith, p .within, left)))
 
@@ -73,7 +72,7 @@ module _ (t : ℕ) (text : List ℕ) where
       go Accepted q e = record { accepted = q; room = rw (length-drop (c .at) text) at (fits t (c .line) f (drop (c .at) text) q); next = cc }
       go (Refused n x) q e = let z : _≡_ {A = ℕ} 0 1 = cc in absurd (omega arith)
 
-  pub step-placed : (f : Frame) (c d : Cursor) → Placed text c → stepOf t text f c ≡ Next d → Placed text d
+  pub step-placed : (f : Frame) (c d : Cursor) → CursorFits text c → stepOf t text f c ≡ Next d → CursorFits text d
   step-placed f c d p e =
       let s = stepped f c d e in
       let l = length-above t (f .kind) in

@@ -1,4 +1,4 @@
--- Going past the line that is due with a cursor, the line looked at no further than the kind due is long. Assumes nothing.
+-- A cursor past the line that is due, which is looked at only as far as the kind due is long. Assumes nothing.
 use Prim.Native.Nat.{ℕ, _+_, _≤_}
 use mathlib.Core.List.{List}
 use lib.Dec.{eqb, ltb}
@@ -12,7 +12,7 @@ use Rattle.cursors.specs.declared.Step.{Step}
 use Rattle.cursors.specs.declared.Step.the-variants.{Next, Stopped}
 
 -- a cursor in a text: lines are not empty, so there are no more of them than bytes
-pub record Placed (text : List ℕ) (c : Cursor) : Type 0 where
+pub record CursorFits (text : List ℕ) (c : Cursor) : Type 0 where
   pub within : c .at ≤ length text
   pub counted : c .line ≤ c .at + 1
 

@@ -3,7 +3,7 @@ ghost use mathlib.Core.Path.{_≡_};
 ghost use Prim.Native.Nat.{_≤_};
 ghost use Rattle.model.specs.Read.{lineLength};
 ghost use Rattle.lines_read.specs.Line.{frameOf};
-ghost use Rattle.cursors.specs.Steps.{Placed, stepOf};
+ghost use Rattle.cursors.specs.Steps.{CursorFits, stepOf};
 use lines_read::Due;
 use lines_read::line_answer;
 use model::Answer;
@@ -39,7 +39,7 @@ fn line_length(t: usize, kind: usize) -> usize
 
 // The line at the cursor, where a frame is due.
 pub fn check_line(text: &[u8], c: Cursor, t: usize, due: Due) -> Step
-    requires { ⌜ Placed (now text) c ⌝ }
+    requires { ⌜ CursorFits (now text) c ⌝ }
     requires { ⌜ t ≤ 16 ⌝ }
     ensures { λ r. ⌜ r ≡ stepOf t (now (text .entry)) (frameOf due) c ⌝ }
 {

@@ -6,25 +6,26 @@ use mathlib.Core.Path.{_≡_, refl, sym, ap, _∙_, subst}
 use mathlib.Core.List.{List}
 use native.Mathlib.Nat.{mul-mul-mul-comm}
 use native.Mathlib.Omega.{arith}
-use lib.Dec.{eqb, leb, ltb}
+use lib.Dec.{eqb, ltb}
 use lib.ListN.{length, getD}
-use borrow.Author.Tests.{eqb-true, eq-eqb, ltb-true, lt-ltb, leb-true, le-leb, not-false}
+use borrow.Author.Tests.{eqb-true, eq-eqb, ltb-true, lt-ltb, le-leb, not-false}
 use Rattle.model.specs.declared.Sizes.{Sizes}
 use Rattle.model.specs.declared.Answer.{Answer}
 use Rattle.model.specs.declared.Answer.the-variants.{Accepted, Refused}
 use Rattle.model.specs.Lists.{some, keep}
-use Rattle.model.specs.Task.{Task, T-1, tasks, kindOf, kOf, iOf, jOf}
+use Rattle.model.specs.Task.{Task, T-1, tasks}
 use Rattle.model.specs.Plan.{plan, planOf, order}
 use Rattle.model.specs.Links.{task, mark}
 use Rattle.model.specs.Calls.{Lent, marksOf, recordOf, worker}
 use Rattle.worker.specs.Holding.{idle}
 use Rattle.model.specs.Refusal.{refuse, replied, holds, badLengths, badRecord, badHold, badWorker}
 use Rattle.laws.proofs.Every.{getD-any}
-use Rattle.laws.proofs.Tests.{never, and-left, and-right, and-intro, false-if}
+use Rattle.laws.proofs.Tests.{never, and-left, and-right, and-intro, false-if, and-true-not}
+use Rattle.run_laws.proofs.Undamaged.{Due, due-of}
 use Rattle.cells.proofs.Members.{Member, some-intro}
 use Rattle.demand.proofs.Single.{Single, single-kept, kept-single}
 use Rattle.cells.proofs.Machine.{count, Stated}
-use Rattle.demand.proofs.Whole.{Recorded, AtWork}
+use Rattle.demand.proofs.Whole.{AtWork}
 
 -- ---- a chain of refusals
 
@@ -83,35 +84,19 @@ module _ (z : Sizes) (s : Lent) where
 
   -- ---- records
 
-  pub recorded : Stated z s → (p : ℕ) → p < count z → badRecord (planOf z) s p ≡ false → Recorded (tk p) (getD (s .records) p (recordOf (T-1 0)))
+  pub recorded : Stated z s → (p : ℕ) → p < count z → badRecord (planOf z) s p ≡ false → Due (tk p) (getD (s .records) p (recordOf (T-1 0)))
   unfolding badRecord plan
   recorded g p h e =
       let r = getD (s .records) p (recordOf (tk p)) in
-      let a = eqb (r .kind) (kindOf (tk p)) in
-      let b = eqb (r .k) (kOf (tk p)) in
-      let c = eqb (r .i) (iOf (tk p)) in
-      let d = eqb (r .j) (jOf (tk p)) in
-      let m = leb (r .mark) 4 in
-      let f = not-false (a && b && c && d && m) e in
-      let f₄ = and-left (a && b && c && d) m f in
-      let f₃ = and-left (a && b && c) d f₄ in
-      let f₂ = and-left (a && b) c f₃ in
-      subst (Recorded (tk p)) (getD-any (s .records) p (recordOf (tk p)) (recordOf (T-1 0)) (subst (λ (k : ℕ). p < k) (sym (g .records)) h))
-      (record {
-        kind = eqb-true _ _ (and-left a b f₂);
-        k = eqb-true _ _ (and-right a b f₂);
-        i = eqb-true _ _ (and-right (a && b) c f₃);
-        j = eqb-true _ _ (and-right (a && b && c) d f₄);
-        most = leb-true _ _ (and-right (a && b && c && d) m f);
-      })
+      subst (Due (tk p)) (getD-any (s .records) p (recordOf (tk p)) (recordOf (T-1 0)) (subst (λ (k : ℕ). p < k) (sym (g .records)) h)) (due-of (tk p) r e)
 
-  pub good-record : Stated z s → (p : ℕ) → p < count z → Recorded (tk p) (getD (s .records) p (recordOf (T-1 0))) → badRecord (planOf z) s p ≡ false
+  pub good-record : Stated z s → (p : ℕ) → p < count z → Due (tk p) (getD (s .records) p (recordOf (T-1 0))) → badRecord (planOf z) s p ≡ false
   unfolding badRecord plan
   good-record g p h x =
-      let a : Recorded (tk p) (getD (s .records) p (recordOf (tk p))) = subst (Recorded (tk p))
+      let a : Due (tk p) (getD (s .records) p (recordOf (tk p))) = subst (Due (tk p))
       (getD-any (s .records) p (recordOf (T-1 0)) (recordOf (tk p)) (subst (λ (k : ℕ). p < k) (sym (g .records)) h)) x in
-      ap not (and-intro _ _ (and-intro _ _ (and-intro _ _ (and-intro _ _ (eq-eqb _ _ (a .kind)) (eq-eqb _ _ (a .k))) (eq-eqb _ _ (a .i)))
-      (eq-eqb _ _ (a .j))) (le-leb _ _ (a .most)))
+      ap not (and-intro _ _ (and-intro _ _ (and-intro _ _ (and-intro _ _ (eq-eqb _ _ (a .kind-is)) (eq-eqb _ _ (a .k-is))) (eq-eqb _ _ (a .i-is)))
+      (eq-eqb _ _ (a .j-is))) (le-leb _ _ (a .mark-most)))
 
   -- ---- who holds what
 
@@ -120,11 +105,7 @@ module _ (z : Sizes) (s : Lent) where
   one-holder p e m =
       let a = eqb (mark (marksOf s) p) 1 in
       let k = eqb (length (keep (holds p) (s .workers))) 1 in
-      kept-single (holds p) idle (s .workers) (eqb-true _ 1 (and-not a k e (eq-eqb (mark (marksOf s) p) 1 m)))
-    where
-      and-not : (a k : Bool) → (a && not k) ≡ false → a ≡ true → k ≡ true
-      and-not true k e f = not-false k e
-      and-not false k e f = never f refl
+      kept-single (holds p) idle (s .workers) (eqb-true _ 1 (and-true-not a k (eq-eqb (mark (marksOf s) p) 1 m) e))
 
   pub good-hold : (p : ℕ) → (mark (marksOf s) p ≡ 1 → Single (holds p) idle (s .workers)) → badHold (planOf z) s p ≡ false
   unfolding badHold

@@ -13,7 +13,7 @@ use Rattle.model.specs.Calls.{Lent, stateOf}
 use Rattle.model.specs.Refusal.{openCall, runCall}
 use Rattle.model.specs.History.{Call}
 use Rattle.model.specs.Demand.{end}
-use Rattle.demand.specs.Promise.{Pair, Alike, Promise}
+use Rattle.demand.specs.Promise.{TwoOpenings, Alike, Promise}
 use Rattle.cells.proofs.Machine.{count}
 use Rattle.demand.proofs.Whole.{Whole}
 use Rattle.demand.proofs.Answers.{run-accepted}
@@ -43,7 +43,7 @@ module _ (z : Sizes) (s : Lent) (cs : List Call) (e : openCall z s .answer ≡ A
 
 -- ---- two complete lists of calls
 
-pub alike : (z y : Sizes) (s r : Lent) (cs ds : List Call) → Pair z y s r cs ds → Alike z y s r cs ds
+pub alike : (z y : Sizes) (s r : Lent) (cs ds : List Call) → TwoOpenings z y s r cs ds → Alike z y s r cs ds
 alike z y s r cs ds p = record { state = same; outcome = λ i. outcome (plans i) (same i) }
   where
     plans : planOf z ≡ planOf y

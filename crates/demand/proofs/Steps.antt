@@ -18,7 +18,7 @@ use Rattle.worker.specs.Holding.{idle, holding}
 use Rattle.model.specs.Refusal.{holds}
 use Rattle.order_free.specs.Graph.{Mark, spoils}
 use Rattle.order_free.specs.Graph as G
-use Rattle.order_free.specs.Loops.{Outcome}
+use Rattle.order_free.specs.Loops.{TaskEnd}
 use Rattle.order_free.specs.Machine.{perform}
 use Rattle.laws.proofs.Tests.{never, and-left}
 use Rattle.cells.specs.Cells.{Val, view}
@@ -87,13 +87,13 @@ module _ (z : Sizes) where
       v : Valid N (task (tasks N) p)
       v = task-valid N p hp
 
-      on : Outcome (S z)
+      on : TaskEnd (S z)
       on = record { cells = S z .col p c σ; mark = cond (eqb (suc c) t) G.done G.taken }
 
-      off : Outcome (S z)
+      off : TaskEnd (S z)
       off = record { cells = S z .fill p (S z .col p c σ); mark = G.failed }
 
-      spoilt : Outcome (S z)
+      spoilt : TaskEnd (S z)
       spoilt = record { cells = S z .fill p σ; mark = G.spoiled }
 
       go : (b o : Bool) → S z .ok p c σ ≡ o → Tiles N t (cond b spoilt (cond o on off) .cells) × Rows N t (cond b spoilt (cond o on off) .cells)

@@ -23,7 +23,8 @@ use Rattle.cells.specs.Cells.{view}
 use Rattle.demand.proofs.Single.{Single}
 use Rattle.cells.proofs.Kept.{Tiles, Rows}
 use Rattle.cells.proofs.Machine.{count, Stated}
-use Rattle.demand.proofs.Whole.{Recorded, AtWork, Whole, mark-at}
+use Rattle.run_laws.proofs.Undamaged.{Due}
+use Rattle.demand.proofs.Whole.{AtWork, Whole, mark-at}
 
 pub holds-busy : (p : ℕ) (h : Worker) → holds p h ≡ true → h .busy ≡ true
 unfolding holds
@@ -75,16 +76,16 @@ module _ (z : Sizes) (s : Lent) (h : Whole z s) (b : Buffers) (p v w : ℕ) (x :
   unfolding worker
   worker-there u d = getD-set-other (s .workers) w u x idle d
 
-  records-kept : v ≤ 4 → (q : ℕ) → q < count z → Recorded (task (tasks (z .tiles)) q) (getD (marked p v (s .records)) q none)
+  records-kept : v ≤ 4 → (q : ℕ) → q < count z → Due (task (tasks (z .tiles)) q) (getD (marked p v (s .records)) q none)
   unfolding withMark
   records-kept hv q hq = go (same-or-not q p)
     where
-      go : (q ≡ p) ⊎ (q ≢ p) → Recorded (task (tasks (z .tiles)) q) (getD (marked p v (s .records)) q none)
+      go : (q ≡ p) ⊎ (q ≢ p) → Due (task (tasks (z .tiles)) q) (getD (marked p v (s .records)) q none)
       go (inl e) =
           let r = h .records p hp in
-          subst (λ (k : ℕ). Recorded (task (tasks (z .tiles)) k) (getD (marked p v (s .records)) k none)) (sym e)
-          (subst (Recorded (task (tasks (z .tiles)) p)) (sym record-here) (record { kind = r .kind; k = r .k; i = r .i; j = r .j; most = hv }))
-      go (inr d) = subst (Recorded (task (tasks (z .tiles)) q)) (sym (record-there q d)) (h .records q hq)
+          subst (λ (k : ℕ). Due (task (tasks (z .tiles)) k) (getD (marked p v (s .records)) k none)) (sym e)
+          (subst (Due (task (tasks (z .tiles)) p)) (sym record-here) (record { kind-is = r .kind-is; k-is = r .k-is; i-is = r .i-is; j-is = r .j-is; mark-most = hv }))
+      go (inr d) = subst (Due (task (tasks (z .tiles)) q)) (sym (record-there q d)) (h .records q hq)
 
   -- ---- who holds what, where no other worker held p, and w no other task
 

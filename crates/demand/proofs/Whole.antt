@@ -11,11 +11,10 @@ use lib.Ieee.{Float}
 use lib.ListN.{length, getD, replicate, take, drop, List·getD-map}
 use borrow.Author.Tests.{eqb-true, leb-true, not-false}
 use Rattle.model.specs.declared.Sizes.{Sizes}
-use Rattle.model.specs.declared.TaskRecord.{TaskRecord}
 use Rattle.model.specs.Lists.{every}
 use Rattle.model.specs.Num.{finite}
 use Rattle.model.specs.Tile.{allFinite}
-use Rattle.model.specs.Task.{Task, T-1, tasks, kindOf, kOf, iOf, jOf}
+use Rattle.model.specs.Task.{Task, T-1, tasks}
 use Rattle.model.specs.Plan.{plan, planOf}
 use Rattle.model.specs.Links.{task, mark}
 use Rattle.model.specs.Buffer.{Buffers, tileOf, tile, rowsOf, rows}
@@ -24,6 +23,7 @@ use Rattle.model.specs.Calls.{Lent, marksOf, recordOf, worker, opened}
 use Rattle.worker.specs.Holding.{idle}
 use Rattle.model.specs.Refusal.{inside, badSizes, holds}
 use Rattle.laws.proofs.Tests.{never, and-left, and-right}
+use Rattle.run_laws.proofs.Undamaged.{Due}
 use Rattle.cells.specs.Cells.{view, listAt}
 use Rattle.laws.proofs.Every.{every-take, every-drop}
 use Rattle.cells.proofs.Elements.{getD-same}
@@ -32,14 +32,6 @@ use Rattle.cells.proofs.View.{tile-cell, rows-cell}
 use Rattle.cells.proofs.Kept.{Tiles, Rows}
 use Rattle.cells.proofs.Marks.{opened-marks}
 use Rattle.cells.proofs.Machine.{count, Stated, opened-stated}
-
--- r is a record of task a
-pub record Recorded (a : Task) (r : TaskRecord) : Type 0 where
-  pub kind : r .kind ≡ kindOf a
-  pub k : r .k ≡ kOf a
-  pub i : r .i ≡ iOf a
-  pub j : r .j ≡ jOf a
-  pub most : r .mark ≤ 4
 
 -- worker w is at work on task p: the task exists and is taken, and a column of it is next
 pub record AtWork (z : Sizes) (s : Lent) (w : ℕ) : Type 0 where
@@ -50,7 +42,7 @@ pub record AtWork (z : Sizes) (s : Lent) (w : ℕ) : Type 0 where
 pub record Whole (z : Sizes) (s : Lent) : Type 0 where
   pub fit : badSizes z ≡ false
   pub stated : Stated z s
-  pub records : (p : ℕ) → p < count z → Recorded (task (tasks (z .tiles)) p) (getD (s .records) p (recordOf (T-1 0)))
+  pub records : (p : ℕ) → p < count z → Due (task (tasks (z .tiles)) p) (getD (s .records) p (recordOf (T-1 0)))
   -- a taken task is held by one worker, and a busy worker is at work
   pub holder : (p : ℕ) → p < count z → mark (marksOf s) p ≡ 1 → Single (holds p) idle (s .workers)
   pub held : (w : ℕ) → w < z .workers → worker s w .busy ≡ true → AtWork z s w
@@ -85,14 +77,14 @@ unfolding mark marksOf recordOf
 mark-at s p = List·getD-map (λ r. r .mark) (s .records) p (recordOf (T-1 0))
 
 pub mark-most : (z : Sizes) (s : Lent) → Whole z s → (p : ℕ) → p < count z → mark (marksOf s) p ≤ 4
-mark-most z s h p l = subst (λ (k : ℕ). k ≤ 4) (sym (mark-at s p)) (h .records p l .most)
+mark-most z s h p l = subst (λ (k : ℕ). k ≤ 4) (sym (mark-at s p)) (h .records p l .mark-most)
 
 -- ---- opening
 
-opened-records : (ts : List Task) (p : ℕ) → p < length ts → Recorded (task ts p) (getD (map recordOf ts) p (recordOf (T-1 0)))
+opened-records : (ts : List Task) (p : ℕ) → p < length ts → Due (task ts p) (getD (map recordOf ts) p (recordOf (T-1 0)))
 unfolding recordOf task
 opened-records [] p h = absurd (omega arith)
-opened-records (a ∷ ts) zero h = record { kind = refl; k = refl; i = refl; j = refl; most = omega arith }
+opened-records (a ∷ ts) zero h = record { kind-is = refl; k-is = refl; i-is = refl; j-is = refl; mark-most = omega arith }
 opened-records (a ∷ ts) (suc p) h = opened-records ts p (omega arith)
 
 zeros-zero : (n : ℕ) → every (λ x. eqb x 0) (replicate n 0) ≡ true

@@ -18,7 +18,7 @@ use Rattle.model.specs.Demand.{Demand3, end, RunIs}
 
 -- two accepted openings of one matrix and one grid of tiles, with any two numbers of workers, and for each a list of calls that finishes
 -- every task
-pub record Pair (z y : Sizes) (s r : Lent) (cs ds : List Call) : Type 0 where
+pub record TwoOpenings (z y : Sizes) (s r : Lent) (cs ds : List Call) : Type 0 where
   pub tiles : z .tiles ≡ y .tiles
   pub side : z .side ≡ y .side
   pub matrix : s .buffers .matrix ≡ r .buffers .matrix
@@ -38,4 +38,4 @@ pub record Promise (z : Sizes) : Type 0 where
   -- t + 1 calls for each task are enough to finish, after any calls
   pub enough : (s : Lent) (cs : List Call) → openCall z s .answer ≡ Accepted → (budget : ℕ) → (z .side + 1) * length (tasks (z .tiles)) ≤ budget
       → (n : ℕ) × (runCall z budget (end z s cs) .answer ≡ Finished n)
-  pub any-workers : (y : Sizes) (s r : Lent) (cs ds : List Call) → Pair z y s r cs ds → Alike z y s r cs ds
+  pub any-workers : (y : Sizes) (s r : Lent) (cs ds : List Call) → TwoOpenings z y s r cs ds → Alike z y s r cs ds

@@ -14,8 +14,9 @@ use borrow.Author.Tests.{ne-eqb}
 use Rattle.model.specs.Num.{finite}
 use Rattle.model.specs.Read.{isDigit, digitValue, field}
 use Rattle.laws.proofs.Finite.{not-nan}
+use Rattle.laws.proofs.Texts.{digit-cases, value-low, value-high, value-lt}
 use Rattle.digits_read.specs.Digits.{FieldOfDigits}
-use Rattle.digits_read.proofs.Fields.{digit-cases, value-low, value-high, value-lt, field-none, field-suc, field-lt}
+use Rattle.digits_read.proofs.Fields.{field-none, field-suc, field-lt}
 
 -- ---- the exponent decides
 

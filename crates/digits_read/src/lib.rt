@@ -7,7 +7,7 @@ ghost use Rattle.model.specs.Num.{finite};
 ghost use Rattle.model.specs.Read.{isDigit, digitValue, field};
 ghost use Rattle.digits_read.specs.Digits.{FieldOfDigits};
 
-// The digits are '0' to '9' and 'A' to 'F'. There is no branch, and none in a digit's value: which digits come is not foreseen.
+// Whether a byte is a digit, '0' to '9' or 'A' to 'F'. There is no branch, and none in a digit's value: no processor foresees digits.
 pub fn is_digit(b: u8) -> bool
     ensures { λ r. ⌜ r ≡ isDigit b ⌝ }
 {
@@ -49,8 +49,8 @@ pub fn field_at(line: &[u8], p: usize, n: usize) -> usize
     v
 }
 
-// The number whose bits the 16 digits from place p on are: it is finite unless all bits of its exponent, which end in the
-// third digit, are ones. Most numbers are told by the second digit.
+// Whether the number whose bits are the 16 digits from place p on is finite: not where all bits of its exponent, which end in the third
+// digit, are ones. The second digit nearly always tells.
 pub fn finite_at(line: &[u8], p: usize) -> bool
     requires { ⌜ FieldOfDigits (now line) p 16 ⌝ }
     ensures { λ r. ⌜ r ≡ finite (ofBits binary64 (field p 16 (now (line .entry)))) ⌝ }

@@ -1,14 +1,15 @@
 -- One piece more, and pieces of one size. Assumes nothing.
-use mathlib.Core.Path.{_≡_, sym, ap, _∙_}
-use mathlib.Core.List.{List, [], _∷_, _++_, map}
+use mathlib.Core.Path.{_≡_, ap, _∙_}
+use mathlib.Core.List.{List, _++_, map}
 use Prim.Native.Nat.{ℕ, _+_, _*_, _≤_, _<_}
-use native.Mathlib.Nat.{add-mul, one-mul, zero-mul, suc-mul, add-comm}
+use native.Mathlib.Nat.{add-mul, one-mul, zero-mul}
 use native.Mathlib.Omega.{arith}
-use lib.ListN.{length, getD, drop, length-append, length-drop}
+use lib.ListN.{length, getD, drop, length-drop}
 use lib.Seq.{length-take-le}
 use lib.Ieee.{Float, binary64, toBits}
 use Rattle.model.specs.Lists.{joined, part, withPart}
 use Rattle.model.specs.Text.{bits}
+use Rattle.laws.proofs.Runs.{length-joined}
 use Rattle.digits_written.proofs.Put.{Put, put-length, put-none, put-then, joined-part, length-hex}
 
 -- one piece more, from what a writer of it promises
@@ -19,13 +20,8 @@ put-next b k zs p s e r is = put-then p (record { size = s; room = omega (arith,
 -- ---- pieces of one size, for the elements of a part
 
 module _ {A : Type 0} (f : A → List ℕ) (c : ℕ) (size : (x : A) → length (f x) ≡ c) where
-  pub length-joined : (xs : List A) → length (joined (map f xs)) ≡ length xs * c
-  unfolding joined
-  length-joined [] = sym (zero-mul c)
-  length-joined (x ∷ xs) = length-append (f x) (joined (map f xs)) ∙ ap (λ (n : ℕ). n + length (joined (map f xs))) (size x) ∙ ap (λ (n : ℕ). c + n) (length-joined xs) ∙ add-comm c (length xs * c) ∙ sym (suc-mul (length xs) c)
-
   pub length-part : (s n : ℕ) (m : List A) → s + n ≤ length m → length (joined (map f (part s n m))) ≡ n * c
-  length-part s n m h = length-joined (part s n m) ∙ ap (λ (k : ℕ). k * c) (length-take-le n (drop s m) (rw length-drop (omega arith)))
+  length-part s n m h = length-joined f c size (part s n m) ∙ ap (λ (k : ℕ). k * c) (length-take-le n (drop s m) (rw length-drop (omega arith)))
 
   pub part-none : (a s : ℕ) (m : List A) (xs : List ℕ) → a ≤ length xs → Put a (0 * c) (joined (map f (part s 0 m))) xs xs
   unfolding joined

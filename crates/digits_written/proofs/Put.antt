@@ -2,13 +2,14 @@
 use mathlib.Core.Path.{_≡_, refl, sym, ap, _∙_, subst}
 use mathlib.Core.List.{List, [], _∷_, _++_, map, append-assoc, append-nil}
 use Prim.Native.Nat.{ℕ, zero, suc, _+_, _-_, _/_, _%_, _^_, _≤_, _<_}
-use native.Mathlib.Nat.{zero-add, add-zero, sub-self, div-one, pow-suc, div-div-eq-div-mul, le-of-suc-le-suc, not-suc-le-zero}
+use native.Mathlib.Nat.{sub-self, div-one, pow-suc, div-div-eq-div-mul, le-of-suc-le-suc, not-suc-le-zero}
 use native.Mathlib.Numerals.{add-one}
 use native.Mathlib.Omega.{arith}
 use lib.ListN.{length, getD, set, take, drop, length-append, length-take, length-drop, take-append-drop}
 use lib.Seq.{length-take-le, take-at, drop-at, drop-drop, set-split, set-append-left, take-suc-set, take-set-lt, getD-drop}
-use Rattle.model.specs.Lists.{run, below, joined, part, withPart}
+use Rattle.model.specs.Lists.{below, joined, part, withPart}
 use Rattle.model.specs.Text.{digit, hex}
+use Rattle.laws.proofs.Runs.{joined-last}
 
 -- ys, which is n long, has been put into the text xs from place a on, and made it xs′
 pub record Put {A : Type 0} (a n : ℕ) (ys xs xs′ : List A) : Type 0 where
@@ -90,16 +91,8 @@ module _ {A B : Type 0} (f : A → List B) where
       ∙ ap (λ (x : A). joined (map f (part a k m)) ++ f x) (getD-drop a m k d)
 
 module _ {B : Type 0} (f : ℕ → List B) where
-  joined-run : (a n : ℕ) → joined (map f (run a (suc n))) ≡ joined (map f (run a n)) ++ f (a + n)
-  unfolding joined run
-  joined-run a zero = append-nil (f a) ∙ ap f (sym (add-zero a))
-  joined-run a (suc n) =
-      ap (λ (l : List B). f a ++ l) (joined-run (suc a) n) ∙ sym (append-assoc (f a) (joined (map f (run (suc a) n))) (f (suc a + n)))
-      ∙ ap (λ (k : ℕ). (f a ++ joined (map f (run (suc a) n))) ++ f k) (omega arith)
-
   pub joined-below : (n : ℕ) → joined (map f (below (n + 1))) ≡ joined (map f (below n)) ++ f n
-  unfolding below
-  joined-below n = ap (λ (k : ℕ). joined (map f (run 0 k))) (add-one n) ∙ joined-run 0 n ∙ ap (λ (k : ℕ). joined (map f (run 0 n)) ++ f k) (zero-add n)
+  joined-below n = ap (λ (k : ℕ). joined (map f (below k))) (add-one n) ∙ joined-last f n
 
 -- ---- digits
 

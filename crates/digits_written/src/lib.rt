@@ -7,7 +7,7 @@ ghost use lib.Ieee.{binary64, toBits};
 ghost use Rattle.model.specs.Lists.{joined, part, table, withPart};
 ghost use Rattle.model.specs.Text.{digit as digitOf, hex, bits};
 
-// The digit of a number below 16: 7 further than the tenth from 10 on.
+// The digit of a number below 16: '0' and x further, from 10 on another 7, where 'A' begins.
 fn digit(x: u64) -> u8
     requires { ⌜ x < 16 ⌝ }
     ensures { λ r. ⌜ r ≡ digitOf x ⌝ }
@@ -15,12 +15,12 @@ fn digit(x: u64) -> u8
     (48 + x + (x + 6) / 16 * 7) as u8
 }
 
-// Writes the lowest digits of a value, highest first.
-pub fn put_hex(text: &mut [u8], at: usize, digits: usize, value: u64)
-    requires { ⌜ at + digits ≤ length (now text) ⌝ }
-    ensures { λ _. ⌜ now (text .exit) ≡ withPart at digits (hex digits value) (now (text .entry)) ⌝ }
+// Writes the lowest `count` digits of a value, highest first.
+pub fn put_hex(text: &mut [u8], at: usize, count: usize, value: u64)
+    requires { ⌜ at + count ≤ length (now text) ⌝ }
+    ensures { λ _. ⌜ now (text .exit) ≡ withPart at count (hex count value) (now (text .entry)) ⌝ }
 {
-    let mut left = digits;
+    let mut left = count;
     let mut rest = value;
     while left > 0 {
         left -= 1;

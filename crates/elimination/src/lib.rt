@@ -12,8 +12,8 @@ ghost use Rattle.column_laws.specs.Room.{Rows};
 use multipliers::divide_column;
 use row_updates::update_rows;
 
-// Eliminates the pivot row at top from the rows of width t that start at start. False where a computed number isn't finite.
-pub fn eliminate(m: &mut [f64], t: usize, c: usize, top: usize, start: usize, rows: usize) -> bool
+// Eliminates the pivot row at top from the rows of width t from `start` on. False where a computed number isn't finite.
+pub fn eliminate(m: &mut [f64], t: usize, start: usize, top: usize, rows: usize, c: usize) -> bool
     requires { ⌜ Rows rows t c start top (now m) ⌝ }
     requires { ⌜ allFinite (part start (rows * t) (now m)) ≡ true ⌝ }
     requires { ⌜ ((i : ℕ) → i < rows → finite (quotient (at t (part start (rows * t) (now m)) i c) (getD (now m) (top + c) nan)) ≡ true) ⌝ }

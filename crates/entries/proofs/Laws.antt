@@ -3,7 +3,7 @@ use Prim.Native.Nat.{ℕ, suc, _+_, _-_, _*_, _/_, _%_, _≤_, _<_}
 use mathlib.Core.Path.{_≡_, sym, ap, _∙_}
 use mathlib.Core.Bool.{Bool, true, false, _||_}
 use mathlib.Core.List.{List}
-use native.Mathlib.Nat.{zero-mul, mul-assoc, suc-mul, mul-le-mul-right}
+use native.Mathlib.Nat.{zero-mul, mul-assoc}
 use native.Mathlib.Omega.{arith}
 use lib.Dec.{ltb}
 use lib.ListN.{getD}
@@ -12,10 +12,10 @@ use Rattle.model.specs.declared.Sizes.{Sizes}
 use Rattle.model.specs.Lists.{run, below, some}
 use Rattle.model.specs.Plan.{plan, planOf}
 use Rattle.model.specs.Refusal.{entryLimit, badEntry}
-use Rattle.laws.proofs.Blocks.{in-block, row-of, column-of}
+use Rattle.laws.proofs.Blocks.{row-of, column-of}
 use Rattle.records.specs.Records.{lent}
 use Rattle.checks.specs.Checks.{listsAlone}
-use Rattle.checks.proofs.Searches.{some-chunk, some-cong}
+use Rattle.laws.proofs.Searches.{some-chunk, some-cong}
 
 -- ---- limits
 
@@ -111,6 +111,3 @@ module _ (z : Sizes) (l : List ℕ) where
   pub rows-end : (i : ℕ) (whole : Bool) → N ≤ i → rowsLeft i ≡ whole → false ≡ whole
   unfolding some run
   rows-end i whole h e = let q : N - i ≡ 0 = omega arith in rw (q, zero-mul (N * t)) at e
-
-pub list-fits : (N t i j : ℕ) → i < N → j < N → (i * N + j) * t + t ≤ N * N * t
-list-fits N t i j h g = omega (arith, mul-le-mul-right t (in-block N N i j h g), suc-mul (i * N + j) t)

@@ -2,7 +2,7 @@
 use Prim.Native.Nat.{ℕ, zero, suc, _+_, _*_, _≤_, _<_}
 use mathlib.Core.Path.{_≡_, ap, _∙_, subst}
 use mathlib.Core.Bool.{Bool, true, false, cond}
-use mathlib.Core.List.{List, [], _∷_, _++_, map, append-nil}
+use mathlib.Core.List.{List, map}
 use native.Mathlib.Nat.{mul-le-mul-right}
 use native.Mathlib.Omega.{arith}
 use lib.Dec.{leb}
@@ -13,8 +13,8 @@ use Rattle.laws.proofs.Texts.{length-entries}
 use Rattle.model.specs.Lists.{below, joined}
 use Rattle.model.specs.Read.{entriesIn}
 use Rattle.numbers_read.specs.Decoded.{lineAt}
+use Rattle.laws.proofs.Runs.{length-below, joined-last, length-joined-below}
 use Rattle.entries_read.specs.Entries.{listSize, ListLine, ListLines, above, listFrom, rowFrom}
-use Rattle.numbers_read.proofs.Filled.{table-last, joined-append, length-run, length-joined}
 
 module _ (t a : ℕ) (text : List ℕ) (i : ℕ) where
   pub list-above : (j : ℕ) → i < j → replicate t 0 ≡ listFrom t a text i j
@@ -35,19 +35,15 @@ module _ (t a : ℕ) (text : List ℕ) (i : ℕ) where
 
   pub length-row : (N : ℕ) → length (rowFrom N t a text i) ≡ N * t
   unfolding rowFrom
-  length-row N = length-joined t (listFrom t a text i) length-list N
+  length-row N = length-joined-below (listFrom t a text i) t N (λ j h. length-list j)
 
 -- row i has i + 1 lists up to the diagonal
 pub above-next : (i : ℕ) → above (suc i) ≡ above i + suc i
-unfolding above joined below
+unfolding above
 above-next i =
-    ap (λ (l : List (List ℕ)). length (joined l)) (table-last (λ r. below (suc r)) i)
-    ∙ ap length (joined-append (map (λ r. below (suc r)) (below i)) (below (suc i) ∷ []))
-    ∙ length-append (joined (map (λ r. below (suc r)) (below i))) (below (suc i) ++ [])
-    ∙ ap (λ (n : ℕ). length (joined (map (λ r. below (suc r)) (below i))) + n) (ap length (append-nil (below (suc i))) ∙ length-below (suc i))
-  where
-    length-below : (n : ℕ) → length (below n) ≡ n
-    length-below n = length-run 0 n
+    ap length (joined-last (λ r. below (suc r)) i)
+    ∙ length-append (joined (map (λ r. below (suc r)) (below i))) (below (suc i))
+    ∙ ap (λ (n : ℕ). length (joined (map (λ r. below (suc r)) (below i))) + n) (length-below (suc i))
 
 pub above-grows : (i n : ℕ) → i < n → above i + suc i ≤ above n
 above-grows i zero h = absurd (omega arith)

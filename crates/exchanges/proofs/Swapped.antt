@@ -9,9 +9,10 @@ use lib.Seq.{getD-set-same, getD-set-other}
 use lib.Ieee.{Float, nan}
 use Rattle.model.specs.Lists.{part, withPart}
 use Rattle.laws.proofs.Tests.{same-or-not, lt-or-le}
-use Rattle.laws.proofs.Parts.{Apart, Fits, length-put, get-in, get-before, get-after}
+use Rattle.laws.specs.Apart.{Apart}
+use Rattle.laws.proofs.Parts.{Fits, length-put, get-in, get-before, get-after, length-part, get-part}
 use Rattle.exchanges.specs.Exchanged.{exchangedParts}
-use Rattle.fills.proofs.Stores.{Outside, stored-is, getD-part, part-fits}
+use Rattle.fills.proofs.Stores.{Outside, stored-is}
 
 -- the first k numbers of the two parts are exchanged
 pub record Swapped (a b k : ℕ) (before after : List Float) : Type 0 where
@@ -91,7 +92,7 @@ module _ (n a b : ℕ) (before after : List Float) (s : Swapped a b n before aft
   lower = withPart b n (part a n before) before
 
   lower-fits : Fits n b before (part a n before)
-  lower-fits = record { whole = part-fits nan a n before room-a; room = room-b }
+  lower-fits = record { whole = length-part a n before room-a; room = room-b }
 
   beyond-a : (x : ℕ) → Outside a n x → getD after x nan ≡ getD lower x nan
   beyond-a x o =
@@ -104,7 +105,7 @@ module _ (n a b : ℕ) (before after : List Float) (s : Swapped a b n before aft
       let e : b + j ≡ x = omega arith in
       let h : j < n = omega arith in
       subst (λ (z : ℕ). getD after z nan ≡ getD lower z nan) e
-      (s .in-b j h ∙ sym (getD-part nan a n before j h) ∙ sym (get-in n nan b before (part a n before) lower-fits j h)))
+      (s .in-b j h ∙ sym (get-part a n before nan j h) ∙ sym (get-in n nan b before (part a n before) lower-fits j h)))
       (λ r. s .other x o (inr r) ∙ sym (get-after n nan b before (part a n before) lower-fits x r))
       (lt-or-le x (b + n)))
       (lt-or-le x b)
@@ -114,5 +115,5 @@ module _ (n a b : ℕ) (before after : List Float) (s : Swapped a b n before aft
   swapped-is =
       stored-is nan a n (λ j. getD before (b + j) nan) lower after (part b n before)
       (record { long = s .long ∙ sym (length-put n nan b before (part a n before) lower-fits); inside = s .in-a; outside = beyond-a })
-      (record { whole = part-fits nan b n before room-b; room = rw (length-put n nan b before (part a n before) lower-fits) room-a })
-      (λ j h. getD-part nan b n before j h)
+      (record { whole = length-part b n before room-b; room = rw (length-put n nan b before (part a n before) lower-fits) room-a })
+      (λ j h. get-part b n before nan j h)

@@ -3,7 +3,7 @@ ghost use mathlib.Core.Path.{_≡_};
 ghost use mathlib.Core.Logic.{_⊎_};
 ghost use Prim.Native.Nat.{_+_, _≤_};
 ghost use lib.ListN.{length};
-ghost use Rattle.laws.proofs.Parts.{Apart};
+ghost use Rattle.laws.specs.Apart.{Apart};
 ghost use Rattle.exchanges.specs.Exchanged.{exchangedParts};
 
 // Exchanges the n numbers from a on with the n numbers from b on. The two runs are one, or share no number.

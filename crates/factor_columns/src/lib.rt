@@ -2,9 +2,9 @@
 ghost use mathlib.Core.Path.{_≡_};
 ghost use Rattle.model.specs.Task.{T-1};
 ghost use Rattle.model.specs.Plan.{planOf};
-ghost use Rattle.model.specs.Buffer.{markOf, columnEnds};
+ghost use Rattle.model.specs.Buffer.{markAfter, columnEnds};
 ghost use Rattle.column_laws.specs.Workable.{Workable};
-use column_ends::ended;
+use column_ends::column_end;
 use factor_tiles::factor_rows;
 use fills::fill::fill_entries;
 use fills::fill::fill_numbers;
@@ -23,7 +23,7 @@ pub fn factor_column(
     c: usize,
 ) -> ColumnEnd
     requires { ⌜ Workable z (T-1 k) c (now matrix) (now lists) ⌝ }
-    ensures { λ r. ⌜ record { left = record { matrix = now (matrix .exit); lists = now (lists .exit) }; mark = markOf r }
+    ensures { λ r. ⌜ record { left = record { matrix = now (matrix .exit); lists = now (lists .exit) }; mark = markAfter r }
         ≡ columnEnds (planOf z) (T-1 k) c (record { matrix = now (matrix .entry); lists = now (lists .entry) }) ⌝ }
 {
     let n = z.tiles;
@@ -32,14 +32,14 @@ pub fn factor_column(
     let p = list_start(n, t, k, k);
     let found = factor_pivot(matrix, t, a, c);
     let y = c + found.place;
-    let size = found.magnitude;
-    if size == 0.0 {
+    let magnitude = found.magnitude;
+    if magnitude == 0.0 {
         lists[p + c] = c as u8;
-        return ended(t, c);
+        return column_end(t, c);
     }
     lists[p + c] = y as u8;
     if factor_rows(matrix, t, a, c, y) {
-        return ended(t, c);
+        return column_end(t, c);
     }
     fill_numbers(matrix, a, t * t);
     fill_entries(lists, p, t);

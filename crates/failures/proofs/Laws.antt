@@ -23,13 +23,10 @@ use Rattle.unfinished.proofs.First.{first-below, from-at, from-none}
 
 -- row x: where its tile and its place in the tile stand
 pub record Diagonal (N t x : ℕ) : Type 0 where
-  pub tile-row : x / t < N
-  pub own-row : x % t < t
   pub tile-at : x / t * N + x / t < N * N
   pub tile-room : (x / t * N + x / t) * (t * t) + t * t ≤ N * t * (N * t)
   pub own-at : x % t * t + x % t < t * t
   pub few-tiles : N * N ≤ 256
-  pub few-own : t * t ≤ 256
   pub few : N * t * (N * t) ≤ 65536
 
 pub diagonal-at : (z : Sizes) (x : ℕ) → Sized z → x < z .tiles * z .side → Diagonal (z .tiles) (z .side) x
@@ -38,13 +35,10 @@ diagonal-at z x s h =
     let r = column-below (z .tiles) (z .side) x h in
     let b = small (z .tiles) (z .side) (s .few-tiles) (s .small-side) in
     record {
-      tile-row = i;
-      own-row = r;
       tile-at = in-block (z .tiles) (z .tiles) (x / z .side) (x / z .side) i i;
       tile-room = tile-fits (z .tiles) (z .side) (x / z .side) (x / z .side) i i;
       own-at = in-block (z .side) (z .side) (x % z .side) (x % z .side) r r;
       few-tiles = b .2;
-      few-own = b .4;
       few = b .1;
     }
 
@@ -59,24 +53,24 @@ module _ (z : Sizes) (m : List Float) (l ms : List ℕ) where
   abbrev state : State
   state = record { buffers = record { matrix = m; lists = l }; marks = ms }
 
-  pub outcome-failed : (f : Lowest) (p : ℕ) → f ≡ firstOr (failedTasks (planOf z) ms) At None → f ≡ At p → Overflow p ≡ outcome (planOf z) state
+  pub outcome-failed : (f : Lowest) (p : ℕ) → f ≡ firstOr (failedTasks ms) At None → f ≡ At p → Overflow p ≡ outcome (planOf z) state
   unfolding outcome
-  outcome-failed f p e q = sym (from-at Overflow _ (failedTasks (planOf z) ms) f p e q)
+  outcome-failed f p e q = sym (from-at Overflow _ (failedTasks ms) f p e q)
 
-  module _ (f : Lowest) (e : f ≡ firstOr (failedTasks (planOf z) ms) At None) (q : f ≡ None) where
+  module _ (f : Lowest) (e : f ≡ firstOr (failedTasks ms) At None) (q : f ≡ None) where
     pub outcome-zero : (g : Lowest) (x : ℕ) → g ≡ firstOr (zeroRows (planOf z) m) At None → g ≡ At x → Singular x ≡ outcome (planOf z) state
     unfolding outcome
-    outcome-zero g x h r = sym (from-none Overflow _ (failedTasks (planOf z) ms) f e q ∙ from-at Singular Good (zeroRows (planOf z) m) g x h r)
+    outcome-zero g x h r = sym (from-none Overflow _ (failedTasks ms) f e q ∙ from-at Singular Good (zeroRows (planOf z) m) g x h r)
 
     pub outcome-good : (g : Lowest) → g ≡ firstOr (zeroRows (planOf z) m) At None → g ≡ None → Good ≡ outcome (planOf z) state
     unfolding outcome
-    outcome-good g h r = sym (from-none Overflow _ (failedTasks (planOf z) ms) f e q ∙ from-none Singular Good (zeroRows (planOf z) m) g h r)
+    outcome-good g h r = sym (from-none Overflow _ (failedTasks ms) f e q ∙ from-none Singular Good (zeroRows (planOf z) m) g h r)
 
 -- the rows are below n, and the failed tasks among the records
 pub zero-below : (z : Sizes) (m : List Float) (g : Lowest) (x : ℕ) → g ≡ firstOr (zeroRows (planOf z) m) At None → g ≡ At x → x < z .tiles * z .side
 unfolding zeroRows order plan
 zero-below z m g x e q = first-below _ (z .tiles * z .side) g x e q
 
-pub failed-below : (z : Sizes) (ms : List ℕ) (g : Lowest) (p : ℕ) → g ≡ firstOr (failedTasks (planOf z) ms) At None → g ≡ At p → p < length ms
+pub failed-below : (ms : List ℕ) (g : Lowest) (p : ℕ) → g ≡ firstOr (failedTasks ms) At None → g ≡ At p → p < length ms
 unfolding failedTasks
-failed-below z ms g p e q = first-below _ (length ms) g p e q
+failed-below ms g p e q = first-below _ (length ms) g p e q

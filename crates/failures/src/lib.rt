@@ -15,8 +15,8 @@ use model::Sizes;
 use records::mark_of;
 
 // The lowest task that failed.
-fn first_failed(z: Sizes, records: &[[u8; 5]]) -> Lowest
-    ensures { λ r. ⌜ r ≡ firstOr (failedTasks (planOf z) (marksFrom (now (records .entry)))) At None ⌝ }
+fn first_failed(records: &[[u8; 5]]) -> Lowest
+    ensures { λ r. ⌜ r ≡ firstOr (failedTasks (marksFrom (now (records .entry)))) At None ⌝ }
 {
     let mut p = 0;
     while p < records.len() {
@@ -44,9 +44,9 @@ fn first_zero_row(z: Sizes, matrix: &[f64]) -> Lowest
     requires { ⌜ Sized z × MatrixFits z (now matrix) ⌝ }
     ensures { λ r. ⌜ r ≡ firstOr (zeroRows (planOf z) (now (matrix .entry))) At None ⌝ }
 {
-    let n = z.tiles * z.side;
+    let order = z.tiles * z.side;
     let mut x = 0;
-    while x < n {
+    while x < order {
         if diagonal(z, matrix, x) == 0.0 {
             return Lowest::At(x);
         }
@@ -63,7 +63,7 @@ pub fn outcome_of(z: Sizes, matrix: &[f64], records: &[[u8; 5]]) -> Outcome
       marks = marksFrom (now (records .entry));
     })) ⌝ }
 {
-    let task = first_failed(z, records);
+    let task = first_failed(records);
     if let Lowest::At(p) = task {
         return Outcome::Overflow(p as u16);
     }

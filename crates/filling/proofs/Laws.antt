@@ -1,9 +1,7 @@
 -- What each kind of task leaves once its tiles and lists are filled. Assumes nothing.
-use Prim.Native.Nat.{ℕ, _+_, _*_, _≤_, _<_}
+use Prim.Native.Nat.{ℕ, _*_}
 use mathlib.Core.Path.{_≡_, sym, ap, _∙_}
 use mathlib.Core.List.{List}
-use native.Mathlib.Nat.{mul-le-mul-right}
-use native.Mathlib.Omega.{arith}
 use lib.Ieee.{Float}
 use lib.ListN.{replicate}
 use Rattle.model.specs.declared.Sizes.{Sizes}
@@ -11,13 +9,8 @@ use Rattle.model.specs.declared.TaskRecord.{TaskRecord}
 use Rattle.model.specs.Tile.{zeros}
 use Rattle.model.specs.Plan.{plan, planOf}
 use Rattle.model.specs.Buffer.{Buffers, tile, putTile, putRows, tileOf, withTile, withRows, fillTile, fillRows, upperFilled, fillUpper, filled}
-use Rattle.laws.proofs.Blocks.{in-block}
 use Rattle.checks.specs.Checks.{taskFrom}
 use Rattle.call_laws.proofs.Named.{named-1, named-2, named-3, named-4}
-
--- list (i,j) is among those lent
-pub list-fits : (N t i j : ℕ) → i < N → j < N → (i * N + j) * t + t ≤ N * N * t
-list-fits N t i j h g = omega (arith, mul-le-mul-right t (in-block N N i j h g))
 
 module _ (z : Sizes) (m : List Float) (l : List ℕ) (a : TaskRecord) where
   abbrev N : ℕ

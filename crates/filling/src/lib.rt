@@ -25,7 +25,7 @@ fn fill_tile(z: Sizes, matrix: &mut [f64], i: usize, j: usize)
 }
 
 // Fills the diagonal of tile (k,k), and all above it.
-fn fill_diagonal(z: Sizes, matrix: &mut [f64], k: usize)
+fn fill_upper_part(z: Sizes, matrix: &mut [f64], k: usize)
     requires { ⌜ Sized z × MatrixFits z (now matrix) × (k < z .tiles) ⌝ }
     ensures { λ _. ⌜ now (matrix .exit) ≡ putTile (z .tiles) (z .side) k k (upperFilled (planOf z) (tile (z .tiles) (z .side) (now (matrix .entry)) k k)) (now (matrix .entry)) ⌝ }
 {
@@ -64,7 +64,7 @@ pub fn fill_task(z: Sizes, matrix: &mut [f64], lists: &mut [u8], task: TaskRecor
     }
     if task.kind == 3 {
         fill_tile(z, matrix, i, k);
-        fill_diagonal(z, matrix, k);
+        fill_upper_part(z, matrix, k);
         fill_list(z, lists, i, k);
         return;
     }

@@ -4,11 +4,11 @@ use mathlib.Core.Logic.{_⊎_, inl, inr, ⊎-elim}
 use mathlib.Core.List.{List}
 use Prim.Native.Nat.{ℕ, _+_, _-_, _≤_, _<_}
 use native.Mathlib.Omega.{arith}
-use lib.ListN.{length, getD, set, drop, replicate, length-set, length-take, length-drop, length-replicate, getD-replicate}
-use lib.Seq.{ext-getD, getD-set-same, getD-set-other, getD-take, getD-drop}
+use lib.ListN.{length, getD, set, replicate, length-set, length-replicate, getD-replicate}
+use lib.Seq.{ext-getD, getD-set-same, getD-set-other}
 use Rattle.model.specs.Lists.{part, withPart}
 use Rattle.laws.proofs.Tests.{same-or-not, lt-or-le}
-use Rattle.laws.proofs.Parts.{Fits, length-put, get-in, get-before, get-after}
+use Rattle.laws.proofs.Parts.{Fits, length-put, get-in, get-before, get-after, length-part, get-part}
 
 -- an index outside the k places from a on
 abbrev pub Outside : ℕ → ℕ → ℕ → Type 0
@@ -73,19 +73,13 @@ module _ {A : Type 0} (d : A) (a : ℕ) where
       (lt-or-le i (a + n)))
       (lt-or-le i a))
 
-  pub getD-part : (n : ℕ) (m : List A) (j : ℕ) → j < n → getD (part a n m) j d ≡ getD m (a + j) d
-  getD-part n m j h = getD-take n (drop a m) j d h ∙ getD-drop a m j d
-
-  pub part-fits : (n : ℕ) (m : List A) → a + n ≤ length m → length (part a n m) ≡ n
-  part-fits n m h = simp (length-take, length-drop) (omega arith)
-
   -- whatever was stored, nothing outside has changed
   pub stored-frame : (k n : ℕ) (f : ℕ → A) (before after : List A) → Stored d a k f before after → k ≤ n → a + n ≤ length before → after ≡ withPart a n (part a n after) before
   stored-frame k n f before after s h room =
       stored-is n (λ j. getD after (a + j) d) before after (part a n after)
       (record { long = s .long; inside = λ j l. refl; outside = λ x o. s .outside x (⊎-elim (λ l. inl l) (λ g. inr (omega arith)) o) })
-      (record { whole = part-fits n after (rw (s .long) room); room = room })
-      (λ j l. getD-part n after j l)
+      (record { whole = length-part a n after (rw (s .long) room); room = room })
+      (λ j l. get-part a n after d j l)
 
   -- one value stored in all n places
   pub stored-fill : (n k : ℕ) (v : A) (before after : List A) → Stored d a k (λ _. v) before after → k ≡ n → a + n ≤ length before → after ≡ withPart a n (replicate n v) before

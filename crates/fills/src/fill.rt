@@ -1,4 +1,4 @@
-// What a failed or spoiled task leaves: +0 in its tiles, 0 in its lists.
+// Parts of a slice filled: numbers with +0, entries with 0.
 ghost use mathlib.Core.Path.{_≡_};
 ghost use Prim.Native.Nat.{_+_, _≤_};
 ghost use lib.ListN.{length, replicate};
@@ -18,13 +18,13 @@ pub fn fill_numbers(m: &mut [f64], start: usize, n: usize)
 }
 
 // Sets the n entries from start on to 0.
-pub fn fill_entries(l: &mut [u8], start: usize, n: usize)
-    requires { ⌜ start + n ≤ length (now l) ⌝ }
-    ensures { λ _. ⌜ now (l .exit) ≡ withPart start n (replicate n 0) (now (l .entry)) ⌝ }
+pub fn fill_entries(lists: &mut [u8], start: usize, n: usize)
+    requires { ⌜ start + n ≤ length (now lists) ⌝ }
+    ensures { λ _. ⌜ now (lists .exit) ≡ withPart start n (replicate n 0) (now (lists .entry)) ⌝ }
 {
     let mut i = 0;
     while i < n {
-        l[start + i] = 0;
+        lists[start + i] = 0;
         i += 1;
     }
 }

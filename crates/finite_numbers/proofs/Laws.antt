@@ -1,6 +1,6 @@
--- The lowest number that isn't finite, as a loop finds it, and what was found. Assumes nothing.
+-- The lowest number that isn't finite, and whether there is one, as loops find them. Assumes nothing.
 use Prim.Native.Nat.{ℕ, suc, _+_, _-_, _≤_, _<_}
-use mathlib.Core.Path.{_≡_, refl}
+use mathlib.Core.Path.{_≡_}
 use mathlib.Core.Bool.{Bool, true, false, not, cond}
 use mathlib.Core.List.{List}
 use native.Mathlib.Omega.{arith}
@@ -11,7 +11,7 @@ use Rattle.model.specs.Lists.{run, below, some, every, keep, firstOr, Lists·op
 use Rattle.model.specs.Num.{finite}
 use Rattle.model.specs.Tile.{allFinite}
 use Rattle.model.specs.Refusal.{firstNotFinite}
-use Rattle.checks.proofs.Searches.{every-places, every-is-none}
+use Rattle.laws.proofs.Searches.{every-places, every-is-none}
 use Rattle.finite_numbers.specs.declared.Lowest.{Lowest}
 use Rattle.finite_numbers.specs.declared.Lowest.the-variants.{None, At}
 
@@ -43,12 +43,3 @@ module _ (f : ℕ → Bool) (n j : ℕ) (whole : Lowest) where
   pub lowest-ends : n ≤ j → lowest f (run j (n - j)) ≡ whole → None ≡ whole
   unfolding lowest Lists·open
   lowest-ends h e = let s : n - j ≡ 0 = omega arith in rw s at e
-
--- what was found tells whether every number is finite
-pub found-none : (b : Bool) (x : ℕ) (r : Lowest) → r ≡ cond b None (At x) → r ≡ None → true ≡ b
-found-none true x r e q = refl
-found-none false x r e q = let z : _≡_ {A = ℕ} 0 1 = cc in absurd (omega arith)
-
-pub found-at : (b : Bool) (x y : ℕ) (r : Lowest) → r ≡ cond b None (At x) → r ≡ At y → false ≡ b
-found-at true x y r e q = let z : _≡_ {A = ℕ} 0 1 = cc in absurd (omega arith)
-found-at false x y r e q = refl

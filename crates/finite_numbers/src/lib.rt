@@ -1,4 +1,4 @@
-// Numbers that aren't finite: whether there are any, and the lowest of them. Refusal 3, and what refusal 4 says of elements, test by this.
+// Numbers that aren't finite: whether there are any, and the lowest of them. Refusals 3 and 4 test elements by this.
 ghost use mathlib.Core.Path.{_≡_};
 ghost use mathlib.Core.Bool.{cond};
 ghost use Rattle.model.specs.Tile.{allFinite};
@@ -6,12 +6,13 @@ ghost use Rattle.model.specs.Refusal.{firstNotFinite};
 ghost use Rattle.finite_numbers.specs.declared.Lowest.the-variants.{None, At};
 use numbers::number::is_finite;
 
-// The lowest offset of a number that isn't finite, where there is one.
+// The lowest that a search finds (an offset, a task or a row), or none.
 pub enum Lowest {
     None,
     At(usize),
 }
 
+// The lowest offset of a number that isn't finite, where there is one.
 pub fn first_not_finite(numbers: &[f64]) -> Lowest
     ensures { λ r. ⌜ r ≡ cond (allFinite (now (numbers .entry))) None (At (firstNotFinite (now (numbers .entry)))) ⌝ }
 {
@@ -25,13 +26,15 @@ pub fn first_not_finite(numbers: &[f64]) -> Lowest
     Lowest::None
 }
 
-// Whether every number is finite.
+// Whether every number is finite. All are looked at, so that the loop has no branch.
 pub fn all_finite(numbers: &[f64]) -> bool
     ensures { λ r. ⌜ r ≡ allFinite (now (numbers .entry)) ⌝ }
 {
-    let found = first_not_finite(numbers);
-    match found {
-        Lowest::None => true,
-        Lowest::At(_) => false,
+    let mut good = true;
+    let mut k = 0;
+    while k < numbers.len() {
+        good = good & is_finite(numbers[k]);
+        k += 1;
     }
+    good
 }

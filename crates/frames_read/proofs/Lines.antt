@@ -9,20 +9,13 @@ use native.Mathlib.Omega.{arith}
 use lib.Dec.{eqb, ltb}
 use lib.ListN.{length, getD, take, drop, take-append-drop, length-append}
 use lib.Seq.{take-suc, take-at, length-take-le, getD-take, take-take}
-use borrow.Author.Tests.{eqb-true, ne-eqb, not-false, ltb-true, ltb-false}
+use borrow.Author.Tests.{eqb-true, not-false, ltb-true, ltb-false}
 use Rattle.laws.proofs.Tests.{and-left, and-right, true-or-false, or-left, or-right}
+use Rattle.laws.proofs.Texts.{digit-goes-on}
 use Rattle.model.specs.Lists.{every}
 use Rattle.model.specs.Read.{lastLine, linesFrom, isDigit, notDigits}
-use Rattle.digits_read.proofs.Fields.{digit-cases}
 
 -- ---- a line of digits ends at its 0A
-
-digit-goes-on : (d : ℕ) → isDigit d ≡ true → eqb d 10 ≡ false
-digit-goes-on d e = ne-eqb d 10 (λ q. go q (digit-cases d e))
-  where
-    go : d ≡ 10 → ((48 ≤ d) × (d ≤ 57)) ⊎ ((65 ≤ d) × (d ≤ 70)) → ⊥
-    go q (inl h) = omega arith
-    go q (inr h) = omega arith
 
 digits-line : (acc ds ys : List ℕ) → every isDigit ds ≡ true → linesFrom acc (ds ++ 10 ∷ ys) ≡ reverseAux acc (ds ++ 10 ∷ []) ∷ linesFrom [] ys
 unfolding linesFrom every

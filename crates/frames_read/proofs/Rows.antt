@@ -9,18 +9,18 @@ use Rattle.lines_read.proofs.Runs.{upTo, upTo-next, upTo-none}
 use Rattle.cursors.specs.declared.Cursor.{Cursor}
 use Rattle.cursors.specs.declared.Step.{Step}
 use Rattle.cursors.specs.declared.Step.the-variants.{Next, Stopped}
-use Rattle.cursors.specs.Steps.{Placed, stepOf}
+use Rattle.cursors.specs.Steps.{CursorFits, stepOf}
 use Rattle.cursors.proofs.Steps.{step-placed}
 use Rattle.frames_read.specs.Follow.{onward, follow}
 
 module _ (t : ℕ) (text : List ℕ) where
-  pub follow-placed : (fs : List Frame) (c d : Cursor) → Placed text c → follow t text fs c ≡ Next d → Placed text d
+  pub follow-placed : (fs : List Frame) (c d : Cursor) → CursorFits text c → follow t text fs c ≡ Next d → CursorFits text d
   unfolding follow
-  follow-placed [] c d p e = let q : c ≡ d = cc in subst (Placed text) q p
+  follow-placed [] c d p e = let q : c ≡ d = cc in subst (CursorFits text) q p
   follow-placed (f ∷ fs) c d p e = go (follow-placed fs) (stepOf t text f c) refl e
     where
-      go : ((c d : Cursor) → Placed text c → follow t text fs c ≡ Next d → Placed text d) → (s : Step) → stepOf t text f c ≡ s
-          → onward (follow t text fs) s ≡ Next d → Placed text d
+      go : ((c d : Cursor) → CursorFits text c → follow t text fs c ≡ Next d → CursorFits text d) → (s : Step) → stepOf t text f c ≡ s
+          → onward (follow t text fs) s ≡ Next d → CursorFits text d
       go ih (Next c′) q e = ih c′ d (step-placed t text f c c′ p q) e
       go ih (Stopped n x) q e = let z : _≡_ {A = ℕ} 0 1 = cc in absurd (omega arith)
 

@@ -6,7 +6,7 @@ ghost use lib.Dec.{ltb};
 ghost use Rattle.model.specs.Text.{badShape};
 ghost use Rattle.header_read.specs.Heads.{headerOf};
 use digits_read::field_at;
-use lines_read::bad_line;
+use lines_read::is_malformed;
 
 // N and t of an accepted header, or a refusal's number and place.
 pub enum Header {
@@ -15,7 +15,7 @@ pub enum Header {
 }
 
 // 1: N or t outside its range, or n above the limit.
-fn bad_shape(tiles: usize, side: usize, limit: usize) -> bool
+fn refused_shape(tiles: usize, side: usize, limit: usize) -> bool
     ensures { λ r. ⌜ r ≡ (badShape tiles side || ltb limit (tiles * side)) ⌝ }
 {
     if tiles < 1 {
@@ -44,7 +44,7 @@ pub fn check_header(text: &[u8], limit: usize) -> Header
         return Header::Unread(12, 1);
     }
     let line = &text[..7];
-    if bad_line(line, 0) {
+    if is_malformed(line, 0) {
         return Header::Unread(12, 1);
     }
     if field_at(line, 0, 2) != 1 {
@@ -52,7 +52,7 @@ pub fn check_header(text: &[u8], limit: usize) -> Header
     }
     let tiles = field_at(line, 2, 2);
     let side = field_at(line, 4, 2);
-    if bad_shape(tiles, side, limit) {
+    if refused_shape(tiles, side, limit) {
         return Header::Unread(1, 1);
     }
     Header::Shape(tiles, side)

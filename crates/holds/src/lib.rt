@@ -22,14 +22,14 @@ fn holds(h: Worker, p: usize) -> bool
     h.task as usize == p
 }
 
-// How many of the first w workers hold task p.
-fn holders(workers: [Worker; 32], w: usize, p: usize) -> usize
-    requires { ⌜ w ≤ 32 ⌝ }
-    ensures { λ r. ⌜ r ≡ length (keep (holdsTask p) (take w workers)) ⌝ }
+// How many of the first `count` workers hold task p.
+fn holders(workers: [Worker; 32], count: usize, p: usize) -> usize
+    requires { ⌜ count ≤ 32 ⌝ }
+    ensures { λ r. ⌜ r ≡ length (keep (holdsTask p) (take count workers)) ⌝ }
 {
     let mut n = 0;
     let mut v = 0;
-    while v < w {
+    while v < count {
         if holds(workers[v], p) {
             n += 1;
         }

@@ -49,14 +49,14 @@ writeTold (WriteRefused n x) = refusedTold n x
 
 -- N and t, and a result's outcome: its kind, and its task or row
 abbrev pub resultTold : ℕ → ℕ → Outcome → ReadTold
-resultTold N t Good = record { place = 0; tiles = N; side = t; row = 0; number = 0; kind = 0 }
-resultTold N t (Overflow p) = record { place = 0; tiles = N; side = t; row = p; number = 0; kind = 1 }
-resultTold N t (Singular x) = record { place = 0; tiles = N; side = t; row = x; number = 0; kind = 2 }
+resultTold N t Good = record { place = 0; tiles = N; side = t; at = 0; number = 0; kind = 0 }
+resultTold N t (Overflow p) = record { place = 0; tiles = N; side = t; at = p; number = 0; kind = 1 }
+resultTold N t (Singular x) = record { place = 0; tiles = N; side = t; at = x; number = 0; kind = 2 }
 
 abbrev pub readTold : ReadAnswer → ReadTold
-readTold (SystemRead N t) = record { place = 0; tiles = N; side = t; row = 0; number = 0; kind = 0 }
+readTold (SystemRead N t) = record { place = 0; tiles = N; side = t; at = 0; number = 0; kind = 0 }
 readTold (ResultRead N t o) = resultTold N t o
-readTold (ReadRefused n x) = record { place = x; tiles = 0; side = 0; row = 0; number = n; kind = 0 }
+readTold (ReadRefused n x) = record { place = x; tiles = 0; side = 0; at = 0; number = n; kind = 0 }
 
 -- the outcome that is written for a kind and a place
 unfoldable pub outcomeFrom : ℕ → ℕ → Outcome

@@ -17,13 +17,13 @@ pub struct Told {
     pub kind: u8,
 }
 
-// What a reading tells a host: a refusal's number and place; N and t; and the outcome of a result.
+// What a reading tells a host: a refusal's number and place; N and t; and a result's outcome, its kind and the task or row that it stands at.
 #[repr(C)]
 pub struct ReadTold {
     pub place: usize,
     pub tiles: usize,
     pub side: usize,
-    pub row: u16,
+    pub at: u16,
     pub number: u8,
     pub kind: u8,
 }
@@ -149,7 +149,7 @@ fn tell_result(tiles: usize, side: usize, outcome: Outcome) -> ReadTold
             place: 0,
             tiles: tiles,
             side: side,
-            row: 0,
+            at: 0,
             number: 0,
             kind: 0,
         },
@@ -157,7 +157,7 @@ fn tell_result(tiles: usize, side: usize, outcome: Outcome) -> ReadTold
             place: 0,
             tiles: tiles,
             side: side,
-            row: p,
+            at: p,
             number: 0,
             kind: 1,
         },
@@ -165,14 +165,14 @@ fn tell_result(tiles: usize, side: usize, outcome: Outcome) -> ReadTold
             place: 0,
             tiles: tiles,
             side: side,
-            row: x,
+            at: x,
             number: 0,
             kind: 2,
         },
     }
 }
 
-// The kind and the row, or the task, are those of a result's outcome.
+// The kind, and the task or row, are those of a result's outcome.
 pub fn tell_read(answer: ReadAnswer) -> ReadTold
     ensures { λ r. ⌜ r ≡ readTold answer ⌝ }
 {
@@ -181,7 +181,7 @@ pub fn tell_read(answer: ReadAnswer) -> ReadTold
             place: 0,
             tiles: n,
             side: t,
-            row: 0,
+            at: 0,
             number: 0,
             kind: 0,
         },
@@ -190,7 +190,7 @@ pub fn tell_read(answer: ReadAnswer) -> ReadTold
             place: x,
             tiles: 0,
             side: 0,
-            row: 0,
+            at: 0,
             number: n,
             kind: 0,
         },

@@ -5,7 +5,6 @@ use mathlib.Core.Bool.{Bool}
 use mathlib.Core.List.{List}
 use lib.ListN.{drop}
 use lib.Ieee.{Float}
-use Rattle.model.specs.declared.Sizes.{Sizes}
 use Rattle.worker.specs.declared.Worker.{Worker}
 use Rattle.model.specs.Calls.{Lent, RunEnd}
 use Rattle.model.specs.Refusal.{Reply}
@@ -14,10 +13,6 @@ use Rattle.records.specs.Records.{lent}
 use Rattle.host_workers.specs.Workers.{workersIn}
 use Rattle.host_answers.specs.declared.Told.{Told}
 use Rattle.host_answers.specs.Answers.{told, runTold}
-
--- the sizes told
-abbrev pub sizes : ℕ → ℕ → ℕ → Sizes
-sizes N t W = record { tiles = N; side = t; workers = W }
 
 -- matrix, lists, records, and the 32 slots
 pub record Hosted : Type 0 where

@@ -1,6 +1,7 @@
 // A column call, for hosts. hosts/solumivaf.h declares it.
 ghost use Rattle.model.specs.Refusal.{columnCall};
-ghost use Rattle.host_calls.specs.Hosted.{sizes, hosted, Called};
+ghost use Rattle.model.specs.Plan.{sizes};
+ghost use Rattle.host_calls.specs.Hosted.{hosted, Called};
 use host_answers::Told;
 use host_answers::tell;
 use host_workers::gather;

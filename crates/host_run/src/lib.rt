@@ -1,6 +1,7 @@
 // The whole run, for hosts. hosts/solumivaf.h declares it.
 ghost use Rattle.model.specs.Refusal.{runCall};
-ghost use Rattle.host_calls.specs.Hosted.{sizes, hosted, Ran};
+ghost use Rattle.model.specs.Plan.{sizes};
+ghost use Rattle.host_calls.specs.Hosted.{hosted, Ran};
 use host_answers::Told;
 use host_answers::tell_run;
 use host_workers::gather;

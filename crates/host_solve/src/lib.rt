@@ -2,8 +2,9 @@
 ghost use mathlib.Core.Path.{_≡_};
 ghost use Rattle.model.specs.Refusal.{outcomeCall};
 ghost use Rattle.model.specs.Solve.{solveCall};
+ghost use Rattle.model.specs.Plan.{sizes};
 ghost use Rattle.host_answers.specs.Answers.{outcomeTold};
-ghost use Rattle.host_calls.specs.Hosted.{sizes, hosted, lentIn, Solved};
+ghost use Rattle.host_calls.specs.Hosted.{hosted, lentIn, Solved};
 use host_answers::Told;
 use host_answers::tell;
 use host_answers::tell_outcome;

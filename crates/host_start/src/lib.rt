@@ -1,6 +1,7 @@
 // The opening and a take, for hosts. hosts/solumivaf.h declares them.
 ghost use Rattle.model.specs.Refusal.{openCall, takeCall};
-ghost use Rattle.host_calls.specs.Hosted.{sizes, hosted, Called};
+ghost use Rattle.model.specs.Plan.{sizes};
+ghost use Rattle.host_calls.specs.Hosted.{hosted, Called};
 use host_answers::Told;
 use host_answers::tell;
 use host_workers::gather;

@@ -2,15 +2,16 @@
 use Prim.Native.Nat.{ℕ, _+_, _*_, _≤_, _<_}
 use mathlib.Core.Path.{_≡_, refl, sym, ap, _∙_}
 use mathlib.Core.Logic.{_⊎_, inl, inr}
-use mathlib.Core.Bool.{Bool, true, false, not, _||_}
+use mathlib.Core.Bool.{false, not, _||_}
 use mathlib.Core.List.{List, []}
-use native.Mathlib.Nat.{mul-assoc, mul-le-mul}
+use native.Mathlib.Nat.{mul-assoc}
 use native.Mathlib.Omega.{arith}
 use lib.Dec.{eqb, ltb}
 use lib.ListN.{length, take}
 use lib.Seq.{length-take-le, take-all, take-take}
 use borrow.Author.Tests.{lt-ltb, ltb-false}
-use Rattle.laws.proofs.Tests.{lt-or-le}
+use Rattle.laws.proofs.Tests.{lt-or-le, or-false-right}
+use Rattle.laws.proofs.Texts.{length-tile-frames}
 use Rattle.model.specs.declared.Answer.{Answer}
 use Rattle.model.specs.declared.Answer.the-variants.{Refused}
 use Rattle.model.specs.Refusal.{refuse}
@@ -23,10 +24,10 @@ use Rattle.cursors.specs.declared.Step.the-variants.{Next, Stopped}
 use Rattle.frames_read.specs.Follow.{follow, textEnd}
 use Rattle.lines_read.specs.Line.{malformed}
 use Rattle.header_read.specs.Heads.{headerLine, headerAnswer}
-use Rattle.rows_written.proofs.Shapes.{small-tiles}
+use Rattle.rows_written.proofs.Shapes.{small-tiles, Bounds, bounds}
 use Rattle.system_checked.specs.Files.{Headed, start}
 use Rattle.system_checked.proofs.Headers.{facts, start-placed, file-refused, file-followed}
-use Rattle.system_checked.proofs.Held.{tiles-kind, tiles-count, tiles-end}
+use Rattle.system_checked.proofs.Held.{tiles-kind, tiles-end}
 use Rattle.input_due.specs.Due.{systemDue}
 use Rattle.input_due.proofs.Fronts.{same-header, same-headed}
 use Rattle.input_due.proofs.Cuts.{follow-same}
@@ -45,28 +46,17 @@ order-small {text} {N} {t} h =
     let c = passed 12 1 (malformed 0 H) _ (b .1) in
     let d = passed 13 1 (not (eqb (kindIn H) 1)) _ (c .1) in
     let e = passed 1 1 (badShape (tilesIn H) (sideIn H) || ltb 48 (tilesIn H * sideIn H)) _ (d .1) in
-    rw (h .tiles-in, h .side-in) (ltb-false 48 (tilesIn H * sideIn H) (or-false (badShape (tilesIn H) (sideIn H)) (ltb 48 (tilesIn H * sideIn H)) (e .0)))
-  where
-    or-false : (a b : Bool) → (a || b) ≡ false → b ≡ false
-    or-false true b e = let z : _≡_ {A = ℕ} 0 1 = cc in absurd (omega arith)
-    or-false false b e = e
+    rw (h .tiles-in, h .side-in) (ltb-false 48 (tilesIn H * sideIn H) (or-false-right (badShape (tilesIn H) (sideIn H)) (ltb 48 (tilesIn H * sideIn H)) (e .0)))
 
 -- what the code multiplies, and how many bytes are due at most
-pub record Bounds (N t : ℕ) : Type 0 where
-  pub numbers : t * t ≤ 256
-  pub row : N * (7 + t * t * 16) ≤ 65648
+pub record Limits (N t : ℕ) : Type 0 where
+  pub products : Bounds N t
   pub most : systemDue N t ≤ 38664
 
-pub bounds : {text : List ℕ} {N t : ℕ} → Headed 48 text N t → Bounds N t
-bounds {text} {N} {t} h =
+pub limits : {text : List ℕ} {N t : ℕ} → Headed 48 text N t → Limits N t
+limits {text} {N} {t} h =
     let f = facts h in
-    let q : t * t ≤ 256 = mul-le-mul (f .side .1) (f .side .1) in
-    let c : 7 + t * t * 16 ≤ 4103 = omega arith in
-    record {
-      numbers = q;
-      row = mul-le-mul (f .tiles .1) c;
-      most = omega (arith, small-tiles N t (f .tiles .1) (order-small h));
-    }
+    record { products = bounds N t (f .tiles .1) (f .side .1); most = omega (arith, small-tiles N t (f .tiles .1) (order-small h)) }
 
 -- what the lines of a text answer in the program
 abbrev answerOf : List ℕ → Answer
@@ -105,7 +95,7 @@ module _ (N t : ℕ) (text : List ℕ) (headed : Headed 48 text N t) (long : sys
 
   alike : follow t short (systemFrames N) start ≡ follow t text (systemFrames N) start
   unfolding systemFrames lineLength
-  alike = follow-same t L text long 2 (tileFrames N) start (tiles-kind N) (omega (arith, ap (λ (k : ℕ). k * (7 + 16 * (t * t))) (tiles-count N), tiles-size N t))
+  alike = follow-same t L text long 2 (tileFrames N) start (tiles-kind N) (omega (arith, ap (λ (k : ℕ). k * (7 + 16 * (t * t))) (length-tile-frames N), tiles-size N t))
 
   -- more text comes behind the frames, in both
   more-behind : (k : List ℕ) (d : Cursor) → d .at < length k → textEnd k (Next d) ≡ Refused 14 (d .line)

@@ -1,13 +1,14 @@
 -- Every element of a list passes a test; and an element inside a list, whatever stands behind its end. Assumes nothing.
 use Prim.Native.Nat.{ℕ, zero, suc, _+_, _≤_, _<_}
 use mathlib.Core.Bool.{Bool, true, false, _&&_}
-use mathlib.Core.Path.{_≡_, refl, sym, _∙_, subst}
+use mathlib.Core.Path.{_≡_, refl, sym, ap, _∙_, subst}
 use mathlib.Core.Logic.{_⊎_, inl, inr, _≢_}
 use mathlib.Core.List.{List, [], _∷_, _++_, map}
 use native.Mathlib.Omega.{arith}
 use lib.ListN.{length, getD, take, drop}
+use lib.Seq.{take-suc}
 use Rattle.model.specs.Lists.{run, every, joined}
-use Rattle.laws.proofs.Tests.{never, and-left, and-right, and-intro, same-or-not}
+use Rattle.laws.proofs.Tests.{never, and-left, and-right, and-intro, and-true, and-assoc, same-or-not}
 
 module _ {A : Type 0} (f : A → Bool) where
   pub every-at : (xs : List A) (d : A) (i : ℕ) → every f xs ≡ true → i < length xs → f (getD xs i d) ≡ true
@@ -33,14 +34,25 @@ module _ {A : Type 0} (f : A → Bool) where
   every-drop (suc n) [] e = refl
   every-drop (suc n) (x ∷ xs) e = every-drop n xs (and-right (f x) (every f xs) e)
 
-  and-assoc : (a b c : Bool) → (a && (b && c)) ≡ (a && b && c)
-  and-assoc true b c = refl
-  and-assoc false b c = refl
-
   pub every-append : (xs ys : List A) → every f (xs ++ ys) ≡ (every f xs && every f ys)
   unfolding every
   every-append [] ys = refl
-  every-append (x ∷ xs) ys = rw (every-append xs ys) (and-assoc (f x) (every f xs) (every f ys))
+  every-append (x ∷ xs) ys = rw (every-append xs ys) (sym (and-assoc (f x) (every f xs) (every f ys)))
+
+  pub every-both : (xs ys : List A) → every f xs ≡ true → every f ys ≡ true → every f (xs ++ ys) ≡ true
+  every-both xs ys p q = every-append xs ys ∙ and-intro (every f xs) (every f ys) p q
+
+  -- of lists joined, those of each
+  pub every-joined : {B : Type 0} (h : B → List A) (xs : List B) → every f (joined (map h xs)) ≡ every (λ x. every f (h x)) xs
+  unfolding every joined
+  every-joined h [] = refl
+  every-joined h (x ∷ xs) = every-append (h x) (joined (map h xs)) ∙ ap (λ (b : Bool). every f (h x) && b) (every-joined h xs)
+
+  -- one element more
+  pub every-more : (xs : List A) (k : ℕ) (d : A) → k < length xs → every f (take (suc k) xs) ≡ (every f (take k xs) && f (getD xs k d))
+  unfolding every
+  every-more xs k d h =
+      ap (every f) (take-suc xs k d h) ∙ every-append (take k xs) (getD xs k d ∷ []) ∙ ap (λ (b : Bool). every f (take k xs) && b) (and-true (f (getD xs k d)))
 
   -- of the lists g a, g (a + 1), .. joined, each one
   pub every-of-joined : (g : ℕ → List A) (a n i : ℕ) → a ≤ i → i < a + n → every f (joined (map g (run a n))) ≡ true → every f (g i) ≡ true

@@ -1,35 +1,22 @@
 -- What the tests of a line come to, by the way that the code takes them. Assumes nothing.
 use Prim.Native.Nat.{ℕ, _+_, _-_, _*_, _≤_, _<_}
 use mathlib.Core.Path.{_≡_, refl, sym, ap, _∙_}
-use mathlib.Core.Bool.{Bool, true, false, cond, not, _&&_, _||_}
+use mathlib.Core.Bool.{Bool, true, false, cond, not, _&&_, _||_, and-true, and-false, or-false}
 use mathlib.Core.List.{List}
-use native.Mathlib.Nat.{mul-le-mul-left}
 use native.Mathlib.Omega.{arith}
 use lib.Dec.{eqb, ltb}
 use lib.ListN.{length, getD, take}
 use lib.Seq.{getD-take, length-take-le}
 use borrow.Author.Tests.{eq-eqb, ne-eqb, lt-ltb, le-ltb, le-leb, lt-leb, not-false}
 use Rattle.laws.proofs.Tests.{and-left}
+use Rattle.laws.proofs.Every.{every-at}
 use Rattle.model.specs.Lists.{every, some}
 use Rattle.model.specs.declared.Answer.the-variants.{Accepted, Refused}
 use Rattle.model.specs.Tile.{allFinite}
 use Rattle.model.specs.Refusal.{inside, refuse}
 use Rattle.model.specs.Read.{Frame, isDigit, field, kindIn, lineLength, entriesIn, numbersIn, notDigits, badContent, badLine, wrongFrame, notFiniteIn, lineAnswer}
 use Rattle.digits_read.specs.Digits.{FieldOfDigits}
-use Rattle.digits_read.proofs.Fields.{every-at}
 use Rattle.lines_read.specs.Line.{LineOfDigits, malformed, badEntries, badOutcome}
-
-and-true : (a : Bool) → (a && true) ≡ a
-and-true true = refl
-and-true false = refl
-
-and-false : (a : Bool) → (a && false) ≡ false
-and-false true = refl
-and-false false = refl
-
-or-false : (a : Bool) → (a || false) ≡ a
-or-false true = refl
-or-false false = refl
 
 -- ---- digits ended by 0A
 
@@ -49,7 +36,7 @@ line-of-digits l h e =
     let size : length front ≡ length l - 1 = length-take-le (length l - 1) l (omega arith) in
     record {
       long = h;
-      digits = λ k b. rw (getD-take (length l - 1) l k 0 (omega arith)) at (every-at isDigit front k 0 all (omega arith));
+      digits = λ k b. rw (getD-take (length l - 1) l k 0 (omega arith)) at (every-at isDigit front 0 k all (omega arith));
     }
 
 pub field-in : (l : List ℕ) (p n : ℕ) → LineOfDigits l → p + n < length l → n ≤ 16 → FieldOfDigits l p n
@@ -156,9 +143,6 @@ module _ (f : Frame) (l : List ℕ) where
       same-row h = rw (eq-eqb (field 0 2 l) (f .kind) e, ne-eqb (f .kind) 4 n, eq-eqb (field 2 2 l) (f .i) h)
 
 -- ---- 3
-
-pub square-le : (t : ℕ) → t ≤ 16 → t * t ≤ 256
-square-le t h = omega (arith, mul-le-mul-left t h)
 
 pub tile-length : (t k : ℕ) → k ≡ 2 → lineLength t k ≡ 7 + 16 * (t * t)
 unfolding lineLength

@@ -67,7 +67,7 @@ fn bad_outcome(line: &[u8]) -> bool
 }
 
 // 12: the line isn't digits ended by 0A, its kind is unknown, or its content is bad for its own kind.
-pub fn bad_line(line: &[u8], t: usize) -> bool
+pub fn is_malformed(line: &[u8], t: usize) -> bool
     requires { ⌜ 7 ≤ length (now line) ⌝ }
     requires { ⌜ t ≤ 16 ⌝ }
     ensures { λ r. ⌜ r ≡ malformed t (now (line .entry)) ⌝ }
@@ -135,7 +135,7 @@ pub fn line_answer(line: &[u8], x: usize, t: usize, due: Due) -> Answer
     requires { ⌜ t ≤ 16 ⌝ }
     ensures { λ r. ⌜ r ≡ lineAnswer t x (frameOf due) (now (line .entry)) Accepted ⌝ }
 {
-    if bad_line(line, t) {
+    if is_malformed(line, t) {
         return Answer::Refused(12, x);
     }
     if wrong_frame(line, due) {

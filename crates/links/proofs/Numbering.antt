@@ -10,10 +10,11 @@ use borrow.Author.Tests.{eq-eqb, ne-eqb}
 use Rattle.model.specs.Lists.{run, below, joined}
 use Rattle.model.specs.Task.{Task, T-1, T-2, T-3, T-4, after, lowerRow, stage, tasks}
 use Rattle.model.specs.Links.{task}
-use Rattle.laws.proofs.Blocks.{in-block, length-map-run}
+use Rattle.laws.proofs.Blocks.{in-block}
+use Rattle.laws.proofs.Runs.{length-map-run, getD-map-run, map-run}
 use Rattle.links.specs.Closed.{Key, key, In, taskAt, keyOf, offset, number}
 use Rattle.laws.proofs.Tests.{same-or-not}
-use Rattle.links.proofs.Rows.{getD-run, map-run-cong, rows, length-rows-suc, getD-rows, length-rows}
+use Rattle.links.proofs.Rows.{rows, length-rows-suc, getD-rows, length-rows}
 
 -- ---- a task's triple
 
@@ -76,7 +77,7 @@ module _ (k m : ℕ) where
       one = sym (at-T-3 (key k i k) (omega arith) refl)
 
       rest : map (T-4 k i) (run (suc k) m) ≡ map (λ j. taskAt (key k i j)) (run (suc k) m)
-      rest = map-run-cong (T-4 k i) (λ j. taskAt (key k i j)) (suc k) m (λ j g. sym (at-T-4 (key k i j) (omega arith) (omega arith)))
+      rest = map-run (T-4 k i) (λ j. taskAt (key k i j)) (suc k) m (λ j g b. sym (at-T-4 (key k i j) (omega arith) (omega arith)))
 
   square : T-1 k ∷ map (T-2 k) (run (suc k) m) ++ rows (λ i. T-3 k i ∷ map (T-4 k i) (run (suc k) m)) (suc k) m ≡ rows (rowOf k (suc m)) k (suc m)
   unfolding rowOf run joined
@@ -86,10 +87,10 @@ module _ (k m : ℕ) where
       one = sym (at-T-1 (key k k k) refl refl)
 
       two : map (T-2 k) (run (suc k) m) ≡ map (λ j. taskAt (key k k j)) (run (suc k) m)
-      two = map-run-cong (T-2 k) (λ j. taskAt (key k k j)) (suc k) m (λ j g. sym (at-T-2 (key k k j) refl (omega arith)))
+      two = map-run (T-2 k) (λ j. taskAt (key k k j)) (suc k) m (λ j g b. sym (at-T-2 (key k k j) refl (omega arith)))
 
       more : map (λ i. T-3 k i ∷ map (T-4 k i) (run (suc k) m)) (run (suc k) m) ≡ map (rowOf k (suc m)) (run (suc k) m)
-      more = map-run-cong (λ i. T-3 k i ∷ map (T-4 k i) (run (suc k) m)) (rowOf k (suc m)) (suc k) m lower
+      more = map-run (λ i. T-3 k i ∷ map (T-4 k i) (run (suc k) m)) (rowOf k (suc m)) (suc k) m (λ i g b. lower i g)
 
 module _ (N k : ℕ) where
   pub stage-rows : k < N → stage N k ≡ rows (rowOf k (N - k)) k (N - k)
@@ -109,7 +110,7 @@ at-square k m x y d hx hy =
     let wide : (i : ℕ) → length (rowOf k m i) ≡ m = λ i. length-map-run (λ j. taskAt (key k i j)) k m in
     rw (← (length-rows (rowOf k m) m k x wide))
     (getD-rows (rowOf k m) k m x y d hx (rw (wide (k + x)) hy)
-    ∙ getD-run (λ j. taskAt (key k (k + x) j)) k m y d hy)
+    ∙ getD-map-run (λ j. taskAt (key k (k + x) j)) k m y d hy)
 
 module _ (N : ℕ) where
   pub length-stages : (x : ℕ) → x ≤ N → length (rows (stage N) 0 x) ≡ offset N x

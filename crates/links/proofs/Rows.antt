@@ -1,24 +1,13 @@
 -- Lists made of runs of numbers and of rows put one after the other. Assumes nothing.
-use Prim.Native.Nat.{ℕ, zero, suc, _+_, _*_, _≤_, _<_}
-use mathlib.Core.Path.{_≡_, refl, ap, _∙_}
-use mathlib.Core.List.{List, [], _∷_, _++_, map}
+use Prim.Native.Nat.{ℕ, zero, suc, _+_, _*_, _<_}
+use mathlib.Core.Path.{_≡_, _∙_}
+use mathlib.Core.List.{List, [], _++_, map}
 use native.Mathlib.Omega.{arith}
 use lib.ListN.{length, getD, length-append, List·getD-append}
 use lib.Seq.{getD-append-add}
 use Rattle.model.specs.Lists.{run, joined}
 
 module _ {A : Type 0} where
-  pub getD-run : (f : ℕ → A) (a n y : ℕ) (d : A) → y < n → getD (map f (run a n)) y d ≡ f (a + y)
-  unfolding run
-  getD-run f a zero y d h = absurd (omega arith)
-  getD-run f a (suc n) zero d h = ap f (omega arith)
-  getD-run f a (suc n) (suc y) d h = getD-run f (suc a) n y d (omega arith) ∙ ap f (omega arith)
-
-  pub map-run-cong : (f g : ℕ → A) (a n : ℕ) → ((i : ℕ) → a ≤ i → f i ≡ g i) → map f (run a n) ≡ map g (run a n)
-  unfolding run
-  map-run-cong f g a zero h = refl
-  map-run-cong f g a (suc n) h = λ t. h a (omega arith) t ∷ map-run-cong f g (suc a) n (λ i l. h i (omega arith)) t
-
   -- the lists f a, f (a + 1), .. in a row
   abbrev pub rows : (ℕ → List A) → ℕ → ℕ → List A
   rows f a n = joined (map f (run a n))

@@ -1,1 +1,1 @@
-// The tasks' numbering, links, latest writers, readiness and spoiling in closed form, for every N. Proofs only.
+// The tasks' numbering, links, latest writers, readiness and spoiling in closed form, for every N. Definitions and proofs; no code.

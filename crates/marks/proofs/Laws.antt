@@ -13,26 +13,20 @@ use Rattle.laws.proofs.Blocks.{in-block}
 use Rattle.links.specs.Closed.{Key, In, number, markAt}
 use Rattle.links.proofs.Order.{offset-squares, six-squares, number-of}
 use Rattle.links.proofs.Summary.{offset-is, numbered}
-use Rattle.marks.specs.Marks.{Triple, Numbered}
+use Rattle.numbering.proofs.Laws.{products-small}
+use Rattle.marks.specs.Marks.{KeyFits, Numbered}
 
 -- ---- the count of tasks, and numbers
 
-pub small : (n : ℕ) → n ≤ 16 → (n * (n + 1) ≤ 272) × (n * (n + 1) * (2 * n + 1) ≤ 8976)
-small n h =
-    let p : n + 1 ≤ 17 = omega arith in
-    let q : 2 * n + 1 ≤ 33 = omega arith in
-    let a : n * (n + 1) ≤ 272 = mul-le-mul h p in
-    (a, mul-le-mul a q)
-
 pub count-small : (n : ℕ) → n ≤ 16 → taskCount n ≤ 1496
 unfolding taskCount
-count-small n h = omega (arith, small n h)
+count-small n h = omega (arith, products-small n h)
 
 pub count-mono : (n k : ℕ) → k ≤ n → taskCount (n - k) ≤ taskCount n
 unfolding taskCount
 count-mono n k h = omega (arith, offset-squares n k h, six-squares n, six-squares (n - k))
 
-module _ (n : ℕ) (b : Key) (t : Triple n b) where
+module _ (n : ℕ) (b : Key) (t : KeyFits n b) where
   pub cell-small : (b .i - b .k) * (n - b .k) + (b .j - b .k) < 256
   cell-small =
       let v : In n b = t .inside in

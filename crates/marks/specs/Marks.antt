@@ -9,7 +9,7 @@ use Rattle.links.specs.Closed.{Key, In, taskAt}
 use Rattle.records.specs.Records.{recordsFrom, blank}
 
 -- the triple of a task of n by n tiles, n at most 16
-pub record Triple (n : ℕ) (b : Key) : Type 0 where
+pub record KeyFits (n : ℕ) (b : Key) : Type 0 where
   pub small : n ≤ 16
   pub inside : In n b
 
@@ -18,9 +18,9 @@ pub record Numbered (n p : ℕ) (b : Key) : Type 0 where
   pub below : p < taskCount n
   pub task-is : task (tasks n) p ≡ taskAt b
 
--- and there is one record for each task
+-- b is the triple of a task, and there is one record for each task
 pub record Marked (n : ℕ) (records : List (List ℕ)) (b : Key) : Type 0 where
-  pub triple : Triple n b
+  pub triple : KeyFits n b
   pub long : length records ≡ taskCount n
 
 -- one record for each task, and record p has the indices of task p

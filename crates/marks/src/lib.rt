@@ -4,12 +4,12 @@ ghost use mathlib.Core.Path.{_≡_};
 ghost use Rattle.model.specs.Links.{finished, broken};
 ghost use Rattle.links.specs.Closed.{key, markAt};
 ghost use Rattle.records.specs.Records.{marksFrom};
-ghost use Rattle.marks.specs.Marks.{Triple, Numbered, Marked};
+ghost use Rattle.marks.specs.Marks.{KeyFits, Numbered, Marked};
 use numbering::task_count;
 
 // The number of the task with the triple (k,i,j).
 pub fn number(n: usize, k: usize, i: usize, j: usize) -> usize
-    requires { ⌜ Triple n (key k i j) ⌝ }
+    requires { ⌜ KeyFits n (key k i j) ⌝ }
     ensures { λ r. ⌜ Numbered n r (key k i j) ⌝ }
 {
     let m = n - k;

@@ -50,10 +50,10 @@ pub record Ended : Type 0 where
   pub mark : ℕ
 
 -- the mark that a column's end gives its task
-abbrev pub markOf : ColumnEnd → ℕ
-markOf GoesOn = taken
-markOf Done = done
-markOf Failed = failed
+abbrev pub markAfter : ColumnEnd → ℕ
+markAfter GoesOn = taken
+markAfter Done = done
+markAfter Failed = failed
 
 module _ (z : Plan) where
   unfoldable pub tileOf : Buffers → ℕ → ℕ → List Float
@@ -128,6 +128,7 @@ module _ (z : Plan) where
   unfoldable pub fillUpper : ℕ → Buffers → Buffers
   fillUpper k s = withTile k k (upperFilled (tileOf s k k)) s
 
+  -- document 01's fill
   unfoldable pub filled : Task → Buffers → Buffers
   filled (T-1 k) s = fillTile k k (fillRows k k s)
   filled (T-2 k j) s = fillTile k j s

@@ -82,6 +82,7 @@ module _ (z : Plan) where
         | false ↦ columnEnds z a c (s .buffers)
       ]
 
+  -- the column done, its task marked, and the worker moved on
   unfoldable pub advanced : ℕ → Lent → Lent
   advanced w s =
       let h = worker s w in
@@ -94,9 +95,11 @@ module _ (z : Plan) where
 
   -- ---- a whole run
 
+  -- the ready tasks, lowest first
   unfoldable pub readyTasks : Lent → List ℕ
   readyTasks s = keep (ready (z .tasks) (marksOf s)) (below (length (z .tasks)))
 
+  -- every task is finished
   unfoldable pub allFinished : Lent → Bool
   allFinished s = every finished (marksOf s)
 
@@ -122,6 +125,7 @@ module _ (z : Plan) where
         | false ↦ runFrom W b (suc n) (suc v % W) (turn v s)
       ]
 
+  -- document 01's whole run: worker 0 has the first turn
   unfoldable pub wholeRun : ℕ → ℕ → Lent → RunEnd
   wholeRun W budget s = runFrom W budget 0 0 s
 

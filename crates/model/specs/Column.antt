@@ -34,6 +34,7 @@ search (x ∷ xs) = searchFrom 1 (record { place = 0; magnitude = magnitude x })
 unfoldable pub beyond : ℕ → ℕ → List ℕ
 beyond t c = run (suc c) (t - suc c)
 
+-- x, y or z, for less, equal or greater
 abbrev pub sides : Ordering → Float → Float → Float → Float
 sides Ordering·lt x y z = x
 sides Ordering·eq x y z = y

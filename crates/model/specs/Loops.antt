@@ -20,6 +20,10 @@ pub record State : Type 0 where
   pub buffers : Buffers
   pub marks : List ℕ
 
+-- the failed tasks, lowest first
+unfoldable pub failedTasks : List ℕ → List ℕ
+failedTasks ms = keep (λ p. eqb (mark ms p) failed) (below (length ms))
+
 module _ (z : Plan) where
   -- n columns of a task, from column c on: at the first that computes a number that isn't finite it is failed, and after the last it is done
   unfoldable pub columns : ℕ → ℕ → Task → Buffers → Ended
@@ -38,6 +42,7 @@ module _ (z : Plan) where
         | false ↦ columns (z .t) 0 a (s .buffers)
       ]
 
+  -- the state after task p
   unfoldable pub performed : ℕ → State → State
   performed p s = let e = ended s p in record { buffers = e .left; marks = set (s .marks) p (e .mark) }
 
@@ -45,15 +50,13 @@ module _ (z : Plan) where
   unfoldable pub start : List Float → State
   start m = record { buffers = record { matrix = m; lists = replicate (z .N * z .N * z .t) 0 }; marks = replicate (length (z .tasks)) waiting }
 
+  -- document 01's published loops: the tasks in number order
   unfoldable pub loops : List Float → State
   loops m = inTurn performed (below (length (z .tasks))) (start m)
 
   -- ---- the outcome
 
-  -- the failed tasks, and the rows of n with a zero on the diagonal, lowest first
-  unfoldable pub failedTasks : List ℕ → List ℕ
-  failedTasks ms = keep (λ p. eqb (mark ms p) failed) (below (length ms))
-
+  -- the rows of n with a zero on the diagonal, lowest first
   unfoldable pub zeroRows : List Float → List ℕ
   zeroRows m = keep (λ x. isZero (element (z .N) (z .t) m x x)) (below (order z))
 

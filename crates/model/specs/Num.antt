@@ -19,7 +19,7 @@ finite (fin s m e) = true
 unfoldable pub isZero : Float → Bool
 isZero x = eq x plusZero
 
--- the number without its sign
+-- document 01's magnitude (the absolute value): the number without its sign
 unfoldable pub magnitude : Float → Float
 magnitude nan = nan
 magnitude (inf s) = inf false
@@ -40,7 +40,7 @@ difference x p = sub binary64 x p
 unfoldable pub quotient : Float → Float → Float
 quotient x y = div binary64 x y
 
--- the update of x by the multiplier m and the number y: x − m·y; where m is a zero of either sign x keeps its bits
+-- document 01's update of x by the multiplier m and the number y (multiply and subtract, each rounded): x − m·y; where m is a zero of either sign x keeps its bits
 unfoldable pub update : Float → Float → Float → Float
 update x m y = cond (isZero m) x (difference x (product m y))
 

@@ -67,7 +67,7 @@ entriesIn t l = map (λ x. field (6 + 2 * x) 2 l) (below t)
 unfoldable pub outcomeIn : List ℕ → Outcome
 outcomeIn l = cond (eqb (field 2 2 l) 0) Good (cond (eqb (field 2 2 l) 1) (Overflow (field 4 4 l)) (Singular (field 4 4 l)))
 
--- ---- 12
+-- ---- refusal 12: a bad line
 
 -- the line isn't digits ended by 0A
 unfoldable pub notDigits : List ℕ → Bool

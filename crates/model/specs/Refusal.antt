@@ -110,6 +110,7 @@ module _ (z : Plan) where
   unfoldable pub badEntry : Lent → ℕ → Bool
   badEntry s x = ltb (entryLimit (x / z .t / z .N) (x / z .t % z .N)) (getD (s .buffers .lists) x 0)
 
+  -- 4, but for elements
   unfoldable pub damaged : Lent → Bool
   damaged s =
       some (badRecord s) (below (length (z .tasks))) || some (badHold s) (below (length (z .tasks)))

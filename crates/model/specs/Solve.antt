@@ -1,6 +1,6 @@
 -- Solving: the right side passes through T-2 and T-4 as one more tile column, of width 1, in task order; then the backward rows.
 -- Document 01, section "The outcome, and solving", and refusals 8 to 11. Assumes nothing.
-use Prim.Native.Nat.{ℕ, _-_, _*_}
+use Prim.Native.Nat.{ℕ, _*_}
 use mathlib.Core.Bool.{true, false, not, _&&_, _||_}
 use mathlib.Core.List.{List, [], _∷_, _++_, reverse}
 use lib.ListN.{length, getD, set}
@@ -94,10 +94,12 @@ module _ (z : Plan) (s : Buffers) where
     | false ↦ NotFinite
   ]
 
+  -- the right side with the number of row x in its place
   unfoldable pub put : ℕ → List Float → Row → Passed
   put x y (Number v) = going (set y x v)
   put x y NotFinite = stopped x
 
+  -- backward row x
   unfoldable pub back : ℕ → Passed → Passed
   back x (stopped e) = stopped e
   back x (going y) = put x y (row x y)
@@ -108,6 +110,7 @@ module _ (z : Plan) (s : Buffers) where
 
 -- ---- the call: y is the right side, which is never changed, and x the slice for the answers
 
+-- what a solve answers, and what is left in the slice for the answers
 pub record Answers : Type 0 where
   pub answer : Answer
   pub left : List Float

@@ -1,4 +1,4 @@
-// The marks of the tasks next to one in the graph, and the triple in a record.
+// The marks of a task's neighbours in the graph of links, and the triple that a record stands for.
 ghost use mathlib.Core.Path.{_≡_};
 ghost use Prim.Native.Nat.{max, _≤_};
 ghost use Rattle.links.specs.Closed.{key, backMark, leftMark, aboveMark};

@@ -10,7 +10,7 @@ use Rattle.records.specs.Records.{marksFrom}
 use Rattle.marks.specs.Marks.{Recorded}
 
 -- every record has the indices of its task, and no task below `from` is ready
-pub record Passed (n : ℕ) (records : List (List ℕ)) (from : ℕ) : Type 0 where
+pub record NoneBelow (n : ℕ) (records : List (List ℕ)) (from : ℕ) : Type 0 where
   pub recorded : (p : ℕ) → p < length records → Recorded n records p
   pub none : (q : ℕ) → q < from → ready (tasks n) (marksFrom records) q ≡ false
   pub within : from ≤ length records

@@ -7,14 +7,14 @@ ghost use Rattle.model.specs.Links.{taken};
 ghost use Rattle.worker.specs.Holding.{holding};
 ghost use Rattle.model.specs.Calls.{marked};
 ghost use Rattle.records.specs.Records.{recordsFrom};
-ghost use Rattle.next_task.specs.NextTask.{Passed, LowestReady};
+ghost use Rattle.next_task.specs.NextTask.{NoneBelow, LowestReady};
 use readiness::is_ready;
 use record_changes::set_mark;
 use worker::Worker;
 
 // The lowest ready task, where none below `from` is ready: the number of tasks where there is none.
 pub fn lowest_ready(n: usize, records: &[[u8; 5]], from: usize) -> usize
-    requires { ⌜ Passed n (now records) from ⌝ }
+    requires { ⌜ NoneBelow n (now records) from ⌝ }
     ensures { λ r. ⌜ LowestReady n (now (records .entry)) r ⌝ }
 {
     let mut p = from;
@@ -28,7 +28,7 @@ pub fn lowest_ready(n: usize, records: &[[u8; 5]], from: usize) -> usize
 }
 
 // The worker h takes task p.
-pub fn take_task(records: &mut [[u8; 5]], p: usize, h: Worker) -> Worker
+pub fn take_task(records: &mut [[u8; 5]], h: Worker, p: usize) -> Worker
     requires { ⌜ (p < length (now records)) × (p < 65536) ⌝ }
     ensures { λ r. ⌜ r ≡ holding p 0 ⌝ }
     ensures { λ _. ⌜ recordsFrom (now (records .exit)) ≡ marked p taken (recordsFrom (now (records .entry))) ⌝ }
@@ -39,7 +39,7 @@ pub fn take_task(records: &mut [[u8; 5]], p: usize, h: Worker) -> Worker
 }
 
 // Where the search for a ready task begins once task p was worked at: p's end may have made a task above it ready.
-pub fn search_from(from: usize, busy: bool, p: usize) -> usize
+pub fn search_start(from: usize, busy: bool, p: usize) -> usize
     requires { ⌜ p < 65536 ⌝ }
     ensures { λ r. ⌜ r ≡ cond busy from (min from (suc p)) ⌝ }
 {

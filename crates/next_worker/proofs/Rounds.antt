@@ -1,13 +1,11 @@
 -- Counting workers round, and the next busy one. Assumes nothing.
-use Prim.Native.Nat.{ℕ, suc, _+_, _-_, _*_, _%_, _≤_, _<_}
+use Prim.Native.Nat.{ℕ, suc, _+_, _%_, _≤_, _<_}
 use mathlib.Core.Bool.{true, false}
 use mathlib.Core.Path.{_≡_, sym, ap, _∙_, subst}
-use mathlib.Core.Logic.{_⊎_, inl, inr}
 use mathlib.Core.List.{List}
-use native.Mathlib.Nat.{add-zero, mod-eq-of-lt, mod-self, mod-add-mod, mul-add-mod-self-right}
+use native.Mathlib.Nat.{add-zero, mod-eq-of-lt, mod-self, mod-add-mod}
 use native.Mathlib.Omega.{arith}
 use lib.ListN.{getD}
-use Rattle.laws.proofs.Tests.{lt-or-le}
 use Rattle.worker.specs.declared.Worker.{Worker}
 use Rattle.worker.specs.Holding.{idle}
 use Rattle.next_worker.specs.NextWorker.{NextBusy, busy-after}
@@ -39,13 +37,3 @@ module _ (slots : List Worker) (W w d v : ℕ) (e : v ≡ (w + d) % W) where
 
   pub idle-here : getD slots v idle .busy ≡ false → getD slots ((w + d) % W) idle .busy ≡ false
   idle-here b = subst (λ (x : ℕ). getD slots x idle .busy ≡ false) e b
-
--- counting W workers round from w on meets each of them
-pub round : (W w v : ℕ) → w < W → v < W → (d : ℕ) × (d < W) × ((w + d) % W ≡ v)
-round W w v hw hv = go (lt-or-le v w)
-  where
-    go : (v < w) ⊎ (w ≤ v) → (d : ℕ) × (d < W) × ((w + d) % W ≡ v)
-    go (inr l) = let e : w + (v - w) ≡ v = omega arith in (v - w, omega arith, ap (λ (k : ℕ). k % W) e ∙ mod-eq-of-lt hv)
-    go (inl l) =
-        let e : w + (v + W - w) ≡ 1 * W + v = omega arith in
-        (v + W - w, omega arith, ap (λ (k : ℕ). k % W) e ∙ mul-add-mod-self-right 1 W v ∙ mod-eq-of-lt hv)

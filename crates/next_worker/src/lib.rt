@@ -5,7 +5,7 @@ ghost use Rattle.next_worker.specs.NextWorker.{NextBusy};
 use worker::Worker;
 
 // The worker after v, of `count`.
-pub fn after(count: usize, v: usize) -> usize
+pub fn worker_after(count: usize, v: usize) -> usize
     requires { ⌜ v < count ⌝ }
     ensures { λ r. ⌜ r ≡ suc v % count ⌝ }
 {
@@ -28,7 +28,7 @@ pub fn next_busy(workers: [Worker; 32], count: usize, w: usize) -> usize
         if h.busy {
             return v;
         }
-        v = after(count, v);
+        v = worker_after(count, v);
         d += 1;
     }
     count

@@ -11,8 +11,9 @@ use Rattle.links.specs.Closed.{key, In, offset, number}
 use Rattle.links.proofs.Numbering.{count}
 use Rattle.links.proofs.Order.{count-is}
 
-pub small : (n : ℕ) → n ≤ 16 → (n * (n + 1) ≤ 272) × (n * (n + 1) * (2 * n + 1) ≤ 8976)
-small n h =
+-- what the count of tasks is made of
+pub products-small : (n : ℕ) → n ≤ 16 → (n * (n + 1) ≤ 272) × (n * (n + 1) * (2 * n + 1) ≤ 8976)
+products-small n h =
     let p : n + 1 ≤ 17 = omega arith in
     let q : 2 * n + 1 ≤ 33 = omega arith in
     let a : n * (n + 1) ≤ 272 = mul-le-mul h p in
@@ -23,7 +24,7 @@ unfolding taskCount
 length-tasks n = sym (count n ∙ count-is n)
 
 pub few-tasks : (n : ℕ) → n ≤ 16 → length (tasks n) ≤ 1496
-few-tasks n h = omega (arith, small n h, length-tasks n)
+few-tasks n h = omega (arith, products-small n h, length-tasks n)
 
 module _ (N k i j : ℕ) (v : In N (key k i j)) where
   -- in the same row

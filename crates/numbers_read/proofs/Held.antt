@@ -5,9 +5,9 @@ use mathlib.Core.List.{List}
 use lib.ListN.{length}
 use lib.Ieee.{binary64, ofBits}
 use Rattle.model.specs.Read.{field}
+use Rattle.laws.proofs.Runs.{length-map-below}
 use Rattle.numbers_read.specs.Decoded.{numbersOf}
-use Rattle.numbers_read.proofs.Filled.{length-table}
 
 pub length-numbers : (s : ℕ) (l : List ℕ) → length (numbersOf s l) ≡ s
 unfolding numbersOf
-length-numbers s l = length-table (λ x. ofBits binary64 (field (6 + 16 * x) 16 l)) s
+length-numbers s l = length-map-below (λ x. ofBits binary64 (field (6 + 16 * x) 16 l)) s

@@ -32,7 +32,7 @@ use Rattle.demand.proofs.Opening.{opened-by}
 use Rattle.demand.proofs.Theorem.{demand-3}
 use Rattle.demand.proofs.Runs.{run-itself, runs-are-calls}
 use Rattle.demand.proofs.Corollaries.{run-finishes}
-use Rattle.one_worker.specs.Alone.{Lendable, Factored, alone, published}
+use Rattle.one_worker.specs.Alone.{Lendable, Result, alone, published}
 
 module _ (N t : ℕ) (m : List Float) (l : List ℕ) (r : List (List ℕ)) (ws : List Worker) (h : Lendable N t m l r) (slots : length ws ≡ 32) where
   abbrev z : Sizes
@@ -96,7 +96,7 @@ module _ (N t : ℕ) (m : List Float) (l : List ℕ) (r : List (List ℕ)) (ws :
   -- ---- one after the other
 
   -- the buffers and the outcome in everything lent
-  told : Lent → Factored
+  told : Lent → Result
   told e = record { buffers = e .buffers; outcome = outcome (plan N t) (stateOf e) }
 
   module _ (a : Answer) (l₁ : List ℕ) (r₁ : List (List ℕ)) (ws₁ : List Worker) (opened-to : _≡_ {A = Reply} (record { answer = a; left = lent m l₁ r₁ ws₁ 1 }) (openCall z s))
@@ -113,16 +113,16 @@ module _ (N t : ℕ) (m : List Float) (l : List ℕ) (r : List (List ℕ)) (ws :
     unfolding stateOf lent
     states = ap (λ (ms : List ℕ). outcome (plan N t) (record { buffers = record { matrix = m₂; lists = l₂ }; marks = ms })) (sym (marks-lent m₂ l₂ r₂ ws₂ 1))
 
-    told-is : _≡_ {A = Factored} (record { buffers = record { matrix = m₂; lists = l₂ }; outcome = o }) (told (runCall z budget first .left))
+    told-is : _≡_ {A = Result} (record { buffers = record { matrix = m₂; lists = l₂ }; outcome = o }) (told (runCall z budget first .left))
     unfolding told lent
     told-is =
         ap (λ (k : Outcome). record { buffers = record { matrix = m₂; lists = l₂ }; outcome = k }) (o-is l₂ ∙ states)
         ∙ ap told left-is
 
-    pub alone-told : _≡_ {A = Factored} (record { buffers = record { matrix = m₂; lists = l₂ }; outcome = o }) (alone (plan N t) m)
+    pub alone-told : _≡_ {A = Result} (record { buffers = record { matrix = m₂; lists = l₂ }; outcome = o }) (alone (plan N t) m)
     unfolding told alone plan
     alone-told = told-is ∙ ap (λ (e : RunEnd). told (e .left)) run-is
 
-    pub published-told : _≡_ {A = Factored} (record { buffers = record { matrix = m₂; lists = l₂ }; outcome = o }) (published (plan N t) m)
+    pub published-told : _≡_ {A = Result} (record { buffers = record { matrix = m₂; lists = l₂ }; outcome = o }) (published (plan N t) m)
     unfolding told published stateOf
     published-told = told-is ∙ ap (λ (x : State). record { buffers = x .buffers; outcome = outcome (plan N t) x }) like-loops

@@ -23,16 +23,16 @@ pub record Lendable (N t : ℕ) (m : List Float) (l : List ℕ) (r : List (List 
   pub all-finite : allFinite m ≡ true
 
 -- the buffers at the end, and the outcome
-pub record Factored : Type 0 where
+pub record Result : Type 0 where
   pub buffers : Buffers
   pub outcome : Outcome
 
 -- one worker, with calls enough for every task
-unfoldable pub alone : Plan → List Float → Factored
+unfoldable pub alone : Plan → List Float → Result
 alone z m =
     let e = wholeRun z 1 (length (z .tasks) * suc (z .t)) (opened z 1 m) in
     record { buffers = e .left .buffers; outcome = outcomeOf z (stateOf (e .left)) }
 
 -- the published loops
-unfoldable pub published : Plan → List Float → Factored
+unfoldable pub published : Plan → List Float → Result
 published z m = record { buffers = loops z m .buffers; outcome = outcomeOf z (loops z m) }

@@ -16,8 +16,8 @@ fn idle_slots() -> [Worker; 32] {
     [idle; 32]
 }
 
-// Opens a system of finite numbers and runs it with one worker to its end. Lists and records may hold anything before. What is left is also what the
-// published loops leave.
+// Opens a system of finite numbers and runs it with one worker to its end. Lists and records may hold anything before. What is left of matrix and
+// lists is also what the published loops leave; what is left in the records is free.
 pub fn run_alone(
     tiles: usize,
     side: usize,

@@ -13,16 +13,16 @@ pub fn open_part(
     z: Sizes,
     matrix: &[f64],
     lists: &mut [u8],
-    flat: &mut [[u8; 5]],
+    records: &mut [[u8; 5]],
     n: usize,
     workers: [Worker; 32],
 ) -> CallReply
-    requires { ⌜ n ≤ length (now flat) ⌝ }
+    requires { ⌜ n ≤ length (now records) ⌝ }
     ensures { λ r. ⌜ (record {
       answer = r .answer;
-      left = lent (now (matrix .entry)) (now (lists .exit)) (upTo n (now (flat .exit))) (r .workers) (z .workers);
-    } ≡ openCall z (lent (now (matrix .entry)) (now (lists .entry)) (upTo n (now (flat .entry))) workers (z .workers)))
+      left = lent (now (matrix .entry)) (now (lists .exit)) (upTo n (now (records .exit))) (r .workers) (z .workers);
+    } ≡ openCall z (lent (now (matrix .entry)) (now (lists .entry)) (upTo n (now (records .entry))) workers (z .workers)))
         × (drop (z .workers) (r .workers) ≡ drop (z .workers) workers) ⌝ }
 {
-    opening::open(z, matrix, lists, &mut flat[..n], workers)
+    opening::open(z, matrix, lists, &mut records[..n], workers)
 }

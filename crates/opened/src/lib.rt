@@ -32,15 +32,15 @@ pub fn number_records(z: Sizes, records: &mut [[u8; 5]])
     }
 }
 
-// Sets the first w workers to idle.
-pub fn idle_workers(workers: [Worker; 32], w: usize) -> [Worker; 32]
-    requires { ⌜ w ≤ 32 ⌝ }
-    ensures { λ r. ⌜ take w r ≡ replicate w idle ⌝ }
-    ensures { λ r. ⌜ drop w r ≡ drop w workers ⌝ }
+// Sets the first `count` workers to idle.
+pub fn idle_workers(workers: [Worker; 32], count: usize) -> [Worker; 32]
+    requires { ⌜ count ≤ 32 ⌝ }
+    ensures { λ r. ⌜ take count r ≡ replicate count idle ⌝ }
+    ensures { λ r. ⌜ drop count r ≡ drop count workers ⌝ }
 {
     let mut left = workers;
     let mut v = 0;
-    while v < w {
+    while v < count {
         left[v] = Worker::idle();
         v += 1;
     }

@@ -7,11 +7,11 @@ use mathlib.Core.Logic.{_⊎_, inl, inr, _≢_}
 use native.Mathlib.Omega.{arith}
 use lib.Dec.{ltb}
 use borrow.Author.Tests.{ltb-true, lt-ltb, not-true}
+use Rattle.bools.proofs.Tests.{true-or-false, never, and-left, and-right, same-or-not}
 use Rattle.order_free.specs.System.{System, Laws, Agree}
 use Rattle.order_free.specs.Graph.{Mark, waiting, taken, done, failed, spoiled, is-waiting, finished, clash}
-use Rattle.order_free.specs.Loops.{Outcome, run, loops}
+use Rattle.order_free.specs.Loops.{TaskEnd, run, loops}
 use Rattle.order_free.specs.Machine.{Worker, idle, busy, is-idle, State, Call, take, column, next, ready, perform, advance, effect, start, accepts, step, after}
-use Rattle.order_free.proofs.Tests.{true-or-false, never, and-left, and-right, same-or-not}
 use Rattle.order_free.proofs.Graph.{clash-cell, clash-wt, clash-tw, clear-of-ready, finished-begun, spoils-same}
 use Rattle.order_free.proofs.Loops.{final-omitted, loops-mark, loops-frame}
 use Rattle.order_free.proofs.Column.{Held, Ended, Performed, performed}
@@ -103,7 +103,7 @@ module _ (S : System) (W : ℕ) where
     unfolding step effect
     took s w p e = rw (e, step)
 
-    abbrev pub out : State S → ℕ → ℕ → Outcome S
+    abbrev pub out : State S → ℕ → ℕ → TaskEnd S
     out s p c = perform S p c (s .marks) (s .cells)
 
     pub went-on : (s : State S) (w p c : ℕ) → accepts S W (column w) s ≡ true → s .workers w ≡ busy p c

@@ -6,11 +6,11 @@ use mathlib.Core.Logic.{_⊎_, inl, inr}
 use native.Mathlib.Omega.{arith}
 use lib.Dec.{eqb}
 use borrow.Author.Tests.{eq-eqb, ne-eqb}
+use Rattle.bools.proofs.Tests.{true-or-false, never, and-right}
 use Rattle.order_free.specs.System.{System, Laws, Agree}
 use Rattle.order_free.specs.Graph.{Mark, taken, done, failed, spoiled, finished, spoils}
-use Rattle.order_free.specs.Loops.{Outcome, run, task, loops}
+use Rattle.order_free.specs.Loops.{TaskEnd, run, task, loops}
 use Rattle.order_free.specs.Machine.{perform}
-use Rattle.order_free.proofs.Tests.{true-or-false, never, and-right}
 use Rattle.order_free.proofs.Loops.{final}
 
 -- perform, task and run, case by case
@@ -71,7 +71,7 @@ module _ (S : System) (σ₀ : ℕ → S .Val) where
     pub cells : (r : ℕ) → S .writes p r ≡ true → x r ≡ loops S (suc p) σ₀ .cells r
 
   -- what column c of p, begun with the cells x, comes to
-  pub record Performed (x : ℕ → S .Val) (p c : ℕ) (o : Outcome S) : Type 0 where
+  pub record Performed (x : ℕ → S .Val) (p c : ℕ) (o : TaskEnd S) : Type 0 where
     pub keeps : (r : ℕ) → S .writes p r ≡ false → o .cells r ≡ x r
     pub ends : ((o .mark ≡ taken) × Held (o .cells) p (suc c)) ⊎ Ended (o .cells) p (o .mark)
 
@@ -90,15 +90,15 @@ module _ (S : System) (σ₀ : ℕ → S .Val) where
     lc = loops S p σ₀ .cells
 
     -- an outcome that agrees with the loops' own
-    ended : (c : ℕ) (x : ℕ → S .Val) (o v : Outcome S) → task S p lm lc ≡ v → finished (v .mark) ≡ true → o .mark ≡ v .mark
+    ended : (c : ℕ) (x : ℕ → S .Val) (o v : TaskEnd S) → task S p lm lc ≡ v → finished (v .mark) ≡ true → o .mark ≡ v .mark
         → ((r : ℕ) → S .writes p r ≡ false → o .cells r ≡ x r) → ((r : ℕ) → S .writes p r ≡ true → o .cells r ≡ v .cells r) → Performed x p c o
     unfolding loops
     ended c x o v e f k a b = record {
       keeps = a;
       ends = inr (record {
         over = ap finished k ∙ f;
-        mark = k ∙ sym (ap (λ (u : Outcome S). u .mark) e);
-        cells = λ r w. b r w ∙ sym (ap (λ (u : Outcome S). u .cells r) e);
+        mark = k ∙ sym (ap (λ (u : TaskEnd S). u .mark) e);
+        cells = λ r w. b r w ∙ sym (ap (λ (u : TaskEnd S). u .cells r) e);
       });
     }
 

@@ -4,12 +4,13 @@ use mathlib.Core.Bool.{true, false}
 use mathlib.Core.Path.{_≡_, sym, ap, _∙_, subst}
 use mathlib.Core.Logic.{_⊎_, inl, inr, _≢_}
 use native.Mathlib.Omega.{arith}
+use Rattle.bools.proofs.Tests.{true-or-false, never, same-or-not, lt-or-le}
 use Rattle.order_free.specs.Below.{set}
 use Rattle.order_free.specs.System.{System, Laws}
 use Rattle.order_free.specs.Graph.{Mark, taken, is-waiting, finished, clash}
 use Rattle.order_free.specs.Loops.{loops}
 use Rattle.order_free.specs.Machine.{Worker, idle, busy, State}
-use Rattle.order_free.proofs.Tests.{true-or-false, never, set-here, set-there, same-or-not, lt-or-le}
+use Rattle.order_free.proofs.Tests.{set-here, set-there}
 use Rattle.order_free.proofs.Graph.{clash-wt, clash-tw, finished-begun}
 use Rattle.order_free.proofs.Loops.{final, loops-frame}
 use Rattle.order_free.proofs.Column.{Held, Ended}

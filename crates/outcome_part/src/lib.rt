@@ -13,12 +13,12 @@ pub fn outcome_part(
     z: Sizes,
     matrix: &[f64],
     lists: &[u8],
-    flat: &[[u8; 5]],
+    records: &[[u8; 5]],
     n: usize,
     workers: [Worker; 32],
 ) -> OutcomeAnswer
-    requires { ⌜ n ≤ length (now flat) ⌝ }
-    ensures { λ r. ⌜ r ≡ outcomeCall z (lent (now (matrix .entry)) (now (lists .entry)) (upTo n (now (flat .entry))) workers (z .workers)) ⌝ }
+    requires { ⌜ n ≤ length (now records) ⌝ }
+    ensures { λ r. ⌜ r ≡ outcomeCall z (lent (now (matrix .entry)) (now (lists .entry)) (upTo n (now (records .entry))) workers (z .workers)) ⌝ }
 {
-    outcomes::outcome(z, matrix, lists, &flat[..n], workers)
+    outcomes::outcome(z, matrix, lists, &records[..n], workers)
 }

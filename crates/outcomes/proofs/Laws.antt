@@ -10,7 +10,7 @@ use Rattle.worker.specs.declared.Worker.{Worker}
 use Rattle.model.specs.declared.Outcome.{Outcome}
 use Rattle.model.specs.declared.OutcomeAnswer.the-variants.{Ended, Unfinished, OutcomeRefused}
 use Rattle.model.specs.Lists.{below, keep, firstOr}
-use Rattle.model.specs.Plan.{plan, planOf}
+use Rattle.model.specs.Plan.{planOf}
 use Rattle.model.specs.Links.{mark, finished}
 use Rattle.model.specs.Loops.{outcome}
 use Rattle.model.specs.Calls.{Lent, marksOf, stateOf}
@@ -20,6 +20,7 @@ use Rattle.finite_numbers.specs.declared.Lowest.{Lowest}
 use Rattle.finite_numbers.specs.declared.Lowest.the-variants.{None, At}
 use Rattle.answers.proofs.Refusals.{refuses, passes, Fit, lengths-fit}
 use Rattle.unfinished.proofs.First.{from-at, from-none}
+use Rattle.unfinished.proofs.Finished.{unfinished-is}
 
 module _ (z : Sizes) (m : List Float) (l : List ℕ) (r : List (List ℕ)) (ws : List Worker) where
   abbrev old : Lent
@@ -47,16 +48,12 @@ module _ (z : Sizes) (m : List Float) (l : List ℕ) (r : List (List ℕ)) (ws :
       abbrev open-tasks : ℕ → Bool
       open-tasks k = not (finished (mark (marksFrom r) k))
 
-      unfinished-is : keep open-tasks (below (length r)) ≡ unfinished (planOf z) old
-      unfolding unfinished marksOf lent marksFrom plan
-      unfinished-is = ap (λ k. keep open-tasks (below k)) (fits .records-fit)
-
       module _ (g : Lowest) (h : g ≡ firstOr (keep open-tasks (below (length r))) At None) where
         pub answer-3 : (k : ℕ) → g ≡ At k → Unfinished k ≡ outcomeCall z old
         unfolding outcomeFound
-        answer-3 k i = sym (from-at Unfinished _ (unfinished (planOf z) old) g k (h ∙ ap (λ xs. firstOr xs At None) unfinished-is) i) ∙ found-then
+        answer-3 k i = sym (from-at Unfinished _ (unfinished (planOf z) old) g k (h ∙ ap (λ xs. firstOr xs At None) (unfinished-is z m l r ws (fits .records-fit))) i) ∙ found-then
 
         pub answer-4 : (o : Outcome) → g ≡ None → o ≡ outcome (planOf z) (record { buffers = record { matrix = m; lists = l }; marks = marksFrom r }) → Ended o ≡ outcomeCall z old
         unfolding outcomeFound stateOf marksOf lent marksFrom
         answer-4 o i j =
-            ap Ended j ∙ sym (from-none Unfinished _ (unfinished (planOf z) old) g (h ∙ ap (λ xs. firstOr xs At None) unfinished-is) i) ∙ found-then
+            ap Ended j ∙ sym (from-none Unfinished _ (unfinished (planOf z) old) g (h ∙ ap (λ xs. firstOr xs At None) (unfinished-is z m l r ws (fits .records-fit))) i) ∙ found-then

@@ -2,9 +2,9 @@
 ghost use mathlib.Core.Path.{_≡_};
 ghost use Rattle.model.specs.Task.{T-4};
 ghost use Rattle.model.specs.Plan.{planOf};
-ghost use Rattle.model.specs.Buffer.{markOf, columnEnds};
+ghost use Rattle.model.specs.Buffer.{markAfter, columnEnds};
 ghost use Rattle.column_laws.specs.Workable.{Workable};
-use column_ends::ended;
+use column_ends::column_end;
 use fills::fill::fill_numbers;
 use model::ColumnEnd;
 use model::Sizes;
@@ -25,7 +25,7 @@ pub fn pair_column(
     c: usize,
 ) -> ColumnEnd
     requires { ⌜ Workable z (T-4 k i j) c (now matrix) (now lists) ⌝ }
-    ensures { λ r. ⌜ record { left = record { matrix = now (matrix .exit); lists = now (lists .entry) }; mark = markOf r }
+    ensures { λ r. ⌜ record { left = record { matrix = now (matrix .exit); lists = now (lists .entry) }; mark = markAfter r }
         ≡ columnEnds (planOf z) (T-4 k i j) c (record { matrix = now (matrix .entry); lists = now (lists .entry) }) ⌝ }
 {
     let n = z.tiles;
@@ -37,7 +37,7 @@ pub fn pair_column(
     let p = list_start(n, t, i, k);
     let e = wide(lists[p + c]);
     if pair_rows(matrix, t, t, u, d, c, e, l) {
-        return ended(t, c);
+        return column_end(t, c);
     }
     fill_numbers(matrix, d, s);
     fill_numbers(matrix, u, s);

@@ -47,6 +47,7 @@ fn full(number: u64, place: u64, end: u64, count: u64) -> Said {
     }
 }
 
+// What is printed of an opening, a take, a column or a solve.
 pub fn answer_said(answer: Answer) -> Said {
     match answer {
         Answer::Accepted => brief(0, 0),
@@ -54,6 +55,7 @@ pub fn answer_said(answer: Answer) -> Said {
     }
 }
 
+// What is printed of a run: how it ended and its count.
 pub fn run_said(answer: RunAnswer) -> Said {
     match answer {
         RunAnswer::Finished(n) => full(0, 0, 1, n),

@@ -44,6 +44,7 @@ fn sizes(line: &[u8]) -> Sizes {
     }
 }
 
+// The call that a line asks for.
 pub fn call_of(line: &[u8]) -> Call {
     Call {
         kind: two(line, 0),
@@ -132,6 +133,7 @@ fn worker(line: &[u8], at: usize) -> Worker
     }
 }
 
+// The 32 worker slots from a place of the line on.
 pub fn read_workers(line: &[u8], at: usize) -> [Worker; 32]
     requires { ⌜ at ≤ 16777216 ⌝ }
 {

@@ -30,6 +30,7 @@ fn count(line: &[u8], at: usize, length: usize) -> usize
     at_most(number(line, at, 8), 65600)
 }
 
+// Reads a count and that many numbers into m, and tells how many of m are lent.
 pub fn lend_numbers(line: &[u8], at: usize, m: &mut [f64]) -> usize
     requires { ⌜ at ≤ 8388608 ⌝ }
     ensures { λ r. ⌜ (r ≤ 65600) × (r ≤ length (now (m .exit))) ⌝ }

@@ -8,7 +8,8 @@ use lib.ListN.{length}
 use lib.Ieee.{Float}
 use Rattle.model.specs.declared.Sizes.{Sizes}
 use Rattle.column_laws.specs.Steps.{tileStart, listStart}
-use Rattle.column_laws.proofs.Places.{slot-room, place-room, square-most, matrix-most, lists-most}
+use Rattle.column_laws.proofs.Places.{matrix-most, lists-most}
+use Rattle.laws.proofs.Blocks.{row-end, place-room, square-most}
 use Rattle.progress.specs.Right.{Solvable}
 
 -- one tile, its list, and the numbers of a right side
@@ -30,7 +31,7 @@ ready {z} {m} {l} s i k hi hk = record {
 
 -- part i of the right side, and how long that is
 pub right-room : (z : Sizes) (y : List Float) → length y ≡ z .tiles * z .side → (i : ℕ) → i < z .tiles → i * z .side + z .side ≤ length y
-right-room z y e i h = omega (arith, slot-room (z .tiles) (z .side) i h)
+right-room z y e i h = omega (arith, row-end i (z .tiles) (z .side) h)
 
 pub right-few : (z : Sizes) (y : List Float) → length y ≡ z .tiles * z .side → z .tiles ≤ 16 → z .side ≤ 16 → length y ≤ 256
 right-few z y e hN ht = let b : z .tiles * z .side ≤ 256 = mul-le-mul hN ht in omega arith

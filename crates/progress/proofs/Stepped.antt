@@ -12,8 +12,7 @@ use Rattle.model.specs.Num.{finite}
 use Rattle.model.specs.Tile.{allFinite}
 use Rattle.model.specs.Solve.{going, stopped, stepped}
 use Rattle.laws.proofs.Tests.{lt-or-le}
-use Rattle.laws.proofs.Parts.{Fits, length-put, get-in, get-before, get-after}
-use Rattle.column_laws.proofs.Nested.{length-part, get-part}
+use Rattle.laws.proofs.Parts.{Fits, length-put, get-in, get-before, get-after, length-part, get-part}
 use Rattle.laws.proofs.Finite.{finite-get, finite-all}
 
 -- a finite list with a finite part put into it
@@ -31,7 +30,7 @@ finite-put n a m x f hx hm =
 pub finite-whole : (a n : ℕ) (q : List Float) → a + n ≤ length q → allFinite q ≡ true → allFinite (part a n q) ≡ true
 finite-whole a n q h f =
     finite-all (part a n q)
-    (λ i hi. let g : i < n = (let w = rw (length-part a n q h) at hi in w) in rw (get-part a n q h nan i g) (finite-get q (a + i) f (omega arith)))
+    (λ i hi. let g : i < n = (let w = rw (length-part a n q h) at hi in w) in rw (get-part a n q nan i g) (finite-get q (a + i) f (omega arith)))
 
 -- by whether every number computed is finite
 module _ (x : ℕ) (ns y : List Float) where

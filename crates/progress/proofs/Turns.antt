@@ -1,7 +1,7 @@
 -- Things done in turn to a right side that goes on or has stopped, as loops do them; and the tasks in number order as nested loops.
 -- Assumes nothing.
 use mathlib.Core.Path.{_≡_, refl, sym, _∙_, ap}
-use mathlib.Core.List.{List, [], _∷_, _++_, map}
+use mathlib.Core.List.{List, [], _∷_, map}
 use Prim.Native.Nat.{ℕ, suc, _+_, _-_, _<_, _≤_}
 use native.Mathlib.Omega.{arith}
 use lib.Ieee.{Float}
@@ -10,6 +10,7 @@ use Rattle.model.specs.Task.{T-2, T-4, after, lowerRow, stage, tasks}
 use Rattle.model.specs.Plan.{Plan}
 use Rattle.model.specs.Buffer.{Buffers}
 use Rattle.model.specs.Solve.{Passed, going, stopped, applied, paired, pass}
+use Rattle.laws.proofs.Runs.{inTurn-append}
 use Rattle.progress.specs.declared.Progress.{Progress}
 use Rattle.progress.specs.declared.Progress.the-variants.{Going, Stopped}
 use Rattle.progress.specs.Right.{passedOf, applyAll, pairAll, stagePassed}
@@ -17,11 +18,6 @@ use Rattle.progress.specs.Right.{passedOf, applyAll, pairAll, stagePasse
 -- ---- doing things in turn
 
 module _ {A S : Type 0} (f : A → S → S) where
-  pub turns-append : (xs ys : List A) (s : S) → inTurn f (xs ++ ys) s ≡ inTurn f ys (inTurn f xs s)
-  unfolding inTurn
-  turns-append [] ys s = refl
-  turns-append (x ∷ xs) ys s = turns-append xs ys (f x s)
-
   -- what leaves everything as it is
   turns-none : {B : Type 0} (g : B → A) (keeps : (b : B) (s : S) → f (g b) s ≡ s) (xs : List B) (s : S) → inTurn f (map g xs) s ≡ s
   unfolding inTurn
@@ -33,7 +29,7 @@ module _ {A S : Type 0} (f : A → S → S) where
       → inTurn f (joined (map g xs)) s ≡ inTurn h xs s
   unfolding inTurn joined
   turns-joined g h same [] s = refl
-  turns-joined g h same (x ∷ xs) s = turns-append (g x) (joined (map g xs)) s ∙ rw (same x s) (turns-joined g h same xs (h x s))
+  turns-joined g h same (x ∷ xs) s = inTurn-append f (g x) (joined (map g xs)) s ∙ rw (same x s) (turns-joined g h same xs (h x s))
 
 -- what has stopped stays
 module _ {A : Type 0} (f : A → Passed → Passed) (keeps : (a : A) (e : ℕ) → f a (stopped e) ≡ stopped e) where
@@ -106,7 +102,7 @@ module _ (z : Plan) (s : Buffers) where
   stage-is : (k : ℕ) (p : Passed) → inTurn (pass z s) (stage (z .N) k) p ≡ stagePassed z s k p
   unfolding stage inTurn pass stagePassed applyAll
   stage-is k p =
-      turns-append (pass z s) (map (T-2 k) (after (z .N) k)) (joined (map (lowerRow (z .N) k) (after (z .N) k))) (inTurn (applied z s k) (below (z .t)) p)
+      inTurn-append (pass z s) (map (T-2 k) (after (z .N) k)) (joined (map (lowerRow (z .N) k) (after (z .N) k))) (inTurn (applied z s k) (below (z .t)) p)
       ∙ rw (turns-none (pass z s) (T-2 k) (λ j q. refl) (after (z .N) k) (inTurn (applied z s k) (below (z .t)) p))
       (turns-joined (pass z s) (lowerRow (z .N) k) (pairAll z s k) (lower-is (z .N) k) (after (z .N) k) (inTurn (applied z s k) (below (z .t)) p))
 

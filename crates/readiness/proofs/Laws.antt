@@ -13,7 +13,7 @@ use Rattle.model.specs.Links.{mark, finished, ready}
 use Rattle.links.specs.Closed.{Key, key, number, markAt, backMark, leftMark, aboveMark, T-2s-finished, neighboursFinished, linksFinished, readyAt}
 use Rattle.links.proofs.Summary.{ready-closed}
 use Rattle.records.specs.Records.{recordsFrom, marksFrom, blank}
-use Rattle.marks.specs.Marks.{Triple, Marked, Recorded}
+use Rattle.marks.specs.Marks.{KeyFits, Marked, Recorded}
 use Rattle.neighbours.proofs.Laws.{mark-p, inside, number-p}
 
 -- ---- the loop over the T-2 of a stage
@@ -42,7 +42,7 @@ module _ (f : ℕ → Bool) where
 
 pub marked-at : (n k j : ℕ) (records : List (List ℕ)) → Marked n records (key k k k) → k < j → j < n → Marked n records (key k k j)
 marked-at n k j records m h l =
-    let t : Triple n (key k k k) = m .triple in
+    let t : KeyFits n (key k k k) = m .triple in
     record { triple = record { small = t .small; inside = omega (arith, t .inside) }; long = m .long }
 
 -- ---- the tests of readiness

@@ -6,6 +6,7 @@ use native.Mathlib.Omega.{arith}
 use lib.ListN.{length, getD, drop, length-append, List·getD-append}
 use lib.Seq.{getD-append-add}
 use Rattle.laws.proofs.Blocks.{getD-table}
+use Rattle.laws.proofs.Runs.{length-below, length-map-below}
 use Rattle.model.specs.declared.Answer.the-variants.{Accepted}
 use Rattle.model.specs.Lists.{below, table, joined}
 use Rattle.model.specs.Read.{Frame, lineLength, linesFrom, tileFrames, listFrames, resultFrames}
@@ -18,7 +19,6 @@ use Rattle.cursors.proofs.Steps.{stepped}
 use Rattle.frames_read.proofs.Rows.{follow-placed}
 use Rattle.numbers_read.specs.Decoded.{lineAt, tileSize}
 use Rattle.entries_read.specs.Entries.{listSize, ListLine, above, ListLines}
-use Rattle.numbers_read.proofs.Filled.{length-table, length-run}
 use Rattle.system_checked.specs.Files.{start}
 use Rattle.system_checked.proofs.Headers.{start-placed}
 use Rattle.system_checked.proofs.Uniform.{AllKind, all-map, all-joined, Checked, step-line, step-next, Uniform, uniform}
@@ -36,17 +36,13 @@ lists-kind : (N : ℕ) → AllKind 3 (listFrames N)
 unfolding listFrames
 lists-kind N = all-joined 3 listRow (below N) (λ i. all-map 3 (λ j. record { kind = 3; i = i; j = j }) (below (suc i)) (λ j. refl))
 
-length-below : (n : ℕ) → length (below n) ≡ n
-unfolding below
-length-below n = length-run 0 n
-
 as-many : (is : List ℕ) → length (joined (map listRow is)) ≡ length (joined (map (λ r. below (suc r)) is))
 unfolding joined
 as-many [] = refl
 as-many (i ∷ is) =
     let f : ℕ → Frame = λ j. record { kind = 3; i = i; j = j } in
     length-append (listRow i) (joined (map listRow is))
-    ∙ omega (arith, as-many is, length-table f (suc i), length-below (suc i), length-append (below (suc i)) (joined (map (λ r. below (suc r)) is)))
+    ∙ omega (arith, as-many is, length-map-below f (suc i), length-below (suc i), length-append (below (suc i)) (joined (map (λ r. below (suc r)) is)))
 
 lists-count : (N : ℕ) → length (listFrames N) ≡ above N
 unfolding listFrames above
@@ -138,15 +134,15 @@ module _ (t N : ℕ) (text : List ℕ) (long : 7 ≤ length text) (p : Parts t N
   unfolding table listAt
   list-at q h =
       ap (λ (ls : List (List ℕ)). getD ls (N * N + q) []) lines-are
-      ∙ ap (λ (n : ℕ). getD (map tileAt (below (N * N)) ++ (map listAt (below (above N)) ++ (lineAt (p .last .at) 9 text ∷ []))) (n + q) []) (sym (length-table tileAt (N * N)))
+      ∙ ap (λ (n : ℕ). getD (map tileAt (below (N * N)) ++ (map listAt (below (above N)) ++ (lineAt (p .last .at) 9 text ∷ []))) (n + q) []) (sym (length-map-below tileAt (N * N)))
       ∙ getD-append-add (map tileAt (below (N * N))) (map listAt (below (above N)) ++ (lineAt (p .last .at) 9 text ∷ [])) q []
-      ∙ List·getD-append (map listAt (below (above N))) (lineAt (p .last .at) 9 text ∷ []) [] q (rw (length-table listAt (above N)) h)
+      ∙ List·getD-append (map listAt (below (above N))) (lineAt (p .last .at) 9 text ∷ []) [] q (rw (length-map-below listAt (above N)) h)
       ∙ getD-table (above N) listAt q [] h
 
   pub outcome-line : getD (linesFrom [] (drop 7 text)) (N * N + (above N + 0)) [] ≡ lineAt (p .last .at) 9 text
   outcome-line =
       ap (λ (ls : List (List ℕ)). getD ls (N * N + (above N + 0)) []) lines-are
-      ∙ ap (λ (n : ℕ). getD (map tileAt (below (N * N)) ++ (map listAt (below (above N)) ++ (lineAt (p .last .at) 9 text ∷ []))) (n + (above N + 0)) []) (sym (length-table tileAt (N * N)))
+      ∙ ap (λ (n : ℕ). getD (map tileAt (below (N * N)) ++ (map listAt (below (above N)) ++ (lineAt (p .last .at) 9 text ∷ []))) (n + (above N + 0)) []) (sym (length-map-below tileAt (N * N)))
       ∙ getD-append-add (map tileAt (below (N * N))) (map listAt (below (above N)) ++ (lineAt (p .last .at) 9 text ∷ [])) (above N + 0) []
-      ∙ ap (λ (n : ℕ). getD (map listAt (below (above N)) ++ (lineAt (p .last .at) 9 text ∷ [])) (n + 0) []) (sym (length-table listAt (above N)))
+      ∙ ap (λ (n : ℕ). getD (map listAt (below (above N)) ++ (lineAt (p .last .at) 9 text ∷ [])) (n + 0) []) (sym (length-map-below listAt (above N)))
       ∙ getD-append-add (map listAt (below (above N))) (lineAt (p .last .at) 9 text ∷ []) 0 []

@@ -1,8 +1,8 @@
 -- Reading a result by its header, its lengths and its frames is reading it by the definition. Assumes nothing.
-use Prim.Native.Nat.{ℕ, zero, suc, _+_, _*_, _≤_, _<_}
+use Prim.Native.Nat.{ℕ, _+_, _*_, _≤_, _<_}
 use mathlib.Core.Path.{_≡_, refl, sym, ap, _∙_}
 use mathlib.Core.Bool.{Bool, true, false, cond, _||_}
-use mathlib.Core.List.{List, [], map}
+use mathlib.Core.List.{List, []}
 use native.Mathlib.Nat.{mul-assoc, add-assoc}
 use native.Mathlib.Omega.{arith}
 use lib.Dec.{leb}
@@ -11,10 +11,12 @@ use lib.Ieee.{Float}
 use borrow.Author.Tests.{eq-eqb, ne-eqb, leb-true}
 use Rattle.model.specs.declared.Answer.the-variants.{Accepted, Refused}
 use Rattle.model.specs.declared.ReadAnswer.the-variants.{ResultRead, ReadRefused}
-use Rattle.model.specs.Lists.{run, below, joined}
+use Rattle.model.specs.Lists.{joined}
 use Rattle.model.specs.Refusal.{refuse}
 use Rattle.model.specs.Text.{badMatrix, badLists}
 use Rattle.model.specs.Read.{linesFrom, resultFrames, fileAnswer, entriesIn, outcomeIn, listLine, listsOf, outcomeLine, resultReading, noLimit, readResult}
+use Rattle.laws.proofs.Refusals.{right-matrix, wrong-matrix}
+use Rattle.laws.proofs.Runs.{map-below}
 use Rattle.frames_read.specs.Follow.{follow, textEnd}
 use Rattle.header_read.specs.Heads.{headerAnswer}
 use Rattle.numbers_read.specs.Decoded.{lineAt}
@@ -23,22 +25,10 @@ use Rattle.entries_read.proofs.Held.{above-grows}
 use Rattle.system_checked.specs.Files.{Headed, start}
 use Rattle.system_checked.proofs.Headers.{facts, start-placed, file-refused, file-followed}
 use Rattle.system_checked.proofs.Held.{tile-lines, tiles-read}
-use Rattle.system_checked.proofs.Systems.{length-right, length-wrong}
 use Rattle.result_loaded.specs.Results.{listsStart, outcomeText, ResultLines, loadedResult}
 use Rattle.result_file.proofs.Parts.{Parts, parts, list-lines, outcome-text, outcome-digits, list-at, outcome-line}
 
 -- ---- the lists by lines
-
--- two tables that agree below n
-module _ {A : Type 0} (f g : ℕ → A) where
-  same-run : (a n : ℕ) → ((i : ℕ) → a ≤ i → i < a + n → f i ≡ g i) → map f (run a n) ≡ map g (run a n)
-  unfolding run
-  same-run a zero h = refl
-  same-run a (suc n) h = cc (h a (omega arith) (omega arith), same-run (suc a) n (λ i l b. h i (omega arith) (omega arith)))
-
-  same-table : (n : ℕ) → ((i : ℕ) → i < n → f i ≡ g i) → map f (below n) ≡ map g (below n)
-  unfolding below
-  same-table n h = same-run 0 n (λ i l b. h i (omega arith))
 
 module _ (t N : ℕ) (text : List ℕ) (long : 7 ≤ length text) (p : Parts t N text) where
   held : (i j : ℕ) → i < N → (b : Bool) → leb j i ≡ b
@@ -55,7 +45,7 @@ module _ (t N : ℕ) (text : List ℕ) (long : 7 ≤ length text) (p : Parts t N
 
   lists-read : listsOf N t (linesFrom [] (drop 7 text)) ≡ listsFrom N t (listsStart N t) text
   unfolding listsOf listsFrom rowFrom listFrom
-  lists-read = ap joined (same-table _ _ N (λ i h. ap joined (same-table _ _ N (λ j k. held i j h (leb j i) refl))))
+  lists-read = ap joined (map-below _ _ N (λ i h. ap joined (map-below _ _ N (λ j k. held i j h (leb j i) refl))))
 
   outcome-read : getD (linesFrom [] (drop 7 text)) (outcomeLine N) [] ≡ outcomeText text
   unfolding outcomeLine listLine above
@@ -90,17 +80,17 @@ module _ (text : List ℕ) (m : List Float) (l : List ℕ) where
 
     pub matrix-refused : (length m ≡ N * t * (N * t) → ⊥) → record { answer = ReadRefused 2 0; matrix = m; lists = l } ≡ readResult text m l
     unfolding refuse
-    matrix-refused n = refused 2 0 (by-lengths true (ap (λ (b : Bool). b || badLists N t l) (length-wrong N t m n)))
+    matrix-refused n = refused 2 0 (by-lengths true (ap (λ (b : Bool). b || badLists N t l) (wrong-matrix N t m n)))
 
     module _ (a : length m ≡ N * t * (N * t)) where
       pub lists-refused : (length l ≡ N * (N * t) → ⊥) → record { answer = ReadRefused 2 0; matrix = m; lists = l } ≡ readResult text m l
       unfolding refuse badLists
-      lists-refused n = refused 2 0 (by-lengths true (rw (length-right N t m a, ne-eqb (length l) (N * N * t) (λ e. n (e ∙ mul-assoc N N t)))))
+      lists-refused n = refused 2 0 (by-lengths true (rw (right-matrix N t m a, ne-eqb (length l) (N * N * t) (λ e. n (e ∙ mul-assoc N N t)))))
 
       module _ (b : length l ≡ N * (N * t)) where
         both : lengths N t ≡ false
         unfolding badLists
-        both = rw (length-right N t m a, eq-eqb (length l) (N * N * t) (b ∙ sym (mul-assoc N N t)))
+        both = rw (right-matrix N t m a, eq-eqb (length l) (N * N * t) (b ∙ sym (mul-assoc N N t)))
 
         pub lines-refused : (n x : ℕ) → textEnd text (follow t text (resultFrames N) start) ≡ Refused n x → record { answer = ReadRefused n x; matrix = m; lists = l } ≡ readResult text m l
         unfolding refuse

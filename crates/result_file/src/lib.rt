@@ -8,7 +8,7 @@ use model::Answer;
 use model::ReadAnswer;
 use result_checked::check_result_lines;
 use result_loaded::load_result;
-use system_checked::ended;
+use system_checked::text_end;
 
 // A result behind its accepted header, into the lent buffers.
 fn read_result_lines(
@@ -21,14 +21,14 @@ fn read_result_lines(
     requires { ⌜ Headed noLimit (now text) tiles side ⌝ }
     ensures { λ r. ⌜ record { answer = r; matrix = now (matrix .exit); lists = now (lists .exit) } ≡ readResult (now (text .entry)) (now (matrix .entry)) (now (lists .entry)) ⌝ }
 {
-    let n = tiles * side;
-    if matrix.len() != n * n {
+    let order = tiles * side;
+    if matrix.len() != order * order {
         return ReadAnswer::ReadRefused(2, 0);
     }
-    if lists.len() != tiles * n {
+    if lists.len() != tiles * order {
         return ReadAnswer::ReadRefused(2, 0);
     }
-    match ended(text, check_result_lines(text, tiles, side)) {
+    match text_end(text, check_result_lines(text, tiles, side)) {
         Answer::Refused(n, x) => ReadAnswer::ReadRefused(n, x),
         Answer::Accepted => load_result(text, tiles, side, matrix, lists),
     }

@@ -1,5 +1,5 @@
 -- The text of a result as it is written, and what writing it answers, by what the code has tested. Assumes nothing.
-use mathlib.Core.Path.{_≡_, refl, sym, ap, _∙_, fun-ext}
+use mathlib.Core.Path.{_≡_, sym, ap, _∙_, fun-ext}
 use mathlib.Core.Bool.{true, false}
 use mathlib.Core.List.{List, [], _++_, map}
 use Prim.Native.Nat.{ℕ, suc, _+_, _-_, _*_, _≤_, _<_}
@@ -17,13 +17,14 @@ use Rattle.model.specs.Refusal.{refuse}
 use Rattle.model.specs.Plan.{plan}
 use Rattle.model.specs.Buffer.{rows, rowsOf}
 use Rattle.model.specs.Text.{line, listFrame, outcomeFrame, systemText, resultText, Writing, writing, badShape, badLists, writeResult}
+use Rattle.laws.proofs.Refusals.{wrong-matrix, right-matrix}
 use Rattle.digits_written.proofs.Put.{Put, put-text, length-hex}
 use Rattle.digits_written.proofs.Pieces.{put-next}
 use Rattle.lines_written.proofs.Fronts.{too-short, long-enough}
 use Rattle.rows_written.specs.Rows.{listRow, listRows, triangle, systemLength, resultLength}
 use Rattle.rows_written.proofs.Turns.{length-list-rows}
 use Rattle.rows_written.proofs.Shapes.{enough}
-use Rattle.system_written.proofs.Answers.{system-is, length-system, wrong-matrix, right-matrix}
+use Rattle.system_written.proofs.Answers.{system-is, length-system}
 
 -- ---- the text, as the loops write it
 

@@ -15,9 +15,9 @@ use Rattle.model.specs.Plan.{plan, planOf}
 use Rattle.model.specs.Buffer.{Buffers, tile, rows, tileOf, rowsOf}
 use Rattle.model.specs.Solve.{going, stepped, rightPart, withRight, rightPair}
 use Rattle.model.specs.Solve as M
-use Rattle.laws.proofs.Parts.{Apart, Fits, length-put}
-use Rattle.column_laws.specs.Steps.{tileStart, listStart, RowsPaired, paired, pairedComputes, upperAt, lowerAt, withTwo}
-use Rattle.column_laws.proofs.Nested.{length-part, get-part}
+use Rattle.laws.specs.Apart.{Apart}
+use Rattle.laws.proofs.Parts.{Fits, length-put, length-part, get-part}
+use Rattle.column_laws.specs.Steps.{tileStart, listStart, RowsPaired, pairedBlock, pairedComputes, upperAt, lowerAt, withTwo}
 use Rattle.column_laws.proofs.Pairs.{length-upper, length-lower, length-paired, finite-upper, finite-lower}
 use Rattle.column_laws.proofs.Sound.{paired-all-finite}
 use Rattle.column_laws.proofs.Ends.{paired-same, paired-finite}
@@ -57,11 +57,11 @@ module _ (z : Sizes) (m : List Float) (l : List ℕ) (k i c : ℕ) (y : List Flo
 
   module _ (hc : c < t) (lists : listStart N t i k + t ≤ length l) (e : ℕ) (he : e ≡ getD l (listStart N t i k + c) 0) where
     entry : getD (part (listStart N t i k) t l) c 0 ≡ e
-    entry = get-part (listStart N t i k) t l lists 0 c hc ∙ sym he
+    entry = get-part (listStart N t i k) t l 0 c hc ∙ sym he
 
     paired-is : M.paired (planOf z) s k i c (going y)
-        ≡ stepped i (pairedComputes t 1 c by (upper e) (lower e)) (withTwo t (k * t) (i * t) (upper e) (paired t 1 c by (upper e) (lower e)) y)
-    unfolding M.paired plan rightPart withRight rightPair tileOf rowsOf tile rows pairColumn pairComputes pairExchanged paired pairedComputes upperAt lowerAt withTwo
+        ≡ stepped i (pairedComputes t 1 c by (upper e) (lower e)) (withTwo t (k * t) (i * t) (upper e) (pairedBlock t 1 c by (upper e) (lower e)) y)
+    unfolding M.paired plan rightPart withRight rightPair tileOf rowsOf tile rows pairColumn pairComputes pairExchanged pairedBlock pairedComputes upperAt lowerAt withTwo
     paired-is = rw (entry, one)
 
     module _ (ru : k * t + t ≤ length y) (rd : i * t + t ≤ length y) (apart : Apart t (k * t) (i * t)) (mult after : List Float) (answer : Bool)
@@ -70,10 +70,10 @@ module _ (z : Sizes) (m : List Float) (l : List ℕ) (k i c : ℕ) (y : List Flo
       answer-is : answer ≡ every finite (pairedComputes t 1 c by (upper e) (lower e))
       answer-is = p .sound ∙ paired-finite t 1 c (λ r. getD mult r nan) by read (upper e) (lower e)
 
-      after-is : answer ≡ true → after ≡ withTwo t (k * t) (i * t) (upper e) (paired t 1 c by (upper e) (lower e)) y
+      after-is : answer ≡ true → after ≡ withTwo t (k * t) (i * t) (upper e) (pairedBlock t 1 c by (upper e) (lower e)) y
       after-is h = p .whole h ∙ rw (one, paired-same t 1 c (λ r. getD mult r nan) by read (upper e) (lower e))
 
-      both-finite : e ≤ t → allFinite y ≡ true → answer ≡ true → allFinite (withTwo t (k * t) (i * t) (upper e) (paired t 1 c by (upper e) (lower e)) y) ≡ true
+      both-finite : e ≤ t → allFinite y ≡ true → answer ≡ true → allFinite (withTwo t (k * t) (i * t) (upper e) (pairedBlock t 1 c by (upper e) (lower e)) y) ≡ true
       unfolding upperAt lowerAt
       both-finite most fine h =
           let a = part (k * t) (t * 1) y in
@@ -82,7 +82,7 @@ module _ (z : Sizes) (m : List Float) (l : List ℕ) (k i c : ℕ) (y : List Flo
           let hb : length b ≡ t * 1 = length-part (i * t) (t * 1) y (rw one rd) in
           let fa = finite-whole (k * t) (t * 1) y (rw one ru) fine in
           let fb = finite-whole (i * t) (t * 1) y (rw one rd) fine in
-          finite-two t (k * t) (i * t) y (upper e) (paired t 1 c by (upper e) (lower e)) (length-upper t 1 0 c e (k * t) (i * t) y ∙ one) (length-paired t 1 c by (upper e) (lower e) ∙ one) ru rd
+          finite-two t (k * t) (i * t) y (upper e) (pairedBlock t 1 c by (upper e) (lower e)) (length-upper t 1 0 c e (k * t) (i * t) y ∙ one) (length-paired t 1 c by (upper e) (lower e) ∙ one) ru rd
           (finite-upper t 1 0 c e a b most ha hb fa fb)
           (paired-all-finite t 1 c by (upper e) (lower e) (length-lower t 1 0 c e (k * t) (i * t) y) (finite-lower t 1 0 c e a b hc ha hb fa fb) (sym answer-is ∙ h))
           fine

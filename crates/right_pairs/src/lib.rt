@@ -12,7 +12,7 @@ use places::place::wide;
 use progress::Progress;
 
 // Column c of T-4(k,i) on the right side y. False where a computed number isn't finite.
-fn pair_column(
+fn pair_right_column(
     z: Sizes,
     matrix: &[f64],
     lists: &[u8],
@@ -46,7 +46,7 @@ pub fn pair(z: Sizes, matrix: &[f64], lists: &[u8], y: &mut [f64], k: usize, i: 
     let t = z.side;
     let mut c = 0;
     while c < t {
-        if !pair_column(z, matrix, lists, y, k, i, c) {
+        if !pair_right_column(z, matrix, lists, y, k, i, c) {
             return Progress::Stopped(i);
         }
         c += 1;

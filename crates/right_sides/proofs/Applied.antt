@@ -15,9 +15,8 @@ use Rattle.model.specs.Plan.{plan, planOf}
 use Rattle.model.specs.Buffer.{Buffers, tile, rows, tileOf, rowsOf}
 use Rattle.model.specs.Solve.{going, stepped, rightPart, withRight}
 use Rattle.model.specs.Solve as M
-use Rattle.laws.proofs.Parts.{Fits, part-put, put-put}
-use Rattle.column_laws.specs.Steps.{tileStart, listStart, RowsApplied, applied, appliedComputes}
-use Rattle.column_laws.proofs.Nested.{length-part, get-part}
+use Rattle.laws.proofs.Parts.{Fits, part-put, put-put, length-part, get-part}
+use Rattle.column_laws.specs.Steps.{tileStart, listStart, RowsApplied, appliedBlock, appliedComputes}
 use Rattle.column_laws.proofs.Pairs.{length-applied}
 use Rattle.column_laws.proofs.Permutes.{length-start, finite-start}
 use Rattle.column_laws.proofs.Sound.{applied-all-finite}
@@ -42,8 +41,8 @@ module _ (z : Sizes) (m : List Float) (l : List ℕ) (k c : ℕ) (y : List Float
   abbrev found : List Float
   found = applyStart t 1 c (part (listStart N t k k) t l) (part (k * t) t y)
 
-  applied-is : M.applied (planOf z) s k c (going y) ≡ stepped k (appliedComputes t 1 c by found) (withPart (k * t) t (applied t 1 c by found) y)
-  unfolding M.applied plan rightPart withRight tileOf rowsOf tile rows applyColumn applyComputes applied appliedComputes
+  applied-is : M.applied (planOf z) s k c (going y) ≡ stepped k (appliedComputes t 1 c by found) (withPart (k * t) t (appliedBlock t 1 c by found) y)
+  unfolding M.applied plan rightPart withRight tileOf rowsOf tile rows applyColumn applyComputes appliedBlock appliedComputes
   applied-is = refl
 
   module _ (room : k * t + t ≤ length y) (mid mult after : List Float) (answer : Bool)
@@ -65,11 +64,11 @@ module _ (z : Sizes) (m : List Float) (l : List ℕ) (k c : ℕ) (y : List Float
     answer-is : answer ≡ every finite (appliedComputes t 1 c by found)
     answer-is = p .sound ∙ rw part-mid (applied-finite t 1 c (λ i. getD mult (i - suc c) nan) by read found)
 
-    after-is : answer ≡ true → after ≡ withPart (k * t) t (applied t 1 c by found) y
+    after-is : answer ≡ true → after ≡ withPart (k * t) t (appliedBlock t 1 c by found) y
     after-is h =
         p .whole h
         ∙ rw (part-mid, one, applied-same t 1 c (λ i. getD mult (i - suc c) nan) by read found, begins)
-        (put-put t nan (k * t) y found found-fits (applied t 1 c by found))
+        (put-put t nan (k * t) y found found-fits (appliedBlock t 1 c by found))
 
     pub column-applied : listStart N t k k + t ≤ length l → ((i : ℕ) → i < t → getD l (listStart N t k k + i) 0 < t) → allFinite y ≡ true
         → ColumnPassed k after answer (M.applied (planOf z) s k c (going y))
@@ -78,8 +77,8 @@ module _ (z : Sizes) (m : List Float) (l : List ℕ) (k c : ℕ) (y : List Float
       stops = λ h. sym (applied-is ∙ step-stops k (appliedComputes t 1 c by found) _ (sym answer-is ∙ h));
       finite-then = λ h.
           let whole = length-applied t 1 c by found in
-          let start = finite-start t 1 c (part (listStart N t k k) t l) (part (k * t) t y) (λ i hi. rw (get-part (listStart N t k k) t l lists 0 i hi) (entries i hi))
+          let start = finite-start t 1 c (part (listStart N t k k) t l) (part (k * t) t y) (λ i hi. rw (get-part (listStart N t k k) t l 0 i hi) (entries i hi))
           (length-part (k * t) t y room ∙ sym one) (rw one at (finite-whole (k * t) (t * 1) y (omega arith) fine)) in
           let block = applied-all-finite t 1 c by found (found-fits .whole ∙ sym one) start (sym answer-is ∙ h) in
-          rw (after-is h) (finite-put t (k * t) y (applied t 1 c by found) (record { whole = whole ∙ one; room = room }) block fine);
+          rw (after-is h) (finite-put t (k * t) y (appliedBlock t 1 c by found) (record { whole = whole ∙ one; room = room }) block fine);
     }

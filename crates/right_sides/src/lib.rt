@@ -15,7 +15,14 @@ use progress::Progress;
 use right_pairs::pair;
 
 // Column c of T-2(k) on the right side y. False where a computed number isn't finite.
-fn apply_column(z: Sizes, matrix: &[f64], lists: &[u8], y: &mut [f64], k: usize, c: usize) -> bool
+fn apply_right_column(
+    z: Sizes,
+    matrix: &[f64],
+    lists: &[u8],
+    y: &mut [f64],
+    k: usize,
+    c: usize,
+) -> bool
     requires { ⌜ Solvable z (now matrix) (now lists) ⌝ }
     requires { ⌜ RightSide z (now y) ⌝ }
     requires { ⌜ (k < z .tiles) × (c < z .side) ⌝ }
@@ -43,7 +50,7 @@ fn apply(z: Sizes, matrix: &[f64], lists: &[u8], y: &mut [f64], k: usize) -> Pro
     let t = z.side;
     let mut c = 0;
     while c < t {
-        if !apply_column(z, matrix, lists, y, k, c) {
+        if !apply_right_column(z, matrix, lists, y, k, c) {
             return Progress::Stopped(k);
         }
         c += 1;

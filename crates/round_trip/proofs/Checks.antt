@@ -1,6 +1,6 @@
 -- A line of each kind: what is written is accepted and read back, and what is accepted is what is written of it. Assumes nothing.
 use mathlib.Core.Path.{_≡_, refl, sym, ap, _∙_, subst}
-use mathlib.Core.Bool.{Bool, true, false, not, _&&_, _||_}
+use mathlib.Core.Bool.{true, false, not, _&&_, _||_, and-false}
 use mathlib.Core.List.{List, [], _∷_, map, map-map}
 use Prim.Native.Nat.{ℕ, suc, _+_, _-_, _*_, _^_, _≤_, _<_}
 use native.Mathlib.Nat.{mul-comm}
@@ -20,26 +20,21 @@ use Rattle.model.specs.Read.{Frame, isDigit, field, kindIn, lineLength, numbers
 use Rattle.laws.proofs.Finite.{not-nan}
 use Rattle.laws.proofs.Tests.{and-left, and-right, and-intro, or-false-left, or-false-right, false-or}
 use Rattle.laws.proofs.Blocks.{length-table, getD-table, table-unique}
+use Rattle.laws.proofs.Runs.{map-below, length-joined}
 use Rattle.digits_written.proofs.Put.{length-hex}
-use Rattle.digits_written.proofs.Pieces.{length-joined, length-bits}
+use Rattle.digits_written.proofs.Pieces.{length-bits}
 use Rattle.laws.proofs.Every.{every-at}
 use Rattle.round_trip.specs.Trips.{Held}
 use Rattle.round_trip.proofs.Numbers.{hex-digits}
 use Rattle.round_trip.proofs.Lines.{Line}
-use Rattle.round_trip.proofs.Grid.{piece, pieces, map-below}
-use Rattle.round_trip.proofs.Fields.{every-joined, field-hex, field-below, field-reads, line-of, framed, length-framed, framed-digits, framed-part, reads-a, reads-b, reads-c, framed-again}
+use Rattle.round_trip.proofs.Grid.{piece, pieces}
+use Rattle.round_trip.proofs.Fields.{digits-joined, field-hex, field-below, field-reads, line-of, framed, length-framed, framed-digits, framed-part, reads-a, reads-b, reads-c, framed-again}
 
 -- a line that is accepted where the frame f is due
 pub record Fine (t : ℕ) (f : Frame) (l : List ℕ) : Type 0 where
   pub whole : badLine t (f .kind) l ≡ false
   pub placed : wrongFrame f l ≡ false
   pub numbers : notFiniteIn t f l ≡ false
-
--- ---- tests
-
-pub and-false : (a : Bool) → (a && false) ≡ false
-and-false true = refl
-and-false false = refl
 
 -- ---- 12
 
@@ -127,7 +122,7 @@ bits-digits x = hex-digits 16 (toBits binary64 x)
 
 module _ (i j : ℕ) (xs : List Float) where
   tile-digits : every isDigit (framed 2 i j (joined (map bits xs))) ≡ true
-  tile-digits = framed-digits 2 i j (joined (map bits xs)) (every-joined bits xs bits-digits)
+  tile-digits = framed-digits 2 i j (joined (map bits xs)) (digits-joined bits xs bits-digits)
 
   pub tile-lined : Line (tileLine i j xs)
   tile-lined = record { digits = framed 2 i j (joined (map bits xs)); is = refl; right = tile-digits }
@@ -223,7 +218,7 @@ kind-3 t l e s = rw (e, s) (and-false (eqb (length l) (lineLength t 3)))
 
 module _ (i j : ℕ) (es : List ℕ) where
   row-digits : every isDigit (framed 3 i j (joined (map (hex 2) es))) ≡ true
-  row-digits = framed-digits 3 i j (joined (map (hex 2) es)) (every-joined (hex 2) es (hex-digits 2))
+  row-digits = framed-digits 3 i j (joined (map (hex 2) es)) (digits-joined (hex 2) es (hex-digits 2))
 
   pub row-lined : Line (rowLine i j es)
   row-lined = record { digits = framed 3 i j (joined (map (hex 2) es)); is = refl; right = row-digits }

@@ -1,7 +1,7 @@
 -- The header and the outcome's line: written, accepted and read back; and accepted lines are what is written of them. Assumes nothing.
 use mathlib.Core.Path.{_≡_, refl, sym, ap, _∙_, subst}
-use mathlib.Core.Bool.{Bool, true, false, not, cond, _&&_, _||_}
-use mathlib.Core.List.{List, [], _∷_, _++_, append-nil}
+use mathlib.Core.Bool.{Bool, true, false, not, cond, _&&_, _||_, and-false}
+use mathlib.Core.List.{List, [], _++_, append-nil}
 use Prim.Native.Nat.{ℕ, zero, suc, _<_}
 use native.Mathlib.Omega.{arith}
 use lib.Dec.{eqb, ltb}
@@ -16,11 +16,13 @@ use Rattle.model.specs.Refusal.{inside}
 use Rattle.model.specs.Text.{hex, line, outcomeFrame}
 use Rattle.model.specs.Read.{isDigit, field, kindIn, lineLength, outcomeIn, notDigits, badContent, badLine, wrongFrame, notFiniteIn, tilesIn, sideIn}
 use Rattle.laws.proofs.Tests.{and-left, or-false-left}
+use Rattle.laws.proofs.Every.{every-both}
+use Rattle.laws.proofs.Parts.{empty}
 use Rattle.digits_written.proofs.Put.{length-hex}
 use Rattle.round_trip.proofs.Numbers.{hex-digits}
 use Rattle.round_trip.proofs.Lines.{Line}
-use Rattle.round_trip.proofs.Fields.{every-both, field-hex, field-reads, framed, length-framed, framed-digits, reads-a, reads-b, reads-c, framed-again}
-use Rattle.round_trip.proofs.Checks.{Fine, frame, and-false, length-line, digits-line, sound, sound-of}
+use Rattle.round_trip.proofs.Fields.{field-hex, field-reads, framed, length-framed, framed-digits, reads-a, reads-b, reads-c, framed-again}
+use Rattle.round_trip.proofs.Checks.{Fine, frame, length-line, digits-line, sound, sound-of}
 
 -- ---- 04: the outcome
 
@@ -198,13 +200,9 @@ unfolding lineLength kindIn tilesIn sideIn
 header-back ds e w k =
     let l = line ds in
     let long : length ds ≡ 6 = omega (arith, length-line ds, sound-of 0 1 l w .long) in
-    let rest : drop 6 ds ≡ [] = none (drop 6 ds) (length-drop 6 ds ∙ omega arith) in
+    let rest : drop 6 ds ≡ [] = empty (drop 6 ds) (length-drop 6 ds ∙ omega arith) in
     ap line (sym (framed-again ds e (omega arith)) ∙ ap (λ (x : ℕ). framed x (field 2 2 l) (field 4 2 l) (drop 6 ds)) k ∙ ap (framed 1 (field 2 2 l) (field 4 2 l)) rest)
     ∙ sym (header-is (field 2 2 l) (field 4 2 l))
-  where
-    none : (xs : List ℕ) → length xs ≡ 0 → xs ≡ []
-    none [] e = refl
-    none (x ∷ xs) e = absurd (omega arith)
 
 pub header-again : (l : List ℕ) → badLine 0 1 l ≡ false → kindIn l ≡ 1 → l ≡ headerLine (tilesIn l) (sideIn l)
 header-again l w k =

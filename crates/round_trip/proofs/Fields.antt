@@ -1,6 +1,6 @@
 -- The fields of a line: what its digits stand for, and that they are the digits of what they stand for. Assumes nothing.
 use mathlib.Core.Path.{_≡_, refl, sym, ap, _∙_, subst}
-use mathlib.Core.Bool.{Bool, true, false, _&&_}
+use mathlib.Core.Bool.{true, false, _&&_}
 use mathlib.Core.List.{List, [], _∷_, _++_, map}
 use Prim.Native.Nat.{ℕ, suc, _+_, _-_, _^_, _≤_, _<_}
 use native.Mathlib.Omega.{arith}
@@ -11,25 +11,19 @@ use borrow.Author.Tests.{eqb-true, not-false}
 use Rattle.model.specs.Lists.{every, joined, part}
 use Rattle.model.specs.Text.{hex, line}
 use Rattle.model.specs.Read.{isDigit, field, notDigits}
-use Rattle.laws.proofs.Tests.{never, and-left, and-right, and-intro}
-use Rattle.laws.proofs.Every.{every-take, every-drop}
+use Rattle.laws.proofs.Tests.{never, and-left, and-right}
+use Rattle.laws.proofs.Every.{every-take, every-drop, every-both}
 use Rattle.digits_written.proofs.Put.{length-hex}
 use Rattle.round_trip.proofs.Numbers.{value, hex-digits, value-of-hex, hex-of-value, value-below}
 use Rattle.round_trip.proofs.Lines.{Line}
 use Rattle.round_trip.proofs.Grid.{part-left, part-right}
 
--- ---- every
+-- ---- digits joined
 
-module _ {A : Type 0} (f : A → Bool) where
-  pub every-both : (xs ys : List A) → every f xs ≡ true → every f ys ≡ true → every f (xs ++ ys) ≡ true
-  unfolding every
-  every-both [] ys p q = q
-  every-both (x ∷ xs) ys p q = and-intro (f x) (every f (xs ++ ys)) (and-left (f x) (every f xs) p) (every-both xs ys (and-right (f x) (every f xs) p) q)
-
-pub every-joined : {A : Type 0} (f : A → List ℕ) (xs : List A) → ((x : A) → every isDigit (f x) ≡ true) → every isDigit (joined (map f xs)) ≡ true
+pub digits-joined : {A : Type 0} (f : A → List ℕ) (xs : List A) → ((x : A) → every isDigit (f x) ≡ true) → every isDigit (joined (map f xs)) ≡ true
 unfolding every joined
-every-joined f [] h = refl
-every-joined f (x ∷ xs) h = every-both isDigit (f x) (joined (map f xs)) (h x) (every-joined f xs h)
+digits-joined f [] h = refl
+digits-joined f (x ∷ xs) h = every-both isDigit (f x) (joined (map f xs)) (h x) (digits-joined f xs h)
 
 -- ---- a field of a line of digits
 

@@ -1,5 +1,5 @@
 -- Lists put together row by row, and pieces of one length cut out of what they were joined to. Assumes nothing.
-use mathlib.Core.Path.{_≡_, refl, sym, ap, _∙_, subst}
+use mathlib.Core.Path.{_≡_, sym, ap, _∙_, subst}
 use mathlib.Core.Logic.{⊎-elim}
 use mathlib.Core.List.{List, [], _∷_, _++_, map}
 use Prim.Native.Nat.{ℕ, zero, suc, _+_, _*_, _≤_, _<_}
@@ -10,8 +10,9 @@ use lib.ListN.{length, getD, take, drop, length-append, length-drop, List·getD-
 use lib.Seq.{length-take-le, take-add, take-at, drop-drop, drop-append-add, take-append-le, drop-append-le, getD-append-add, getD-take, getD-drop}
 use Rattle.model.specs.Lists.{run, below, table, joined, part}
 use Rattle.laws.proofs.Tests.{lt-or-le}
-use Rattle.laws.proofs.Blocks.{length-table, getD-table, table-unique}
-use Rattle.digits_written.proofs.Put.{joined-below}
+use Rattle.laws.proofs.Runs.{joined-last, length-map-below}
+use Rattle.laws.proofs.Parts.{empty}
+use Rattle.laws.proofs.Blocks.{getD-table, table-unique}
 
 -- ---- parts
 
@@ -45,18 +46,8 @@ pub pieces : {A : Type 0} (c n : ℕ) (xs : List A) → joined (map (λ k. part 
 unfolding joined below run
 pieces c zero xs = sym (ap (λ (k : ℕ). take k xs) (zero-mul c))
 pieces c (suc n) xs =
-    ap (λ (k : ℕ). joined (map (λ k. part (k * c) c xs) (below k))) (sym (add-one n)) ∙ joined-below (λ k. part (k * c) c xs) n
+    joined-last (λ k. part (k * c) c xs) n
     ∙ ap (λ l. l ++ part (n * c) c xs) (pieces c n xs) ∙ sym (take-add (n * c) c xs) ∙ ap (λ (k : ℕ). take k xs) (sym (suc-mul n c))
-
--- ---- equal functions
-
-pub map-below : {A : Type 0} (f g : ℕ → A) (n : ℕ) → ((k : ℕ) → k < n → f k ≡ g k) → map f (below n) ≡ map g (below n)
-unfolding table
-map-below f g n h = table-unique n g (table n f) (f 0) (length-table n f) (λ k b. getD-table n f k (f 0) b ∙ h k b)
-
-empty : {A : Type 0} (xs : List A) → length xs ≡ 0 → xs ≡ []
-empty [] e = refl
-empty (x ∷ xs) e = absurd (omega arith)
 
 -- ---- rows: row i has w i elements, and the rows before it have T i
 
@@ -76,16 +67,12 @@ module _ (w T : ℕ → ℕ) (none : T 0 ≡ 0) (step : (i : ℕ) → T (i + 1) 
 
   module _ {A : Type 0} (F : ℕ → ℕ → A) where
     grid-suc : (n : ℕ) → grid w F (suc n) ≡ grid w F n ++ map (F n) (below (w n))
-    grid-suc n = ap (λ (k : ℕ). grid w F k) (sym (add-one n)) ∙ joined-below (λ i. map (F i) (below (w i))) n
-
-    length-row : (n k : ℕ) → length (map (F n) (below k)) ≡ k
-    unfolding table
-    length-row n k = length-table k (F n)
+    grid-suc n = joined-last (λ i. map (F i) (below (w i))) n
 
     pub length-grid : (n : ℕ) → length (grid w F n) ≡ T n
     unfolding joined below run
     length-grid zero = sym none
-    length-grid (suc n) = ap length (grid-suc n) ∙ length-append (grid w F n) (map (F n) (below (w n))) ∙ omega (arith, length-grid n, length-row n (w n), T-suc n)
+    length-grid (suc n) = ap length (grid-suc n) ∙ length-append (grid w F n) (map (F n) (below (w n))) ∙ omega (arith, length-grid n, length-map-below (F n) (w n), T-suc n)
 
     row-at : (n k j : ℕ) (d : A) → j < k → getD (map (F n) (below k)) j d ≡ F n j
     unfolding table

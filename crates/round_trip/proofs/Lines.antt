@@ -8,7 +8,7 @@ use Rattle.model.specs.Lists.{every, joined}
 use Rattle.model.specs.Text.{line}
 use Rattle.model.specs.Read.{lastLine, linesFrom, isDigit}
 use Rattle.laws.proofs.Tests.{and-left, and-right}
-use Rattle.round_trip.proofs.Numbers.{no-end}
+use Rattle.laws.proofs.Texts.{digit-goes-on}
 
 reverse-cons : {A : Type 0} (x : A) (l r : List A) → reverse (x ∷ l) ++ r ≡ reverse l ++ x ∷ r
 reverse-cons x l r = sym (reverseAux-eq (x ∷ l) r) ∙ reverseAux-eq l (x ∷ r)
@@ -34,7 +34,7 @@ first-line : (ds l xs : List ℕ) → every isDigit ds ≡ true → linesFrom l 
 unfolding linesFrom every
 first-line [] l xs e = ap (λ (r : List ℕ). r ∷ linesFrom [] xs) (sym (append-nil (reverse (10 ∷ l))) ∙ reverse-cons 10 l [] ∙ sym (ap (λ (r : List ℕ). r ++ 10 ∷ []) (append-nil (reverse l))))
 first-line (d ∷ ds) l xs e =
-    ap (λ (b : Bool). elim b [ true ↦ reverse (d ∷ l) ∷ linesFrom [] (ds ++ 10 ∷ xs) | false ↦ linesFrom (d ∷ l) (ds ++ 10 ∷ xs) ]) (no-end d (and-left (isDigit d) (every isDigit ds) e))
+    ap (λ (b : Bool). elim b [ true ↦ reverse (d ∷ l) ∷ linesFrom [] (ds ++ 10 ∷ xs) | false ↦ linesFrom (d ∷ l) (ds ++ 10 ∷ xs) ]) (digit-goes-on d (and-left (isDigit d) (every isDigit ds) e))
     ∙ first-line ds (d ∷ l) xs (and-right (isDigit d) (every isDigit ds) e)
     ∙ ap (λ (r : List ℕ). r ∷ linesFrom [] xs) (ap (λ (r : List ℕ). r ++ 10 ∷ []) (reverse-cons d l ds))
 

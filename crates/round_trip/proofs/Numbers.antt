@@ -1,19 +1,20 @@
 -- Hexadecimal digits: a number's digits stand for it, and digits are those of the number that they stand for. Assumes nothing.
 use mathlib.Core.Path.{_≡_, refl, sym, ap, _∙_}
 use mathlib.Core.Logic.{⊎-elim}
-use mathlib.Core.Bool.{Bool, true, false, not, _&&_, _||_}
+use mathlib.Core.Bool.{Bool, true, not, _&&_, _||_}
 use mathlib.Core.List.{List, [], _∷_}
 use Prim.Native.Nat.{ℕ, zero, suc, _+_, _*_, _/_, _%_, _^_, _≤_, _<_}
 use native.Mathlib.Nat.{zero-mul, add-mul, mul-assoc, pow-suc, pow-succ', mod-lt, mod-eq-of-lt, mul-add-mod-self-right, add-assoc, mod-one, mul-pos}
 use native.Mathlib.Omega.{arith}
 use lib.Arith.{mod-mul, digits-div, digits-lt}
-use lib.Dec.{eqb, leb, ltb}
+use lib.Dec.{eqb}
 use lib.ListN.{length}
-use borrow.Author.Tests.{eqb-true, leb-true, ltb-true, ne-eqb}
+use borrow.Author.Tests.{eqb-true}
 use Rattle.model.specs.Lists.{run, every, inTurn}
 use Rattle.model.specs.Text.{digit, hex}
 use Rattle.model.specs.Read.{isDigit, digitValue}
-use Rattle.laws.proofs.Tests.{and-left, and-right, and-intro, or-cases, every-run-elim}
+use Rattle.laws.proofs.Tests.{and-left, and-right, and-intro, every-run-elim, else-or}
+use Rattle.laws.proofs.Texts.{digit-cases, value-lt}
 
 -- ---- one digit
 
@@ -31,31 +32,17 @@ pub value-digit : (d : ℕ) → d < 16 → digitValue (digit d) ≡ d
 value-digit d h = eqb-true (digitValue (digit d)) d (and-right (isDigit (digit d)) (eqb (digitValue (digit d)) d) (rights d h))
 
 abbrev back : ℕ → Bool
-back c = not (isDigit c) || (ltb (digitValue c) 16 && eqb (digit (digitValue c)) c)
+back c = not (isDigit c) || eqb (digit (digitValue c)) c
 
-small : (c : ℕ) → isDigit c ≡ true → c ≤ 70
-unfolding isDigit
-small c e =
-    ⊎-elim (λ l. omega (arith, leb-true c 57 (and-right (leb 48 c) (leb c 57) l))) (λ r. leb-true c 70 (and-right (leb 65 c) (leb c 70) r)) (or-cases (leb 48 c && leb c 57) (leb 65 c && leb c 70) e)
-
-backs : (c : ℕ) → isDigit c ≡ true → (ltb (digitValue c) 16 && eqb (digit (digitValue c)) c) ≡ true
+backs : (c : ℕ) → c ≤ 70 → back c ≡ true
 unfolding every run isDigit digitValue digit
-backs c e = go (every-run-elim back 0 71 refl c (omega arith) (omega (arith, small c e)))
-  where
-    go : back c ≡ true → (ltb (digitValue c) 16 && eqb (digit (digitValue c)) c) ≡ true
-    go b = rw e at b
-
-pub digit-below : (c : ℕ) → isDigit c ≡ true → digitValue c < 16
-digit-below c e = ltb-true (digitValue c) 16 (and-left (ltb (digitValue c) 16) (eqb (digit (digitValue c)) c) (backs c e))
+backs c h = every-run-elim back 0 71 refl c (omega arith) (omega arith)
 
 pub digit-value : (c : ℕ) → isDigit c ≡ true → digit (digitValue c) ≡ c
-digit-value c e = eqb-true (digit (digitValue c)) c (and-right (ltb (digitValue c) 16) (eqb (digit (digitValue c)) c) (backs c e))
-
--- a digit is no 0A
-pub no-end : (c : ℕ) → isDigit c ≡ true → eqb c 10 ≡ false
-unfolding isDigit
-no-end c e =
-    ne-eqb c 10 (λ q. ⊎-elim (λ l. omega (arith, leb-true 48 c (and-left (leb 48 c) (leb c 57) l))) (λ r. omega (arith, leb-true 65 c (and-left (leb 65 c) (leb c 70) r))) (or-cases (leb 48 c && leb c 57) (leb 65 c && leb c 70) e))
+digit-value c e = eqb-true (digit (digitValue c)) c (else-or (not (isDigit c)) (eqb (digit (digitValue c)) c) (backs c small) (ap not e))
+  where
+    small : c ≤ 70
+    small = ⊎-elim (λ l. omega arith) (λ r. r .1) (digit-cases c e)
 
 -- ---- numbers
 
@@ -102,7 +89,7 @@ value-below [] e = omega arith
 value-below (d ∷ ds) e =
     let q = digitValue d in
     let is : value ds (0 * 16 + q) ≡ q * 16 ^ length ds + value ds 0 = ap (value ds) (omega arith) ∙ value-behind ds q in
-    rw (is, pow-succ') (digits-lt (digit-below d (and-left (isDigit d) (every isDigit ds) e)) (value-below ds (and-right (isDigit d) (every isDigit ds) e)))
+    rw (is, pow-succ') (digits-lt (value-lt d (and-left (isDigit d) (every isDigit ds) e)) (value-below ds (and-right (isDigit d) (every isDigit ds) e)))
 
 -- digits are those of the number that they stand for
 pub hex-of-value : (ds : List ℕ) (v : ℕ) → every isDigit ds ≡ true → hex (length ds) (value ds v) ≡ ds
@@ -116,6 +103,6 @@ hex-of-value (d ∷ ds) v e =
     let is-digit = and-left (isDigit d) (every isDigit ds) e in
     let rest = and-right (isDigit d) (every isDigit ds) e in
     let top : x / 16 ^ n ≡ w = ap (λ (k : ℕ). k / 16 ^ n) (value-behind ds w) ∙ digits-div w (value-below ds rest) in
-    let last : w % 16 ≡ q = mul-add-mod-self-right v 16 q ∙ mod-eq-of-lt (digit-below d is-digit) in
+    let last : w % 16 ≡ q = mul-add-mod-self-right v 16 q ∙ mod-eq-of-lt (value-lt d is-digit) in
     ap (λ (k : ℕ). digit (k % 16) ∷ hex n x) top ∙ ap (λ (k : ℕ). digit k ∷ hex n x) last ∙ ap (λ (k : ℕ). k ∷ hex n x) (digit-value d is-digit)
     ∙ ap (λ (l : List ℕ). d ∷ l) (hex-of-value ds w rest)

@@ -1,7 +1,6 @@
 -- Lines in the order of their frames: they are accepted where each is, and only there. Assumes nothing.
 use mathlib.Core.Path.{_≡_, refl, ap, _∙_}
-use mathlib.Core.Bool.{Bool, true, false}
-use mathlib.Core.List.{List, [], _∷_, _++_, map}
+use mathlib.Core.List.{List, [], _∷_, map}
 use Prim.Native.Nat.{ℕ, zero, suc, _<_}
 use native.Mathlib.Nat.{not-suc-le-zero, le-of-suc-le-suc}
 use native.Mathlib.Omega.{arith}
@@ -10,19 +9,11 @@ use Rattle.model.specs.declared.Answer.{Answer}
 use Rattle.model.specs.declared.Answer.the-variants.{Accepted}
 use Rattle.model.specs.Refusal.{refuse}
 use Rattle.model.specs.Read.{Frame, badLine, wrongFrame, notFiniteIn, lineAnswer, linesAnswer}
+use Rattle.laws.proofs.Refusals.{passed}
+use Rattle.laws.proofs.Each.{Each, nil, cons}
 use Rattle.round_trip.proofs.Checks.{Fine}
 
--- ---- a row of the table that is not given
-
-pub passed : (n x : ℕ) (b : Bool) (r : Answer) → refuse n x b r ≡ Accepted → b ≡ false
-unfolding refuse
-passed n x true r e = let z : _≡_ {A = ℕ} 0 1 = cc in absurd (omega arith)
-passed n x false r e = refl
-
-pub passes : (n x : ℕ) (b : Bool) (r : Answer) → refuse n x b r ≡ Accepted → r ≡ Accepted
-unfolding refuse
-passes n x true r e = let z : _≡_ {A = ℕ} 0 1 = cc in absurd (omega arith)
-passes n x false r e = e
+-- ---- one line
 
 module _ (t x : ℕ) (f : Frame) (l : List ℕ) (r : Answer) where
   pub line-passes : Fine t f l → lineAnswer t x f l r ≡ r
@@ -32,20 +23,16 @@ module _ (t x : ℕ) (f : Frame) (l : List ℕ) (r : Answer) where
   line-fine : lineAnswer t x f l r ≡ Accepted → Fine t f l
   unfolding lineAnswer
   line-fine e =
-      let e₁ = passes 12 x (badLine t (f .kind) l) (refuse 13 x (wrongFrame f l) (refuse 3 x (notFiniteIn t f l) r)) e in
-      let e₂ = passes 13 x (wrongFrame f l) (refuse 3 x (notFiniteIn t f l) r) e₁ in
-      record {
-        whole = passed 12 x (badLine t (f .kind) l) (refuse 13 x (wrongFrame f l) (refuse 3 x (notFiniteIn t f l) r)) e;
-        placed = passed 13 x (wrongFrame f l) (refuse 3 x (notFiniteIn t f l) r) e₁;
-        numbers = passed 3 x (notFiniteIn t f l) r e₂;
-      }
+      let a = passed 12 x (badLine t (f .kind) l) (refuse 13 x (wrongFrame f l) (refuse 3 x (notFiniteIn t f l) r)) e in
+      let b = passed 13 x (wrongFrame f l) (refuse 3 x (notFiniteIn t f l) r) (a .1) in
+      record { whole = a .0; placed = b .0; numbers = passed 3 x (notFiniteIn t f l) r (b .1) .0 }
 
   line-rest : lineAnswer t x f l r ≡ Accepted → r ≡ Accepted
   unfolding lineAnswer
   line-rest e =
-      passes 3 x (notFiniteIn t f l) r
-      (passes 13 x (wrongFrame f l) (refuse 3 x (notFiniteIn t f l) r)
-      (passes 12 x (badLine t (f .kind) l) (refuse 13 x (wrongFrame f l) (refuse 3 x (notFiniteIn t f l) r)) e))
+      let a = passed 12 x (badLine t (f .kind) l) (refuse 13 x (wrongFrame f l) (refuse 3 x (notFiniteIn t f l) r)) e in
+      let b = passed 13 x (wrongFrame f l) (refuse 3 x (notFiniteIn t f l) r) (a .1) in
+      passed 3 x (notFiniteIn t f l) r (b .1) .1
 
 -- ---- frames and lines
 
@@ -68,19 +55,7 @@ in-order t x (f ∷ fs) (l ∷ ls) e = go (in-order t (suc x) fs ls (line-rest t
         at (suc k) g h = w .fine k g (le-of-suc-le-suc h)
 
 -- lines made of the frames
-pub data All {A : Type 0} (P : A → Type 0) : List A → Type 0 where
-  nil : All P []
-  cons : {x : A} {xs : List A} → P x → All P xs → All P (x ∷ xs)
-
-pub accepted : (t x : ℕ) (g : Frame → List ℕ) {fs : List Frame} → All (λ f. Fine t f (g f)) fs → linesAnswer t x fs (map g fs) ≡ Accepted
+pub accepted : (t x : ℕ) (g : Frame → List ℕ) {fs : List Frame} → Each (λ f. Fine t f (g f)) fs → linesAnswer t x fs (map g fs) ≡ Accepted
 unfolding linesAnswer
 accepted t x g nil = refl
 accepted t x g (cons {x = f} {xs = fs} w ws) = line-passes t x f (g f) (linesAnswer t (suc x) fs (map g fs)) w ∙ accepted t (suc x) g ws
-
-pub all-append : {A : Type 0} {P : A → Type 0} {xs ys : List A} → All P xs → All P ys → All P (xs ++ ys)
-all-append nil b = b
-all-append (cons p a) b = cons p (all-append a b)
-
-pub all-map : {A B : Type 0} (P : B → Type 0) (f : A → B) {xs : List A} → All (λ x. P (f x)) xs → All P (map f xs)
-all-map P f nil = nil
-all-map P f (cons p a) = cons p (all-map P f a)

@@ -2,7 +2,7 @@
 -- Assumes nothing.
 use mathlib.Core.Path.{_≡_, refl, sym, ap, _∙_, subst}
 use mathlib.Core.Bool.{Bool, false, cond, _||_}
-use mathlib.Core.List.{List, [], _∷_, _++_, map, append-assoc, append-nil}
+use mathlib.Core.List.{List, [], _∷_, _++_, map, append-assoc, append-nil, map-append}
 use Prim.Native.Nat.{ℕ, suc, _+_, _*_, _≤_, _<_}
 use native.Mathlib.Nat.{add-assoc, add-zero}
 use native.Mathlib.Omega.{arith}
@@ -21,15 +21,18 @@ use Rattle.model.specs.Buffer.{tile, rows, rowsOf}
 use Rattle.model.specs.Text.{listFrame, outcomeFrame, resultText, badShape, badMatrix, badLists}
 use Rattle.model.specs.Read.{Frame, linesFrom, entriesIn, outcomeIn, linesAnswer, tileFrames, listFrames, resultFrames, tilesIn, sideIn, fileAnswer, tilesOf, listLine, listsOf, outcomeLine, noLimit, ResultReading, resultReading, readResult}
 use Rattle.laws.proofs.Blocks.{in-block}
+use Rattle.laws.proofs.Runs.{joined-append}
+use Rattle.laws.proofs.Texts.{length-tile-frames}
+use Rattle.laws.proofs.Each.{Each, nil, cons, each-append}
 use Rattle.round_trip.specs.Trips.{Matrix, Lists}
 use Rattle.round_trip.proofs.Lines.{Line, more, joined-lines, lines-of}
 use Rattle.round_trip.proofs.Grid.{grid, length-grid, grid-at, T-below}
 use Rattle.round_trip.proofs.Checks.{Fine, frame, tileLine, rowLine, row-lined}
 use Rattle.round_trip.proofs.Ends.{headerLine, header-lined, header-tiles, header-side, outcome-lined, outcome-fine, outcome-read, outcome-again}
-use Rattle.round_trip.proofs.Orders.{All, nil, cons, all-append, in-order, accepted}
-use Rattle.round_trip.proofs.Tiles.{map-append, map-grid, joined-append, joined-grid, all-grid, tile-written, tiles-again, wide}
+use Rattle.round_trip.proofs.Orders.{in-order, accepted}
+use Rattle.round_trip.proofs.Tiles.{map-grid, joined-grid, each-grid, tile-written, tiles-again, wide}
 use Rattle.round_trip.proofs.Rows.{rising, listed, listed-none, listed-step, row-written, row-read, lists-read, rows-again}
-use Rattle.round_trip.proofs.Systems.{range, no-limit, file-accepted, file-accepts, system-lines, lines-all, tiles-lined, tileLines, tile-at, length-tiles, matrix-read, tile-lines-fine, length-frames, frame-at}
+use Rattle.round_trip.proofs.Systems.{range, no-limit, file-accepted, file-accepts, system-lines, lines-all, tiles-lined, tileLines, tile-at, length-tiles, matrix-read, tile-lines-fine, frame-at}
 
 -- ---- two lists and one more element
 
@@ -92,12 +95,12 @@ module _ (N t : ℕ) (m : List Float) (l : List ℕ) (o : Outcome) (shape : badS
   small-t : t < 256
   small-t = omega (arith, range N t shape .side)
 
-  all-fine : All (λ f. Fine t f (text f)) (resultFrames N)
+  all-fine : Each (λ f. Fine t f (text f)) (resultFrames N)
   unfolding resultFrames listFrames tileFrames
   all-fine =
-      all-append
-      (all-append (all-grid (λ f. Fine t f (text f)) (wide N) (λ i j. frame 2 i j) N (λ i j hi hj. tile-written N t m wm i j hi hj small-N))
-      (all-grid (λ f. Fine t f (text f)) rising (λ i j. frame 3 i j) N (λ i j hi hj. row-written N t l wl i j hi (omega arith) small-N small-t)))
+      each-append (λ f. Fine t f (text f))
+      (each-append (λ f. Fine t f (text f)) (each-grid (λ f. Fine t f (text f)) (wide N) (λ i j. frame 2 i j) N (λ i j hi hj. tile-written N t m wm i j hi hj small-N))
+      (each-grid (λ f. Fine t f (text f)) rising (λ i j. frame 3 i j) N (λ i j hi hj. row-written N t l wl i j hi (omega arith) small-N small-t)))
       (cons (outcome-fine o place t) nil)
 
   texts : map text (resultFrames N) ≡ ls
@@ -134,7 +137,7 @@ module _ (N t : ℕ) (m : List Float) (l : List ℕ) (o : Outcome) (shape : badS
       let bad : ℕ → ℕ → Bool = λ N t. badMatrix N t m₀ || badLists N t l₀ in
       let r = range N t shape in
       let right : bad N t ≡ false = rw (bm, bl) in
-      let lined : All Line ls = all-append (all-append (tiles-lined N t m) (all-grid Line rising (λ i j. rowLine i j (rows N t l i j)) N (λ i j hi hj. row-lined i j (rows N t l i j)))) (cons (outcome-lined o) nil) in
+      let lined : Each Line ls = each-append Line (each-append Line (tiles-lined N t m) (each-grid Line rising (λ i j. rowLine i j (rows N t l i j)) N (λ i j hi hj. row-lined i j (rows N t l i j)))) (cons (outcome-lined o) nil) in
       let cutted : linesFrom [] (resultText (plan N t) (record { matrix = m; lists = l }) o) ≡ h ∷ ls =
       ap (linesFrom []) (result-lines N t m l o) ∙ lines-of (more (header-lined N t) (lines-all lined)) in
       let lines : linesAnswer t 2 (resultFrames N) ls ≡ Accepted = subst (λ (x : List (List ℕ)). linesAnswer t 2 (resultFrames N) x ≡ Accepted) texts (accepted t 2 text all-fine) in
@@ -151,18 +154,18 @@ length-list-frames N = length-grid rising listed listed-none listed-step (λ i j
 length-result-frames : (N : ℕ) → length (resultFrames N) ≡ N * N + listed N + 1
 unfolding resultFrames
 length-result-frames N =
-    length-append (tileFrames N ++ listFrames N) (frame 4 0 0 ∷ []) ∙ omega (arith, length-append (tileFrames N) (listFrames N), length-frames N, length-list-frames N)
+    length-append (tileFrames N ++ listFrames N) (frame 4 0 0 ∷ []) ∙ omega (arith, length-append (tileFrames N) (listFrames N), length-tile-frames N, length-list-frames N)
 
 module _ (N : ℕ) (f : Frame) where
   tile-due : (i j : ℕ) → i < N → j < N → getD (resultFrames N) (i * N + j) f ≡ frame 2 i j
   unfolding resultFrames
-  tile-due i j hi hj = at-first (tileFrames N) (listFrames N) (frame 4 0 0) f (i * N + j) (rw length-frames (in-block N N i j hi hj)) ∙ frame-at N i j f hi hj
+  tile-due i j hi hj = at-first (tileFrames N) (listFrames N) (frame 4 0 0) f (i * N + j) (rw length-tile-frames (in-block N N i j hi hj)) ∙ frame-at N i j f hi hj
 
   list-due : (i j : ℕ) → i < N → j ≤ i → getD (resultFrames N) (listLine N i j) f ≡ frame 3 i j
   unfolding resultFrames listLine listFrames
   list-due i j hi hj =
       ap (λ (k : ℕ). getD (tileFrames N ++ listFrames N ++ frame 4 0 0 ∷ []) k f) (add-assoc (N * N) (listed i) j)
-      ∙ at-second (tileFrames N) (listFrames N) (frame 4 0 0) f (N * N) (listed i + j) (length-frames N)
+      ∙ at-second (tileFrames N) (listFrames N) (frame 4 0 0) f (N * N) (listed i + j) (length-tile-frames N)
       (omega (arith, length-list-frames N, T-below rising listed listed-none listed-step N i hi))
       ∙ grid-at rising listed listed-none listed-step (λ i j. frame 3 i j) N i j f hi (omega arith)
 
@@ -170,7 +173,7 @@ module _ (N : ℕ) (f : Frame) where
   unfolding resultFrames outcomeLine listLine
   outcome-due =
       ap (λ (k : ℕ). getD (tileFrames N ++ listFrames N ++ frame 4 0 0 ∷ []) k f) (add-zero (N * N + listed N))
-      ∙ at-last (tileFrames N) (listFrames N) (frame 4 0 0) f (N * N) (listed N) (length-frames N) (length-list-frames N)
+      ∙ at-last (tileFrames N) (listFrames N) (frame 4 0 0) f (N * N) (listed N) (length-tile-frames N) (length-list-frames N)
 
 -- a list cut behind a, behind b more, and before the last
 in-three : (a b : ℕ) (xs : List (List ℕ)) → length xs ≡ a + b + 1 → xs ≡ take a xs ++ part a b xs ++ getD xs (a + b) [] ∷ []

@@ -4,7 +4,7 @@ use mathlib.Core.Logic.{⊎-elim}
 use mathlib.Core.Bool.{Bool, true, false, cond}
 use mathlib.Core.List.{List, [], map}
 use Prim.Native.Nat.{ℕ, zero, suc, _+_, _*_, _≤_, _<_}
-use native.Mathlib.Nat.{add-mul, mul-assoc, mul-le-mul-right, suc-mul, add-assoc}
+use native.Mathlib.Nat.{add-mul, mul-assoc, add-assoc}
 use native.Mathlib.Omega.{arith}
 use lib.Dec.{leb}
 use lib.ListN.{length, getD, drop, length-append, length-drop, length-take, length-replicate, replicate, List·getD-eq-default}
@@ -14,11 +14,12 @@ use Rattle.model.specs.Lists.{run, below, joined, part}
 use Rattle.model.specs.Buffer.{rows}
 use Rattle.model.specs.Read.{entriesIn, listLine, listsOf}
 use Rattle.laws.proofs.Tests.{lt-or-le}
+use Rattle.laws.proofs.Runs.{length-below, map-below, length-joined-below}
+use Rattle.laws.proofs.Blocks.{row-end}
 use Rattle.laws.proofs.Texts.{length-entries}
 use Rattle.digits_written.proofs.Put.{joined-below}
-use Rattle.digits_written.proofs.Pieces.{length-joined}
 use Rattle.round_trip.specs.Trips.{Lists}
-use Rattle.round_trip.proofs.Grid.{grid, grid-is, part-part, piece, pieces, map-below, T-below}
+use Rattle.round_trip.proofs.Grid.{grid, grid-is, part-part, piece, pieces, T-below}
 use Rattle.round_trip.proofs.Checks.{Fine, frame, rowLine, row-fine, entries-read, row-again}
 use Rattle.round_trip.proofs.Tiles.{cell}
 
@@ -30,28 +31,19 @@ rising i = suc i
 abbrev pub listed : ℕ → ℕ
 listed i = length (joined (map (λ r. below (suc r)) (below i)))
 
-length-run : (a n : ℕ) → length (run a n) ≡ n
-unfolding run
-length-run a zero = refl
-length-run a (suc n) = ap suc (length-run (suc a) n)
-
 pub listed-none : listed 0 ≡ 0
 unfolding joined below run
 listed-none = refl
 
 pub listed-step : (i : ℕ) → listed (i + 1) ≡ listed i + rising i
 unfolding below
-listed-step i = ap length (joined-below (λ r. below (suc r)) i) ∙ length-append (joined (map (λ r. below (suc r)) (below i))) (below (suc i)) ∙ ap (λ (n : ℕ). listed i + n) (length-run 0 (suc i))
+listed-step i = ap length (joined-below (λ r. below (suc r)) i) ∙ length-append (joined (map (λ r. below (suc r)) (below i))) (below (suc i)) ∙ ap (λ (n : ℕ). listed i + n) (length-below (suc i))
 
 getD-run : (a n k d : ℕ) → k < n → getD (run a n) k d ≡ a + k
 unfolding run
 getD-run a zero k d h = absurd (omega arith)
 getD-run a (suc n) zero d h = omega arith
 getD-run a (suc n) (suc k) d h = getD-run (suc a) n k d (omega arith) ∙ omega arith
-
-length-below : (n : ℕ) → length (below n) ≡ n
-unfolding below
-length-below n = length-run 0 n
 
 getD-below : (n k : ℕ) → k < n → getD (below n) k 0 ≡ k
 unfolding below
@@ -63,14 +55,11 @@ getD-below n k h = getD-run 0 n k 0 h ∙ omega arith
 in-row : (N t i j : ℕ) → (i * N + j) * t ≡ i * (N * t) + j * t
 in-row N t i j = add-mul (i * N) j t ∙ ap (λ (k : ℕ). k + j * t) (mul-assoc i N t)
 
-next : (n c k : ℕ) → k < n → k * c + c ≤ n * c
-next n c k h = omega (arith, mul-le-mul-right c h, suc-mul k c)
-
 rows-part : (N t : ℕ) (l : List ℕ) (i j : ℕ) → i < N → j < N → length l ≡ N * (N * t) → rows N t l i j ≡ part (j * t) t (part (i * (N * t)) (N * t) l)
 unfolding rows
 rows-part N t l i j hi hj e =
     ap (λ (a : ℕ). part a t l) (in-row N t i j)
-    ∙ sym (part-part (i * (N * t)) (j * t) t (N * t) l (next N t j hj) (omega (arith, next N (N * t) i hi)))
+    ∙ sym (part-part (i * (N * t)) (j * t) t (N * t) l (row-end j N t hj) (omega (arith, row-end i N (N * t) hi)))
 
 -- the lists of l joined are l
 lists-joined : (N t : ℕ) (l : List ℕ) → length l ≡ N * (N * t) → joined (map (λ i. joined (map (rows N t l i) (below N))) (below N)) ≡ l
@@ -79,7 +68,7 @@ lists-joined N t l e =
     (map-below (λ i. joined (map (rows N t l i) (below N))) (λ i. part (i * (N * t)) (N * t) l) N
     (λ i hi.
     let r = part (i * (N * t)) (N * t) l in
-    let long : length r ≡ N * t = length-take-le (N * t) (drop (i * (N * t)) l) (rw length-drop (omega (arith, next N (N * t) i hi))) in
+    let long : length r ≡ N * t = length-take-le (N * t) (drop (i * (N * t)) l) (rw length-drop (omega (arith, row-end i N (N * t) hi))) in
     ap joined (map-below (rows N t l i) (λ j. part (j * t) t r) N (λ j hj. rows-part N t l i j hi hj e)) ∙ pieces t N r ∙ take-all (N * t) r (omega arith)))
     ∙ pieces (N * t) N l ∙ take-all (N * (N * t)) l (omega arith)
 
@@ -89,10 +78,10 @@ module _ (N t : ℕ) (f : ℕ → ℕ → List ℕ) (size : (i j : ℕ) → leng
   whole = joined (map (λ i. joined (map (f i) (below N))) (below N))
 
   length-row : (i : ℕ) → length (joined (map (f i) (below N))) ≡ N * t
-  length-row i = length-joined (f i) t (size i) (below N) ∙ ap (λ (n : ℕ). n * t) (length-below N)
+  length-row i = length-joined-below (f i) t N (λ j h. size i j)
 
   length-whole : length whole ≡ N * (N * t)
-  length-whole = length-joined (λ i. joined (map (f i) (below N))) (N * t) length-row (below N) ∙ ap (λ (n : ℕ). n * (N * t)) (length-below N)
+  length-whole = length-joined-below (λ i. joined (map (f i) (below N))) (N * t) N (λ i h. length-row i)
 
   list-of : (i j : ℕ) → i < N → j < N → rows N t whole i j ≡ f i j
   list-of i j hi hj =

@@ -1,34 +1,37 @@
 -- System files. What is written of a system is read back (system-read), and what was read from an accepted text is written with the same bytes (system-again).
 -- Assumes nothing.
 use mathlib.Core.Path.{_≡_, refl, sym, ap, _∙_, subst}
-use mathlib.Core.Bool.{Bool, false, not, _&&_, _||_}
+use mathlib.Core.Bool.{Bool, false, not, _||_}
 use mathlib.Core.List.{List, [], _∷_, _++_, map}
 use Prim.Native.Nat.{ℕ, _+_, _*_, _≤_, _<_}
-use native.Mathlib.Nat.{mul-mul-mul-comm, mul-le-mul}
+use native.Mathlib.Nat.{mul-le-mul}
 use native.Mathlib.Omega.{arith}
-use lib.Dec.{eqb, leb, ltb}
+use lib.Dec.{eqb, ltb}
 use lib.ListN.{length, getD}
 use lib.Seq.{take-all}
 use lib.Ieee.{Float}
-use borrow.Author.Tests.{eqb-true, leb-true, le-ltb, not-false}
+use borrow.Author.Tests.{eqb-true, le-ltb, not-false}
 use Rattle.model.specs.declared.Answer.{Answer}
 use Rattle.model.specs.declared.Answer.the-variants.{Accepted, Refused}
 use Rattle.model.specs.declared.ReadAnswer.the-variants.{SystemRead, ReadRefused}
 use Rattle.model.specs.Lists.{joined}
-use Rattle.model.specs.Plan.{plan, order}
+use Rattle.model.specs.Plan.{plan}
 use Rattle.model.specs.Buffer.{tile, tileOf}
-use Rattle.model.specs.Refusal.{refuse, inside}
+use Rattle.model.specs.Refusal.{refuse}
 use Rattle.model.specs.Text.{headerFrame, tileFrame, systemText, badShape, badMatrix}
 use Rattle.model.specs.Read.{Frame, linesFrom, kindIn, numbersIn, badLine, linesAnswer, tileFrames, systemFrames, tilesIn, sideIn, fileAnswer, tilesOf, noLimit, SystemReading, systemReading, readSystem}
-use Rattle.laws.proofs.Tests.{and-left, and-right, or-false-left}
+use Rattle.laws.proofs.Tests.{or-false-left}
 use Rattle.laws.proofs.Blocks.{in-block}
+use Rattle.laws.proofs.Texts.{length-tile-frames}
+use Rattle.laws.proofs.Refusals.{passed, shape-range}
+use Rattle.laws.proofs.Each.{Each, nil, cons}
 use Rattle.round_trip.specs.Trips.{Matrix}
 use Rattle.round_trip.proofs.Lines.{Line, Lines, none, more, joined-lines, lines-of}
 use Rattle.round_trip.proofs.Grid.{grid, length-grid, grid-at}
 use Rattle.round_trip.proofs.Checks.{Fine, frame, tileLine, tile-lined}
 use Rattle.round_trip.proofs.Ends.{headerLine, header-lined, header-kind, header-tiles, header-side, header-fine, header-again}
-use Rattle.round_trip.proofs.Orders.{All, nil, cons, InOrder, in-order, accepted, passed, passes}
-use Rattle.round_trip.proofs.Tiles.{map-grid, joined-grid, all-grid, wide, before, before-none, before-step, tile-written, tile-read, tiles-read, tiles-again}
+use Rattle.round_trip.proofs.Orders.{InOrder, in-order, accepted}
+use Rattle.round_trip.proofs.Tiles.{map-grid, joined-grid, each-grid, wide, before, before-none, before-step, tile-written, tile-read, tiles-read, tiles-again}
 
 -- ---- the header's line
 
@@ -38,12 +41,7 @@ pub record Range (N t : ℕ) : Type 0 where
   pub side : t ≤ 16
 
 pub range : (N t : ℕ) → badShape N t ≡ false → Range N t
-unfolding badShape inside
-range N t e =
-    let a = leb 1 N && leb N 16 in
-    let b = leb 1 t && leb t 16 in
-    let c = not-false (a && b) e in
-    record { tiles = leb-true N 16 (and-right (leb 1 N) (leb N 16) (and-left a b c)); side = leb-true t 16 (and-right (leb 1 t) (leb t 16) (and-right a b c)) }
+range N t e = let (n, s) = shape-range N t e in record { tiles = n .1; side = s .1 }
 
 pub no-limit : (N t : ℕ) → Range N t → ltb noLimit (N * t) ≡ false
 no-limit N t r = le-ltb 256 (N * t) (mul-le-mul (r .tiles) (r .side))
@@ -60,7 +58,6 @@ module _ (limit : ℕ) (frames : ℕ → List Frame) (bad : ℕ → ℕ → Bool
   pub record Accepts (h : List ℕ) (ls : List (List ℕ)) : Type 0 where
     pub header : h ≡ headerLine (tilesIn h) (sideIn h)
     pub shape : badShape (tilesIn h) (sideIn h) ≡ false
-    pub lengths : bad (tilesIn h) (sideIn h) ≡ false
     pub lines : linesAnswer (sideIn h) 2 (frames (tilesIn h)) ls ≡ Accepted
 
   pub file-accepts : (h : List ℕ) (ls : List (List ℕ)) → fileAnswer limit frames bad (h ∷ ls) ≡ Accepted → Accepts h ls
@@ -72,19 +69,15 @@ module _ (limit : ℕ) (frames : ℕ → List Frame) (bad : ℕ → ℕ → Bool
       let r₃ = refuse 2 0 (bad N t) r₄ in
       let r₂ = refuse 1 1 (badShape N t || ltb limit (N * t)) r₃ in
       let r₁ = refuse 13 1 (not (eqb (kindIn h) 1)) r₂ in
-      let e₁ = passes 12 1 (badLine 0 1 h) r₁ e in
-      let e₂ = passes 13 1 (not (eqb (kindIn h) 1)) r₂ e₁ in
-      let e₃ = passes 1 1 (badShape N t || ltb limit (N * t)) r₃ e₂ in
+      let e₁ = passed 12 1 (badLine 0 1 h) r₁ e in
+      let e₂ = passed 13 1 (not (eqb (kindIn h) 1)) r₂ (e₁ .1) in
+      let e₃ = passed 1 1 (badShape N t || ltb limit (N * t)) r₃ (e₂ .1) in
+      let e₄ = passed 2 0 (bad N t) r₄ (e₃ .1) in
       record {
-        header = header-again h (passed 12 1 (badLine 0 1 h) r₁ e) (eqb-true (kindIn h) 1 (not-false (eqb (kindIn h) 1) (passed 13 1 (not (eqb (kindIn h) 1)) r₂ e₁)));
-        shape = or-false-left (badShape N t) (ltb limit (N * t)) (passed 1 1 (badShape N t || ltb limit (N * t)) r₃ e₂);
-        lengths = passed 2 0 (bad N t) r₄ e₃;
-        lines = passes 2 0 (bad N t) r₄ e₃;
+        header = header-again h (e₁ .0) (eqb-true (kindIn h) 1 (not-false (eqb (kindIn h) 1) (e₂ .0)));
+        shape = or-false-left (badShape N t) (ltb limit (N * t)) (e₃ .0);
+        lines = e₄ .1;
       }
-
-pub right-matrix : (N t : ℕ) (m : List Float) → badMatrix N t m ≡ false → length m ≡ N * N * (t * t)
-unfolding badMatrix order plan
-right-matrix N t m e = eqb-true (length m) (N * t * (N * t)) (not-false (eqb (length m) (N * t * (N * t))) e) ∙ mul-mul-mul-comm N t N t
 
 -- ---- the text of a system
 
@@ -96,12 +89,12 @@ pub system-lines : (N t : ℕ) (m : List Float) (l : List ℕ) → systemText (p
 unfolding systemText headerFrame tileFrame tileOf plan
 system-lines N t m l = ap (λ (x : List ℕ). headerLine N t ++ x) (sym (joined-grid (wide N) (λ i j. tileLine i j (tile N t m i j)) N))
 
-pub lines-all : {ls : List (List ℕ)} → All Line ls → Lines ls
+pub lines-all : {ls : List (List ℕ)} → Each Line ls → Lines ls
 lines-all nil = none
 lines-all (cons w ws) = more w (lines-all ws)
 
-pub tiles-lined : (N t : ℕ) (m : List Float) → All Line (tileLines N t m)
-tiles-lined N t m = all-grid Line (wide N) (λ i j. tileLine i j (tile N t m i j)) N (λ i j hi hj. tile-lined i j (tile N t m i j))
+pub tiles-lined : (N t : ℕ) (m : List Float) → Each Line (tileLines N t m)
+tiles-lined N t m = each-grid Line (wide N) (λ i j. tileLine i j (tile N t m i j)) N (λ i j hi hj. tile-lined i j (tile N t m i j))
 
 pub tile-at : (N t : ℕ) (m : List Float) (i j : ℕ) → i < N → j < N → getD (tileLines N t m) (i * N + j) [] ≡ tileLine i j (tile N t m i j)
 tile-at N t m i j hi hj = grid-at (wide N) (before N) (before-none N) (before-step N) (λ i j. tileLine i j (tile N t m i j)) N i j [] hi hj
@@ -118,9 +111,9 @@ module _ (N t : ℕ) (m : List Float) (shape : badShape N t ≡ false) (w : Matr
   small : N < 256
   small = omega (arith, range N t shape .tiles)
 
-  tiles-fine : All (λ f. Fine t f (tileText N t m f)) (tileFrames N)
+  tiles-fine : Each (λ f. Fine t f (tileText N t m f)) (tileFrames N)
   unfolding tileFrames
-  tiles-fine = all-grid (λ f. Fine t f (tileText N t m f)) (wide N) (λ i j. frame 2 i j) N (λ i j hi hj. tile-written N t m w i j hi hj small)
+  tiles-fine = each-grid (λ f. Fine t f (tileText N t m f)) (wide N) (λ i j. frame 2 i j) N (λ i j hi hj. tile-written N t m w i j hi hj small)
 
   tile-texts : map (tileText N t m) (tileFrames N) ≡ tileLines N t m
   unfolding tileFrames
@@ -151,10 +144,6 @@ pub tile-lines-fine : (N t : ℕ) (fs : List Frame) (ls : List (List ℕ)) → I
 tile-lines-fine N t fs ls o h is i j hi hj =
     subst (λ (f : Frame). Fine t f (getD ls (i * N + j) [])) (is i j (frame 2 0 0) hi hj) (o .fine (i * N + j) (frame 2 0 0) (omega (arith, in-block N N i j hi hj)))
 
-pub length-frames : (N : ℕ) → length (tileFrames N) ≡ N * N
-unfolding tileFrames
-length-frames N = length-grid (wide N) (before N) (before-none N) (before-step N) (λ i j. frame 2 i j) N
-
 pub frame-at : (N i j : ℕ) (f : Frame) → i < N → j < N → getD (tileFrames N) (i * N + j) f ≡ frame 2 i j
 unfolding tileFrames
 frame-at N i j f hi hj = grid-at (wide N) (before N) (before-none N) (before-step N) (λ i j. frame 2 i j) N i j f hi hj
@@ -171,8 +160,8 @@ module _ (m₀ : List Float) where
       let t = sideIn h in
       let a = file-accepts noLimit systemFrames (λ N t. badMatrix N t m₀) h ls e in
       let o = in-order t 2 (tileFrames N) ls (a .lines) in
-      let long : length ls ≡ N * N = o .long ∙ length-frames N in
-      let again = tiles-again N t ls (omega arith) (tile-lines-fine N t (tileFrames N) ls o (omega (arith, length-frames N)) (frame-at N)) in
+      let long : length ls ≡ N * N = o .long ∙ length-tile-frames N in
+      let again = tiles-again N t ls (omega arith) (tile-lines-fine N t (tileFrames N) ls o (omega (arith, length-tile-frames N)) (frame-at N)) in
       system-lines N t (tilesOf N t ls) l
       ∙ ap (λ (x : List ℕ). x ++ joined (tileLines N t (tilesOf N t ls))) (sym (a .header))
       ∙ ap (λ (x : List (List ℕ)). h ++ joined x) (sym again ∙ take-all (N * N) ls (omega arith))

@@ -1,49 +1,41 @@
 -- The tiles of a text: the lines that hold them, and the matrix that is read from those lines. Assumes nothing.
 use mathlib.Core.Path.{_≡_, refl, sym, ap, _∙_, subst}
 use mathlib.Core.Logic.{⊎-elim}
-use mathlib.Core.List.{List, [], _∷_, _++_, map, map-map, append-assoc}
-use Prim.Native.Nat.{ℕ, zero, suc, _+_, _*_, _/_, _%_, _≤_, _<_}
+use mathlib.Core.List.{List, [], _∷_, _++_, map, map-map, map-append}
+use Prim.Native.Nat.{ℕ, _+_, _*_, _/_, _%_, _≤_, _<_}
 use native.Mathlib.Nat.{zero-mul, suc-mul, mul-le-mul-right, div-add-mod'}
 use native.Mathlib.Numerals.{add-one}
 use native.Mathlib.Omega.{arith}
 use lib.ListN.{length, getD, take, drop, length-drop, List·getD-eq-default, length-take}
 use lib.Seq.{length-take-le, take-all, getD-take, getD-drop}
 use lib.Ieee.{Float, nan, binary64, fits, ofBits}
-use Rattle.model.specs.Lists.{run, below, table, joined, part}
+use Rattle.model.specs.Lists.{below, table, joined, part}
 use Rattle.model.specs.Num.{finite}
 use Rattle.model.specs.Tile.{allFinite}
 use Rattle.model.specs.Buffer.{tile}
 use Rattle.model.specs.Read.{field, numbersIn, tilesOf}
 use Rattle.laws.proofs.Tests.{lt-or-le}
+use Rattle.laws.proofs.Each.{Each, each-run, each-joined}
+use Rattle.laws.proofs.Runs.{map-below, joined-append}
 use Rattle.laws.proofs.Every.{every-take, every-drop}
 use Rattle.laws.proofs.Blocks.{in-block, row-below, column-below, length-table, table-unique}
 use Rattle.round_trip.specs.Trips.{Held, Matrix}
-use Rattle.round_trip.proofs.Grid.{grid, grid-is, pieces, piece, map-below}
+use Rattle.round_trip.proofs.Grid.{grid, grid-is, pieces, piece}
 use Rattle.round_trip.proofs.Checks.{Fine, frame, tileLine, tile-fine, numbers-read, tile-again}
-use Rattle.round_trip.proofs.Orders.{All, nil, cons, all-append}
 
 -- ---- grids
 
 module _ {A B : Type 0} (g : A → B) where
-  pub map-append : (xs ys : List A) → map g (xs ++ ys) ≡ map g xs ++ map g ys
-  map-append [] ys = refl
-  map-append (x ∷ xs) ys = ap (λ (l : List B). g x ∷ l) (map-append xs ys)
-
   map-joined : (xss : List (List A)) → map g (joined xss) ≡ joined (map (map g) xss)
   unfolding joined
   map-joined [] = refl
-  map-joined (xs ∷ xss) = map-append xs (joined xss) ∙ ap (λ (l : List B). map g xs ++ l) (map-joined xss)
+  map-joined (xs ∷ xss) = map-append g xs (joined xss) ∙ ap (λ (l : List B). map g xs ++ l) (map-joined xss)
 
   -- a function of a grid's elements
   pub map-grid : (w : ℕ → ℕ) (F : ℕ → ℕ → A) (n : ℕ) → map g (grid w F n) ≡ grid w (λ i j. g (F i j)) n
   map-grid w F n =
       map-joined (map (λ i. map (F i) (below (w i))) (below n)) ∙ ap joined (map-map (map g) (λ i. map (F i) (below (w i))) (below n))
       ∙ ap joined (map-below (λ i. map g (map (F i) (below (w i)))) (λ i. map (λ j. g (F i j)) (below (w i))) n (λ i h. map-map g (F i) (below (w i))))
-
-pub joined-append : {A : Type 0} (xss yss : List (List A)) → joined (xss ++ yss) ≡ joined xss ++ joined yss
-unfolding joined
-joined-append [] yss = refl
-joined-append (xs ∷ xss) yss = ap (λ l. xs ++ l) (joined-append xss yss) ∙ sym (append-assoc xs (joined xss) (joined yss))
 
 joined-joined : {A : Type 0} (xsss : List (List (List A))) → joined (joined xsss) ≡ joined (map joined xsss)
 unfolding joined
@@ -55,19 +47,9 @@ pub joined-grid : {A : Type 0} (w : ℕ → ℕ) (F : ℕ → ℕ → List A) (n
 joined-grid w F n = joined-joined (map (λ i. map (F i) (below (w i))) (below n)) ∙ ap joined (map-map joined (λ i. map (F i) (below (w i))) (below n))
 
 module _ {A : Type 0} (P : A → Type 0) where
-  all-run : (f : ℕ → A) (a n : ℕ) → ((k : ℕ) → a ≤ k → k < a + n → P (f k)) → All P (map f (run a n))
-  unfolding run
-  all-run f a zero h = nil
-  all-run f a (suc n) h = cons (h a (omega arith) (omega arith)) (all-run f (suc a) n (λ k l b. h k (omega arith) (omega arith)))
-
-  all-joined : (F : ℕ → List A) (a n : ℕ) → ((k : ℕ) → a ≤ k → k < a + n → All P (F k)) → All P (joined (map F (run a n)))
-  unfolding run joined
-  all-joined F a zero h = nil
-  all-joined F a (suc n) h = all-append (h a (omega arith) (omega arith)) (all-joined F (suc a) n (λ k l b. h k (omega arith) (omega arith)))
-
-  pub all-grid : (w : ℕ → ℕ) (F : ℕ → ℕ → A) (n : ℕ) → ((i j : ℕ) → i < n → j < w i → P (F i j)) → All P (grid w F n)
+  pub each-grid : (w : ℕ → ℕ) (F : ℕ → ℕ → A) (n : ℕ) → ((i j : ℕ) → i < n → j < w i → P (F i j)) → Each P (grid w F n)
   unfolding below
-  all-grid w F n h = all-joined (λ i. map (F i) (below (w i))) 0 n (λ i l b. all-run (F i) 0 (w i) (λ j m c. h i j (omega arith) (omega arith)))
+  each-grid w F n h = each-joined P (λ i. map (F i) (below (w i))) 0 n (λ i l b. each-run P (F i) 0 (w i) (λ j m c. h i j (omega arith) (omega arith)))
 
 -- ---- N by N
 

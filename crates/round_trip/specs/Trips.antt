@@ -17,7 +17,7 @@ use Rattle.model.specs.Read.{readSystem, readResult}
 
 -- ---- what is read back as it was written
 
--- every number is one that binary64 holds; a NaN counts, which stands behind the end
+-- every number is one that binary64 holds; after the end a NaN is read, which it holds too
 abbrev pub Held : List Float → Type 0
 Held xs = (k : ℕ) → T (fits binary64 (getD xs k nan))
 

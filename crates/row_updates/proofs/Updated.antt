@@ -2,8 +2,8 @@
 use mathlib.Core.Path.{_≡_, refl, sym, ap, ap₂, _∙_, subst}
 use mathlib.Core.Logic.{_⊎_, inl, inr, ⊎-elim}
 use mathlib.Core.Bool.{Bool, true, false, cond, _&&_}
-use mathlib.Core.List.{List, [], _∷_, _++_, map}
-use Prim.Native.Nat.{ℕ, zero, suc, _+_, _-_, _*_, _/_, _%_, _≤_, _<_}
+use mathlib.Core.List.{List, [], _∷_, map}
+use Prim.Native.Nat.{ℕ, _+_, _-_, _*_, _/_, _%_, _≤_, _<_}
 use native.Mathlib.Nat.{add-assoc, suc-mul, zero-mul}
 use native.Mathlib.Numerals.{add-one}
 use native.Mathlib.Omega.{arith}
@@ -14,11 +14,13 @@ use borrow.Author.Tests.{lt-ltb, le-ltb}
 use Rattle.model.specs.Lists.{run, below, every, joined, part}
 use Rattle.model.specs.Num.{finite, update, updateComputes}
 use Rattle.model.specs.Tile.{at, block, allFinite}
-use Rattle.laws.proofs.Tests.{and-left, and-right, false-if, never, lt-or-le, every-run-intro, every-run-elim}
+use Rattle.laws.proofs.Tests.{false-if, never, lt-or-le, every-run-intro, every-run-elim}
+use Rattle.laws.proofs.Every.{every-at, every-joined}
 use Rattle.laws.proofs.Blocks.{getD-table, length-block, row-of, column-of, in-block, row-below, column-below, row-end}
+use Rattle.laws.proofs.Parts.{length-part, get-part}
 use Rattle.float_laws.proofs.Finite.{computed-shows}
 use Rattle.row_updates.specs.Updates.{updatedRows, rowsCompute, RowsUpdated}
-use Rattle.fills.proofs.Stores.{Outside, Stored, stored-none, stored-more, stored-join, stored-is, stored-frame, getD-part, part-fits}
+use Rattle.fills.proofs.Stores.{Outside, Stored, stored-none, stored-more, stored-join, stored-is, stored-frame}
 
 -- ---- one row, which starts at s, by the multiplier x and the row at top
 
@@ -126,37 +128,17 @@ top-beside rows w start top s r h q l = ⊎-elim (λ g. inl (omega arith)) (λ g
 
 -- ---- every number computed is finite
 
-and-assoc : (a b c : Bool) → ((a && b) && c) ≡ (a && (b && c))
-and-assoc true b c = refl
-and-assoc false b c = refl
-
-every-append : {A : Type 0} (p : A → Bool) (xs ys : List A) → every p (xs ++ ys) ≡ (every p xs && every p ys)
-unfolding every
-every-append p [] ys = refl
-every-append p (x ∷ xs) ys = ap (λ (b : Bool). p x && b) (every-append p xs ys) ∙ sym (and-assoc (p x) (every p xs) (every p ys))
-
-pub every-joined : {A B : Type 0} (p : A → Bool) (h : B → List A) (xs : List B) → every p (joined (map h xs)) ≡ every (λ x. every p (h x)) xs
-unfolding every joined
-every-joined p h [] = refl
-every-joined p h (x ∷ xs) = every-append p (h x) (joined (map h xs)) ∙ ap (λ (b : Bool). every p (h x) && b) (every-joined p h xs)
-
 every-cong : {A : Type 0} (p q : A → Bool) → ((x : A) → p x ≡ q x) → (xs : List A) → every p xs ≡ every q xs
 unfolding every
 every-cong p q h [] = refl
 every-cong p q h (x ∷ xs) = ap₂ (λ (a b : Bool). a && b) (h x) (every-cong p q h xs)
-
-pub every-get : {A : Type 0} (p : A → Bool) (d : A) (xs : List A) → every p xs ≡ true → (i : ℕ) → i < length xs → p (getD xs i d) ≡ true
-unfolding every
-every-get p d [] e i h = absurd (omega arith)
-every-get p d (x ∷ xs) e zero h = and-left (p x) (every p xs) e
-every-get p d (x ∷ xs) e (suc i) h = every-get p d xs (and-right (p x) (every p xs) e) i (omega arith)
 
 module _ (rows w f start top : ℕ) (l before : List Float) (fits : f ≤ w) (room : start + rows * w ≤ length before) where
   -- number q of row i, as the definition reads it
   cell-at : (i q : ℕ) → i < rows → q < w → at w (part start (rows * w) before) i q ≡ getD before (start + i * w + q) nan
   unfolding at
   cell-at i q a b =
-      getD-part nan start (rows * w) before (i * w + q) (in-block rows w i q a b) ∙ ap (λ (z : ℕ). getD before z nan) (sym (add-assoc start (i * w) q))
+      get-part start (rows * w) before nan (i * w + q) (in-block rows w i q a b) ∙ ap (λ (z : ℕ). getD before z nan) (sym (add-assoc start (i * w) q))
 
   abbrev computed : List Float
   computed = rowsCompute rows w f (λ i. getD l i nan) (λ q. getD before (top + q) nan) (part start (rows * w) before)
@@ -180,7 +162,7 @@ module _ (rows w f start top : ℕ) (l before : List Float) (fits : f ≤ w) (ro
     unfolding allFinite at
     cell-test i q a b =
         computed-shows (at w (part start (rows * w) before) i q) (getD l i nan) (getD before (top + q) nan)
-        (every-get finite nan (part start (rows * w) before) finites (i * w + q) (rw (part-fits nan start (rows * w) before room) (in-block rows w i q a b)))
+        (every-at finite (part start (rows * w) before) nan (i * w + q) finites (rw (length-part start (rows * w) before room) (in-block rows w i q a b)))
         ∙ ap (λ (x : Float). finite (update x (getD l i nan) (getD before (top + q) nan))) (cell-at i q a b)
 
     all-fine : ((i q : ℕ) → i < rows → f ≤ q → q < w → finite (rowNew (start + i * w) top (getD l i nan) before q) ≡ true) → every finite computed ≡ true

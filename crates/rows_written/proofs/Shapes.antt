@@ -1,16 +1,17 @@
 -- Sizes: when they are refused, and bounds where they are not. Assumes nothing.
-use mathlib.Core.Path.{_≡_, refl, sym}
+use mathlib.Core.Path.{_≡_, refl}
 use mathlib.Core.Logic.{_⊎_, inl, inr}
-use mathlib.Core.Bool.{Bool, true, false, not, _&&_}
+use mathlib.Core.Bool.{Bool, true, false, not}
 use Prim.Native.Nat.{ℕ, _+_, _*_, _/_, _≤_, _<_}
 use native.Mathlib.Nat.{mul-le-mul, mul-assoc, mul-add, mul-mul-mul-comm}
 use native.Mathlib.Omega.{arith}
 use lib.Dec.{eqb, leb, ltb}
-use borrow.Author.Tests.{eqb-true, le-leb, lt-leb, leb-true, ltb-true, ltb-false}
+use borrow.Author.Tests.{eqb-true, le-leb, lt-leb, ltb-true, ltb-false}
 use Rattle.model.specs.Lists.{run, every}
 use Rattle.model.specs.Refusal.{inside}
 use Rattle.model.specs.Text.{badShape}
-use Rattle.laws.proofs.Tests.{true-or-false, every-run-elim, and-left, and-right}
+use Rattle.laws.proofs.Tests.{true-or-false, every-run-elim}
+use Rattle.laws.proofs.Refusals.{shape-range}
 use Rattle.rows_written.specs.Rows.{triangle}
 
 -- ---- 1
@@ -41,18 +42,7 @@ pub record Shape (N t : ℕ) : Type 0 where
   pub side : t ≤ 16
 
 pub shape : (N t : ℕ) → badShape N t ≡ false → Shape N t
-unfolding badShape inside
-shape N t e =
-    let a = true-of (leb 1 N && leb N 16 && (leb 1 t && leb t 16)) e in
-    record {
-      some = leb-true 1 N (and-left (leb 1 N) (leb N 16) (and-left (leb 1 N && leb N 16) (leb 1 t && leb t 16) a));
-      tiles = leb-true N 16 (and-right (leb 1 N) (leb N 16) (and-left (leb 1 N && leb N 16) (leb 1 t && leb t 16) a));
-      side = leb-true t 16 (and-right (leb 1 t) (leb t 16) (and-right (leb 1 N && leb N 16) (leb 1 t && leb t 16) a));
-    }
-  where
-    true-of : (b : Bool) → not b ≡ false → b ≡ true
-    true-of true p = refl
-    true-of false p = sym p
+shape N t e = let (n, s) = shape-range N t e in record { some = n .0; tiles = n .1; side = s .1 }
 
 -- ---- bounds
 

@@ -3,7 +3,7 @@ use mathlib.Core.Path.{_≡_, sym, ap, _∙_}
 use mathlib.Core.Logic.{⊎-elim}
 use mathlib.Core.List.{List, _++_, map}
 use Prim.Native.Nat.{ℕ, zero, suc, _+_, _*_, _≤_, _<_}
-use native.Mathlib.Nat.{zero-mul, suc-mul, add-mul, mul-le-mul-right, mul-le-mul}
+use native.Mathlib.Nat.{zero-mul, suc-mul, add-mul, mul-le-mul-right}
 use native.Mathlib.Numerals.{add-one}
 use native.Mathlib.Omega.{arith}
 use lib.ListN.{length, length-append}
@@ -11,27 +11,21 @@ use lib.Ieee.{Float}
 use Rattle.model.specs.Lists.{run, below, joined, part, withPart}
 use Rattle.model.specs.Text.{hex, bits, line}
 use Rattle.laws.proofs.Tests.{lt-or-le}
-use Rattle.laws.proofs.Blocks.{in-block}
+use Rattle.laws.proofs.Runs.{joined-last, length-joined-below}
 use Rattle.digits_written.proofs.Put.{Put, put-length, put-none, put-size, put-text, joined-below, length-hex}
 use Rattle.digits_written.proofs.Pieces.{put-next, length-part, length-bits}
 use Rattle.lines_written.proofs.Lines.{length-frame}
+use Rattle.laws.proofs.Blocks.{place-room}
 use Rattle.rows_written.specs.Rows.{tileRow, tileRows, listRow, listRows, triangle}
 
 -- ---- sizes
-
--- j pieces of c, and one more, where there are n
-pub turn : (j n c : ℕ) → j < n → j * c + c ≤ n * c
-turn j n c h = omega (arith, mul-le-mul-right c h, suc-mul j c)
 
 pub one-more : (j c : ℕ) → (j + 1) * c ≡ j * c + c
 one-more j c = ap (λ (k : ℕ). k * c) (add-one j) ∙ suc-mul j c
 
 -- what belongs to tile (i,j) stands in the lent slice
 pub cell : (n s i j l : ℕ) → i < n → j < n → n * n * s ≤ l → (i * n + j) * s + s ≤ l
-cell n s i j l hi hj h = omega (arith, turn (i * n + j) (n * n) s (in-block n n i j hi hj))
-
-pub small : (a b x y : ℕ) → a ≤ x → b ≤ y → a * b ≤ x * y
-small a b x y h k = mul-le-mul h k
+cell n s i j l hi hj h = omega (arith, place-room n s i j hi hj)
 
 -- ---- pieces in a row
 
@@ -91,24 +85,17 @@ module _ (f : ℕ → List ℕ) (g : ℕ → ℕ) (a n : ℕ) (xs : List ℕ) wh
       let e : j ≡ n = omega (arith, r .some) in
       rw e at (r .written)
 
-length-said : (f : ℕ → List ℕ) (c n : ℕ) → ((j : ℕ) → j < n → length (f j) ≡ c) → length (joined (map f (below n))) ≡ n * c
-unfolding joined below run
-length-said f c zero h = sym (zero-mul c)
-length-said f c (suc n) h =
-    ap (λ (k : ℕ). length (joined (map f (below k)))) (sym (add-one n)) ∙ ap length (joined-below f n) ∙ length-append (joined (map f (below n))) (f n)
-    ∙ ap (λ (k : ℕ). k + length (f n)) (length-said f c n (λ j l. h j (omega arith))) ∙ ap (λ (k : ℕ). n * c + k) (h n (omega arith)) ∙ sym (suc-mul n c)
-
 pub length-tile-row : (n s : ℕ) (m : List Float) (i : ℕ) → i < n → n * n * s ≤ length m → length (tileRow n s m i) ≡ n * (7 + s * 16)
 unfolding tileRow
-length-tile-row n s m i hi h = length-said (tilePiece n s m i) (7 + s * 16) n (λ j hj. length-tile n s m i j hi hj h)
+length-tile-row n s m i hi h = length-joined-below (tilePiece n s m i) (7 + s * 16) n (λ j hj. length-tile n s m i j hi hj h)
 
 pub length-tile-rows : (n s : ℕ) (m : List Float) → n * n * s ≤ length m → length (tileRows n s m) ≡ n * (n * (7 + s * 16))
 unfolding tileRows
-length-tile-rows n s m h = length-said (tileRow n s m) (n * (7 + s * 16)) n (λ i hi. length-tile-row n s m i hi h)
+length-tile-rows n s m h = length-joined-below (tileRow n s m) (n * (7 + s * 16)) n (λ i hi. length-tile-row n s m i hi h)
 
 pub length-list-row : (n t : ℕ) (l : List ℕ) (i : ℕ) → i < n → n * n * t ≤ length l → length (listRow n t l i) ≡ (i + 1) * (7 + t * 2)
 unfolding listRow
-length-list-row n t l i hi h = length-said (listPiece n t l i) (7 + t * 2) (i + 1) (λ j hj. length-list n t l i j hi (omega arith) h)
+length-list-row n t l i hi h = length-joined-below (listPiece n t l i) (7 + t * 2) (i + 1) (λ j hj. length-list n t l i j hi (omega arith) h)
 
 -- ---- 1 + 2 + .. + n
 
@@ -131,7 +118,7 @@ length-rows : (n t : ℕ) (l : List ℕ) (k : ℕ) → k ≤ n → n * n * t ≤
 unfolding triangle joined below run
 length-rows n t l zero b h = sym (zero-mul (7 + t * 2))
 length-rows n t l (suc k) b h =
-    ap (λ (x : ℕ). length (joined (map (listRow n t l) (below x)))) (sym (add-one k)) ∙ ap length (joined-below (listRow n t l) k)
+    ap length (joined-last (listRow n t l) k)
     ∙ length-append (joined (map (listRow n t l) (below k))) (listRow n t l k)
     ∙ ap (λ (x : ℕ). x + length (listRow n t l k)) (length-rows n t l k (omega arith) h)
     ∙ ap (λ (x : ℕ). triangle k * (7 + t * 2) + x) (length-list-row n t l k (omega arith) h)

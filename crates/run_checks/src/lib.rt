@@ -10,7 +10,7 @@ use model::Answer;
 use model::Sizes;
 use worker::Worker;
 
-// What refusals 1, 2 and 4 say.
+// What a run answers before its first call.
 pub fn run_answer(
     z: Sizes,
     matrix: &[f64],

@@ -9,7 +9,7 @@ use native.Mathlib.Omega.{arith}
 use lib.Dec.{eqb}
 use lib.ListN.{length, set}
 use lib.Seq.{getD-set-same, getD-set-other}
-use borrow.Author.Tests.{eqb-true}
+use borrow.Author.Tests.{eqb-true, not-false}
 use Rattle.model.specs.Lists.{run, below, every}
 use Rattle.model.specs.Task.{Task}
 use Rattle.model.specs.Links.{linked, linksTo, mark, waiting, taken, finished, ready}
@@ -22,10 +22,6 @@ NoneReady ts ms f = (q : ℕ) → q < f → ready ts ms q ≡ false
 -- ---- the links of a task are below it
 
 -- a test of the tasks linked to q is a test of numbers below q
-not-false : (b : Bool) → not b ≡ false → b ≡ true
-not-false true e = refl
-not-false false e = never refl e
-
 module _ (ts : List Task) (f : ℕ → Bool) (q : ℕ) where
   links-elim : every f (linksTo ts q) ≡ true → (p : ℕ) → p < q → linked ts p q ≡ true → f p ≡ true
   unfolding linksTo below

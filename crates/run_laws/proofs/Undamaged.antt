@@ -2,7 +2,7 @@
 -- Assumes nothing.
 use Prim.Native.Nat.{ℕ, zero, suc, _+_, _*_, _/_, _%_, _≤_, _<_}
 use mathlib.Core.Bool.{Bool, true, false, not, _&&_, _||_}
-use mathlib.Core.Path.{_≡_, refl}
+use mathlib.Core.Path.{_≡_}
 use mathlib.Core.List.{List, [], _∷_}
 use native.Mathlib.Omega.{arith}
 use lib.Dec.{eqb, leb, ltb}
@@ -17,8 +17,9 @@ use Rattle.model.specs.Links.{task, mark, taken}
 use Rattle.model.specs.Calls.{Lent, marksOf, recordOf, worker}
 use Rattle.worker.specs.Holding.{idle}
 use Rattle.model.specs.Refusal.{holds, badRecord, badHold, badWorker, entryLimit, badEntry, damaged}
-use Rattle.laws.proofs.Tests.{never, and-left, and-right, or-false-left, or-false-right, fails-below}
+use Rattle.laws.proofs.Tests.{and-left, and-right, or-false-left, or-false-right, fails-below, and-true-not}
 use Rattle.laws.proofs.Blocks.{in-block, row-of, column-of}
+use Rattle.laws.proofs.Every.{getD-any}
 
 -- the record r is task a's, and its mark is one of the five
 pub record Due (a : Task) (r : TaskRecord) : Type 0 where
@@ -36,11 +37,6 @@ pub record Held (z : Plan) (s : Lent) (h : Worker) : Type 0 where
 
 -- ---- tests that failed
 
-pub and-true-not : (a b : Bool) → a ≡ true → (a && not b) ≡ false → b ≡ true
-and-true-not true true h e = refl
-and-true-not true false h e = never refl e
-and-true-not false b h e = never h refl
-
 module _ {A : Type 0} where
   none-at : (f : A → Bool) (xs : List A) (d : A) (i : ℕ) → some f xs ≡ false → i < length xs → f (getD xs i d) ≡ false
   unfolding some
@@ -48,11 +44,21 @@ module _ {A : Type 0} where
   none-at f (x ∷ xs) d zero e h = or-false-left (f x) (some f xs) e
   none-at f (x ∷ xs) d (suc i) e h = none-at f xs d i (or-false-right (f x) (some f xs) e) (omega arith)
 
-  -- what is read within a list does not depend on what is read past its end
-  pub getD-any : (xs : List A) (i : ℕ) (d e : A) → i < length xs → getD xs i d ≡ getD xs i e
-  getD-any [] i d e h = absurd (omega arith)
-  getD-any (x ∷ xs) zero d e h = refl
-  getD-any (x ∷ xs) (suc i) d e h = getD-any xs i d e (omega arith)
+-- the test of a record, passed
+pub due-of : (a : Task) (r : TaskRecord)
+    → not (eqb (r .kind) (kindOf a) && eqb (r .k) (kOf a) && eqb (r .i) (iOf a) && eqb (r .j) (jOf a) && leb (r .mark) 4) ≡ false → Due a r
+due-of a r e =
+    let e₅ = not-false (eqb (r .kind) (kindOf a) && eqb (r .k) (kOf a) && eqb (r .i) (iOf a) && eqb (r .j) (jOf a) && leb (r .mark) 4) e in
+    let e₄ = and-left (eqb (r .kind) (kindOf a) && eqb (r .k) (kOf a) && eqb (r .i) (iOf a) && eqb (r .j) (jOf a)) (leb (r .mark) 4) e₅ in
+    let e₃ = and-left (eqb (r .kind) (kindOf a) && eqb (r .k) (kOf a) && eqb (r .i) (iOf a)) (eqb (r .j) (jOf a)) e₄ in
+    let e₂ = and-left (eqb (r .kind) (kindOf a) && eqb (r .k) (kOf a)) (eqb (r .i) (iOf a)) e₃ in
+    record {
+      kind-is = eqb-true (r .kind) (kindOf a) (and-left (eqb (r .kind) (kindOf a)) (eqb (r .k) (kOf a)) e₂);
+      k-is = eqb-true (r .k) (kOf a) (and-right (eqb (r .kind) (kindOf a)) (eqb (r .k) (kOf a)) e₂);
+      i-is = eqb-true (r .i) (iOf a) (and-right (eqb (r .kind) (kindOf a) && eqb (r .k) (kOf a)) (eqb (r .i) (iOf a)) e₃);
+      j-is = eqb-true (r .j) (jOf a) (and-right (eqb (r .kind) (kindOf a) && eqb (r .k) (kOf a) && eqb (r .i) (iOf a)) (eqb (r .j) (jOf a)) e₄);
+      mark-most = leb-true (r .mark) 4 (and-right (eqb (r .kind) (kindOf a) && eqb (r .k) (kOf a) && eqb (r .i) (iOf a) && eqb (r .j) (jOf a)) (leb (r .mark) 4) e₅);
+    }
 
 module _ (z : Plan) (s : Lent) (fine : damaged z s ≡ false) where
   abbrev bad-records : Bool
@@ -75,21 +81,6 @@ module _ (z : Plan) (s : Lent) (fine : damaged z s ≡ false) where
   two = or-false-left (bad-records || bad-holds) bad-workers three
 
   -- ---- records
-
-  due-of : (a : Task) (r : TaskRecord)
-      → not (eqb (r .kind) (kindOf a) && eqb (r .k) (kOf a) && eqb (r .i) (iOf a) && eqb (r .j) (jOf a) && leb (r .mark) 4) ≡ false → Due a r
-  due-of a r e =
-      let e₅ = not-false (eqb (r .kind) (kindOf a) && eqb (r .k) (kOf a) && eqb (r .i) (iOf a) && eqb (r .j) (jOf a) && leb (r .mark) 4) e in
-      let e₄ = and-left (eqb (r .kind) (kindOf a) && eqb (r .k) (kOf a) && eqb (r .i) (iOf a) && eqb (r .j) (jOf a)) (leb (r .mark) 4) e₅ in
-      let e₃ = and-left (eqb (r .kind) (kindOf a) && eqb (r .k) (kOf a) && eqb (r .i) (iOf a)) (eqb (r .j) (jOf a)) e₄ in
-      let e₂ = and-left (eqb (r .kind) (kindOf a) && eqb (r .k) (kOf a)) (eqb (r .i) (iOf a)) e₃ in
-      record {
-        kind-is = eqb-true (r .kind) (kindOf a) (and-left (eqb (r .kind) (kindOf a)) (eqb (r .k) (kOf a)) e₂);
-        k-is = eqb-true (r .k) (kOf a) (and-right (eqb (r .kind) (kindOf a)) (eqb (r .k) (kOf a)) e₂);
-        i-is = eqb-true (r .i) (iOf a) (and-right (eqb (r .kind) (kindOf a) && eqb (r .k) (kOf a)) (eqb (r .i) (iOf a)) e₃);
-        j-is = eqb-true (r .j) (jOf a) (and-right (eqb (r .kind) (kindOf a) && eqb (r .k) (kOf a) && eqb (r .i) (iOf a)) (eqb (r .j) (jOf a)) e₄);
-        mark-most = leb-true (r .mark) 4 (and-right (eqb (r .kind) (kindOf a) && eqb (r .k) (kOf a) && eqb (r .i) (iOf a) && eqb (r .j) (jOf a)) (leb (r .mark) 4) e₅);
-      }
 
   pub due : (p : ℕ) → p < length (z .tasks) → Due (task (z .tasks) p) (getD (s .records) p (recordOf (task (z .tasks) p)))
   unfolding badRecord

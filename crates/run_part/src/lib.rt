@@ -13,17 +13,17 @@ pub fn run_part(
     z: Sizes,
     matrix: &mut [f64],
     lists: &mut [u8],
-    flat: &mut [[u8; 5]],
+    records: &mut [[u8; 5]],
     n: usize,
     workers: [Worker; 32],
     budget: u64,
 ) -> RunReply
-    requires { ⌜ n ≤ length (now flat) ⌝ }
+    requires { ⌜ n ≤ length (now records) ⌝ }
     ensures { λ r. ⌜ (record {
       answer = r .answer;
-      left = lent (now (matrix .exit)) (now (lists .exit)) (upTo n (now (flat .exit))) (r .workers) (z .workers);
-    } ≡ runCall z budget (lent (now (matrix .entry)) (now (lists .entry)) (upTo n (now (flat .entry))) workers (z .workers)))
+      left = lent (now (matrix .exit)) (now (lists .exit)) (upTo n (now (records .exit))) (r .workers) (z .workers);
+    } ≡ runCall z budget (lent (now (matrix .entry)) (now (lists .entry)) (upTo n (now (records .entry))) workers (z .workers)))
         × (drop (z .workers) (r .workers) ≡ drop (z .workers) workers) ⌝ }
 {
-    runs::run(z, matrix, lists, &mut flat[..n], workers, budget)
+    runs::run(z, matrix, lists, &mut records[..n], workers, budget)
 }

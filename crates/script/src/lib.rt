@@ -62,6 +62,7 @@ pub fn float(bits: u64) -> f64 {
     f64::from_bits(bits)
 }
 
+// The bits of a number; every NaN has the same.
 pub fn bits(x: f64) -> u64 {
     if x != x {
         return 9221120237041090560;
@@ -94,6 +95,7 @@ pub fn mixed(h: u64, x: u64) -> u64 {
     (h % 4294967296 * 1000003 + x % 4294967296) % 4294967291
 }
 
+// The digest h with the count and the bits of numbers mixed in.
 pub fn mixed_numbers(h: u64, m: &[f64]) -> u64 {
     let mut r = mixed(h, m.len() as u64);
     let mut k = 0;
@@ -105,10 +107,12 @@ pub fn mixed_numbers(h: u64, m: &[f64]) -> u64 {
     r
 }
 
+// A byte as a number.
 pub fn wide(b: u8) -> u64 {
     b as u64
 }
 
+// The digest h with the count of bytes and the bytes mixed in.
 pub fn mixed_bytes(h: u64, l: &[u8]) -> u64 {
     let mut r = mixed(h, l.len() as u64);
     let mut k = 0;

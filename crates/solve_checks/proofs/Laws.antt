@@ -27,11 +27,16 @@ use Rattle.checks.specs.Checks.{Sized, RecordsFit}
 use Rattle.finite_numbers.specs.declared.Lowest.{Lowest}
 use Rattle.finite_numbers.specs.declared.Lowest.the-variants.{None, At}
 use Rattle.checks.proofs.Laws.{sized}
-use Rattle.finite_numbers.proofs.Laws.{found-none}
 use Rattle.answers.proofs.Refusals.{refuses, passes, Fit, lengths-fit}
+use Rattle.unfinished.proofs.Finished.{unfinished-is}
 use Rattle.solve_checks.specs.Rest.{restAnswer}
 
 -- ---- 3
+
+-- where none was found, every number is finite
+found-none : (b : Bool) (x : ℕ) (r : Lowest) → r ≡ cond b None (At x) → r ≡ None → true ≡ b
+found-none true x r e q = refl
+found-none false x r e q = let z : _≡_ {A = ℕ} 0 1 = cc in absurd (omega arith)
 
 module _ (y : List Float) (f : Lowest) (k : f ≡ cond (allFinite y) None (At (firstNotFinite y))) where
   pub right-3 : (x : ℕ) → f ≡ At x → Refused 3 x ≡ refuse 3 (firstNotFinite y) (not (allFinite y)) Accepted
@@ -64,13 +69,9 @@ module _ (z : Sizes) (m : List Float) (l : List ℕ) (r : List (List ℕ)) (ws :
   abbrev open-tasks : ℕ → Bool
   open-tasks k = not (finished (mark (marksFrom r) k))
 
-  unfinished-is : keep open-tasks (below (length r)) ≡ unfinished (planOf z) s
-  unfolding unfinished marksOf lent marksFrom plan
-  unfinished-is = ap (λ k. keep open-tasks (below k)) fit
-
   module _ (g : Lowest) (e : g ≡ firstOr (keep open-tasks (below (length r))) At None) where
     found-is : g ≡ firstOr (unfinished (planOf z) s) At None
-    found-is = e ∙ ap (λ xs. firstOr xs At None) unfinished-is
+    found-is = e ∙ ap (λ xs. firstOr xs At None) (unfinished-is z m l r ws fit)
 
     pub rest-8 : (p : ℕ) → g ≡ At p → Refused 8 p ≡ restAnswer z s y
     unfolding restAnswer

@@ -71,11 +71,11 @@ pub fn solve_answer(
     if bad_lengths(z, matrix, lists, records) {
         return Answer::Refused(2, 0);
     }
-    let n = z.tiles * z.side;
-    if right.len() != n {
+    let order = z.tiles * z.side;
+    if right.len() != order {
         return Answer::Refused(2, 0);
     }
-    if answers.len() != n {
+    if answers.len() != order {
         return Answer::Refused(2, 0);
     }
     if damaged(z, lists, records, workers) {

@@ -25,7 +25,7 @@ use Rattle.model.specs.Demand.{end}
 use Rattle.laws.proofs.Refusals.{passed}
 use Rattle.laws.proofs.Tests.{and-left, and-right}
 use Rattle.answers.proofs.Refusals.{passes}
-use Rattle.demand.specs.Promise.{Pair}
+use Rattle.demand.specs.Promise.{TwoOpenings}
 use Rattle.laws.proofs.Every.{every-at}
 use Rattle.demand.proofs.Theorem.{demand-3}
 use Rattle.demand.proofs.Corollaries.{alike}
@@ -94,7 +94,7 @@ module _ (z : Sizes) (s : Lent) (b x : List Float) (ok : runAnswer z s ≡ Accep
 
 -- ---- whichever calls finished it
 
-solves-alike : (z y : Sizes) (s r : Lent) (cs ds : List Call) → Pair z y s r cs ds → (b x : List Float) → solveCall z (end z s cs) b x ≡ solveCall y (end y r ds) b x
+solves-alike : (z y : Sizes) (s r : Lent) (cs ds : List Call) → TwoOpenings z y s r cs ds → (b x : List Float) → solveCall z (end z s cs) b x ≡ solveCall y (end y r ds) b x
 solves-alike z y s r cs ds p b x =
     settles z (end z s cs) b x (demand-3 z s cs (p .opened) .runs) (p .finished)
     ∙ (λ i. settled (plan (p .tiles i) (p .side i)) (alike z y s r cs ds p .state i) b x)

@@ -17,7 +17,7 @@ use Rattle.model.specs.Refusal.{runAnswer}
 use Rattle.model.specs.Solve.{solveCall}
 use Rattle.model.specs.History.{Call}
 use Rattle.model.specs.Demand.{end}
-use Rattle.demand.specs.Promise.{Pair}
+use Rattle.demand.specs.Promise.{TwoOpenings}
 
 -- a finished system with a good outcome, of which nothing is damaged, and a finite right side b and answers x as long as its order
 pub record GoodSystem (z : Sizes) (s : Lent) (b x : List Float) : Type 0 where
@@ -30,6 +30,6 @@ pub record GoodSystem (z : Sizes) (s : Lent) (b x : List Float) : Type 0 where
 
 pub record Solves (z : Sizes) : Type 0 where
   -- whichever calls finished the factorization, and with however many workers, the answer and the answers are the same
-  pub any-calls : (y : Sizes) (s r : Lent) (cs ds : List Call) → Pair z y s r cs ds → (b x : List Float) → solveCall z (end z s cs) b x ≡ solveCall y (end y r ds) b x
+  pub any-calls : (y : Sizes) (s r : Lent) (cs ds : List Call) → TwoOpenings z y s r cs ds → (b x : List Float) → solveCall z (end z s cs) b x ≡ solveCall y (end y r ds) b x
   -- only a computed number that isn't finite refuses a good system
   pub only-11 : (s : Lent) (b x : List Float) → GoodSystem z s b x → (solveCall z s b x .answer ≡ Accepted) ⊎ ((p : ℕ) × (solveCall z s b x .answer ≡ Refused 11 p))

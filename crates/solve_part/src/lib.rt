@@ -13,15 +13,15 @@ pub fn solve_part(
     z: Sizes,
     matrix: &[f64],
     lists: &[u8],
-    flat: &[[u8; 5]],
+    records: &[[u8; 5]],
     n: usize,
     workers: [Worker; 32],
     right: &[f64],
     answers: &mut [f64],
 ) -> Answer
-    requires { ⌜ n ≤ length (now flat) ⌝ }
+    requires { ⌜ n ≤ length (now records) ⌝ }
     ensures { λ r. ⌜ record { answer = r; left = now (answers .exit) }
-        ≡ solveCall z (lent (now (matrix .entry)) (now (lists .entry)) (upTo n (now (flat .entry))) workers (z .workers)) (now (right .entry)) (now (answers .entry)) ⌝ }
+        ≡ solveCall z (lent (now (matrix .entry)) (now (lists .entry)) (upTo n (now (records .entry))) workers (z .workers)) (now (right .entry)) (now (answers .entry)) ⌝ }
 {
-    solving::solve(z, matrix, lists, &flat[..n], workers, right, answers)
+    solving::solve(z, matrix, lists, &records[..n], workers, right, answers)
 }

@@ -30,8 +30,8 @@ fn solve_with(
     ensures { λ r. ⌜ record { answer = r; left = now (answers .exit) }
         ≡ answered Accepted (now (answers .entry)) (solved (planOf z) (record { matrix = now (matrix .entry); lists = now (lists .entry) }) (now (right .entry))) ⌝ }
 {
-    let n = z.tiles * z.side;
-    solve_in(z, matrix, lists, right, answers, &mut work[..n])
+    let order = z.tiles * z.side;
+    solve_in(z, matrix, lists, right, answers, &mut work[..order])
 }
 
 // Solves a factored system for one right side. The right side passes through the tasks as one more tile column, of width 1, then the

@@ -18,7 +18,7 @@ use Rattle.checks.specs.Checks.{Sized}
 use Rattle.checks.proofs.Laws.{sized}
 use Rattle.answers.specs.Answers.{accepts}
 use Rattle.answers.proofs.Refusals.{refuses, passes, Fit, lengths-fit}
-use Rattle.states.specs.States.{stateAnswer, Sound}
+use Rattle.states.specs.States.{stateAnswer, Undamaged}
 
 -- ---- one by one
 
@@ -52,7 +52,7 @@ module _ (z : Sizes) (m : List Float) (l : List ℕ) (r : List (List ℕ)) (ws :
 
   -- ---- all passed
 
-  pub sound : stateAnswer z old ≡ Accepted → Sound z m l r ws
+  pub sound : stateAnswer z old ≡ Accepted → Undamaged z m l r ws
   unfolding stateAnswer
   sound e =
       let a = passed 1 0 (badSizes z) _ e in

@@ -1,4 +1,4 @@
--- The refusals that takes, columns, runs and solves share, and what is lent where none of them holds. Assumes nothing.
+-- The refusals that a take and a column share, and what is lent where none of them holds. Assumes nothing.
 use Prim.Native.Nat.{ℕ}
 use mathlib.Core.Path.{_≡_}
 use mathlib.Core.Bool.{false}
@@ -14,6 +14,7 @@ use Rattle.model.specs.Refusal.{refuse, _otherwise_, badSizes, badLengths, dama
 use Rattle.records.specs.Records.{lent}
 use Rattle.checks.specs.Checks.{Sized, MatrixFits, ListsFit, RecordsFit}
 
+-- refusals 1, 2 and 4 but for elements
 unfoldable pub stateAnswer : Sizes → Lent → Answer
 stateAnswer z s =
     refuse 1 0 (badSizes z)
@@ -22,7 +23,7 @@ stateAnswer z s =
     otherwise Accepted
 
 -- sizes in their ranges, lengths as stated, and nothing damaged
-pub record Sound (z : Sizes) (m : List Float) (l : List ℕ) (r : List (List ℕ)) (ws : List Worker) : Type 0 where
+pub record Undamaged (z : Sizes) (m : List Float) (l : List ℕ) (r : List (List ℕ)) (ws : List Worker) : Type 0 where
   pub sizes : Sized z
   pub matrix-fits : MatrixFits z m
   pub lists-fit : ListsFit z l

@@ -1,4 +1,4 @@
-// Refusals 1, 2 and 4 but for elements: what takes, columns, runs and solves look at first.
+// Refusals 1, 2 and 4 but for elements: what a take and a column look at first.
 ghost use mathlib.Core.Path.{_≡_};
 ghost use Rattle.records.specs.Records.{lent};
 ghost use Rattle.states.specs.States.{stateAnswer};

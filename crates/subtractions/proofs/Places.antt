@@ -7,9 +7,9 @@ use lib.ListN.{length}
 use lib.Ieee.{Float}
 use Rattle.model.specs.declared.Sizes.{Sizes}
 use Rattle.column_laws.specs.Steps.{tileStart}
-use Rattle.column_laws.proofs.Rows.{row-room}
-use Rattle.column_laws.proofs.Places.{slot-room, place-room, square-most, matrix-most}
-use Rattle.subtractions.specs.Subtracted.{Upper}
+use Rattle.column_laws.proofs.Places.{matrix-most}
+use Rattle.laws.proofs.Blocks.{row-end, place-room, square-most}
+use Rattle.subtractions.specs.Subtracted.{BackwardFits}
 
 -- row r of tile (i,j), and part j of the right side
 pub record Placed (z : Sizes) (m y : List Float) (i j r : ℕ) : Type 0 where
@@ -20,14 +20,14 @@ pub record Placed (z : Sizes) (m y : List Float) (i j r : ℕ) : Type 0 where
   pub part : j * z .side + z .side ≤ length y
   pub right-few : length y ≤ 256
 
-pub placed : {z : Sizes} {m y : List Float} → Upper z m y → (i j r : ℕ) → i < z .tiles → j < z .tiles → r < z .side → Placed z m y i j r
+pub placed : {z : Sizes} {m y : List Float} → BackwardFits z m y → (i j r : ℕ) → i < z .tiles → j < z .tiles → r < z .side → Placed z m y i j r
 placed {z} {m} {y} u i j r hi hj hr =
     let few : z .tiles * z .side ≤ 256 = mul-le-mul (u .tiles-most) (u .side-most) in
     record {
       room = omega (arith, u .matrix-long, place-room (z .tiles) (z .side * z .side) i j hi hj);
-      row = row-room (z .side) (z .side) r hr;
+      row = row-end r (z .side) (z .side) hr;
       square = square-most (z .side) (u .side-most);
       numbers-few = omega (arith, u .matrix-long, matrix-most (z .tiles) (z .side) (u .tiles-most) (u .side-most));
-      part = omega (arith, u .long, slot-room (z .tiles) (z .side) j hj);
+      part = omega (arith, u .long, row-end j (z .tiles) (z .side) hj);
       right-few = omega (arith, u .long);
     }

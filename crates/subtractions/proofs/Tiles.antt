@@ -11,7 +11,7 @@ use Rattle.model.specs.Plan.{planOf}
 use Rattle.model.specs.Buffer.{Buffers}
 use Rattle.model.specs.Solve.{rowLeft}
 use Rattle.column_laws.specs.Steps.{tileStart}
-use Rattle.column_laws.proofs.Places.{slot-room}
+use Rattle.laws.proofs.Blocks.{row-end}
 use Rattle.subtractions.specs.Subtracted.{subtracted}
 use Rattle.subtractions.proofs.Segments.{row-run, row-split, factor-at}
 use Rattle.subtractions.proofs.Places.{Placed}
@@ -35,7 +35,7 @@ module _ (z : Sizes) (m : List Float) (l : List ℕ) (y : List Float) (i r : ℕ
   pub tiles-more : (j : ℕ) (d v whole : Float) → j < N → Placed z m y i j r → left (j * t) (N * t - j * t) d ≡ whole
       → v ≡ subtracted (λ k. getD m (tileStart N t i j + r * t + k) nan) (λ k. getD y (j * t + k) nan) 0 t d → left ((j + 1) * t) (N * t - (j + 1) * t) v ≡ whole
   tiles-more j d v whole hj p e q =
-      let all : N * t - j * t ≡ t + (N * t - (j + 1) * t) = omega (arith, slot-room N t j hj) in
+      let all : N * t - j * t ≡ t + (N * t - (j + 1) * t) = omega (arith, row-end j N t hj) in
       let next : (j + 1) * t ≡ j * t + t = omega arith in
       rw (q ∙ row-run (planOf z) s (i * t + r) y (tileStart N t i j + r * t) (j * t) t d m (λ c hc. factor-at N t i r j c m l (p .room) hr hc))
       (ap (λ (k : ℕ). left k (N * t - (j + 1) * t) (left (j * t) t d)) next ∙ sym (row-split (planOf z) s (i * t + r) y (j * t) t (N * t - (j + 1) * t) d) ∙ rw all at e)

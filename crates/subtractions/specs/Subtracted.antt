@@ -9,13 +9,13 @@ use Rattle.model.specs.declared.Sizes.{Sizes}
 use Rattle.model.specs.Num.{update}
 use Rattle.model.specs.Tile.{allFinite}
 
--- what is left of d once u j · v j is subtracted for n numbers j from j on, in turn, skipped where u j is a zero
+-- what is left of d once u j · v j is subtracted for the n places from j on, in turn, skipped where u j is a zero
 unfoldable pub subtracted : (ℕ → Float) → (ℕ → Float) → ℕ → ℕ → Float → Float
 subtracted u v j zero d = d
 subtracted u v j (suc n) d = subtracted u v (suc j) n (update d (u j) (v j))
 
 -- a finite matrix, and a right side as long as its order
-pub record Upper (z : Sizes) (m y : List Float) : Type 0 where
+pub record BackwardFits (z : Sizes) (m y : List Float) : Type 0 where
   pub tiles-most : z .tiles ≤ 16
   pub side-most : z .side ≤ 16
   pub matrix-long : length m ≡ z .tiles * z .side * (z .tiles * z .side)

@@ -8,12 +8,12 @@ ghost use Rattle.model.specs.Lists.{run};
 ghost use Rattle.model.specs.Num.{update as updated};
 ghost use Rattle.model.specs.Plan.{planOf};
 ghost use Rattle.model.specs.Solve.{rowLeft};
-ghost use Rattle.subtractions.specs.Subtracted.{subtracted, Upper};
+ghost use Rattle.subtractions.specs.Subtracted.{subtracted, BackwardFits};
 use model::Sizes;
 use places::place::tile_start;
 
-// What is left of d once u·y[p] is subtracted, or d itself where u is a zero. Only where u is none is y read, which keeps a branch that
-// is foreseen in place of a choice that each subtraction would wait for.
+// What is left of d once u·y[p] is subtracted, or d itself where u is a zero. y is read only where u is none: that leaves a branch, which is
+// predicted, and no subtraction waits for a choice.
 fn subtract_one(d: f64, u: f64, y: &[f64], p: usize) -> f64
     requires { ⌜ p < length (now y) ⌝ }
     ensures { λ r. ⌜ r ≡ updated d u (getD (now (y .entry)) p nan) ⌝ }
@@ -38,7 +38,7 @@ pub fn subtract(matrix: &[f64], y: &[f64], a: usize, b: usize, count: usize, d: 
 
 // What is left of d once u·y is subtracted for the columns of the tiles right of the diagonal tile in row r of tile row i, left to right.
 pub fn subtract_tiles(z: Sizes, matrix: &[f64], y: &[f64], i: usize, r: usize, d: f64) -> f64
-    requires { ⌜ Upper z (now matrix) (now y) ⌝ }
+    requires { ⌜ BackwardFits z (now matrix) (now y) ⌝ }
     requires { ⌜ (i < z .tiles) × (r < z .side) ⌝ }
     ensures { λ v. ⌜ ((lists : List ℕ) → v ≡ rowLeft (planOf z) (record { matrix = now (matrix .entry); lists = lists }) (i * z .side + r) (now (y .entry))
         (run (suc i * z .side) (z .tiles * z .side - suc i * z .side)) d) ⌝ }

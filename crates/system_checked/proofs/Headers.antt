@@ -1,23 +1,24 @@
 -- What an accepted header tells, and what a file answers by its header and by following the frames behind it. Assumes nothing.
 use Prim.Native.Nat.{ℕ, _*_, _≤_}
 use mathlib.Core.Path.{_≡_, refl, sym, ap, _∙_}
-use mathlib.Core.Bool.{Bool, true, false, not, _&&_, _||_}
+use mathlib.Core.Bool.{Bool, true, false, not, _||_}
 use mathlib.Core.List.{List, [], _∷_}
 use native.Mathlib.Omega.{arith}
-use lib.Dec.{eqb, leb, ltb}
+use lib.Dec.{eqb, ltb}
 use lib.ListN.{length, drop}
-use borrow.Author.Tests.{ltb-false, leb-true, not-false}
-use Rattle.laws.proofs.Tests.{and-left, and-right}
+use borrow.Author.Tests.{ltb-false}
+use Rattle.laws.proofs.Tests.{or-false-left}
+use Rattle.laws.proofs.Refusals.{shape-range}
 use Rattle.model.specs.declared.Answer.{Answer}
 use Rattle.model.specs.declared.Answer.the-variants.{Accepted, Refused}
-use Rattle.model.specs.Refusal.{refuse, inside}
+use Rattle.model.specs.Refusal.{refuse}
 use Rattle.model.specs.Text.{badShape}
 use Rattle.model.specs.Read.{Frame, kindIn, tilesIn, sideIn, linesFrom, fileAnswer}
 use Rattle.lines_read.specs.Line.{malformed}
 use Rattle.lines_read.proofs.Tested.{well-formed}
 use Rattle.header_read.specs.declared.Header.{Header}
 use Rattle.header_read.specs.declared.Header.the-variants.{Shape, Unread}
-use Rattle.cursors.specs.Steps.{Placed}
+use Rattle.cursors.specs.Steps.{CursorFits}
 use Rattle.frames_read.specs.Follow.{follow, textEnd}
 use Rattle.header_read.specs.Heads.{headerLine, headerAnswer, shaped, headerOf}
 use Rattle.frames_read.proofs.Lines.{whole-line}
@@ -32,20 +33,6 @@ pub record HeaderFacts (text : List ℕ) (N t : ℕ) : Type 0 where
   pub lines : linesFrom [] text ≡ headerLine text ∷ linesFrom [] (drop 7 text)
   pub tiles : (1 ≤ N) × (N ≤ 16)
   pub side : (1 ≤ t) × (t ≤ 16)
-
-pub in-range : (x : ℕ) → inside 16 x ≡ true → (1 ≤ x) × (x ≤ 16)
-unfolding inside
-in-range x e = (leb-true 1 x (and-left (leb 1 x) (leb x 16) e), leb-true x 16 (and-right (leb 1 x) (leb x 16) e))
-
-or-left-false : (a b : Bool) → (a || b) ≡ false → a ≡ false
-or-left-false true b e = e
-or-left-false false b e = refl
-
-shape-range : (N t : ℕ) → badShape N t ≡ false → ((1 ≤ N) × (N ≤ 16)) × ((1 ≤ t) × (t ≤ 16))
-unfolding badShape
-shape-range N t e =
-    let both = not-false (inside 16 N && inside 16 t) e in
-    (in-range N (and-left (inside 16 N) (inside 16 t) both), in-range t (and-right (inside 16 N) (inside 16 t) both))
 
 pub header-facts : (limit : ℕ) (text : List ℕ) → headerAnswer limit text ≡ Accepted → HeaderFacts text (tilesIn (headerLine text)) (sideIn (headerLine text))
 unfolding headerAnswer refuse
@@ -66,7 +53,7 @@ header-facts limit text e =
     go false false false false true p q r e = let z : _≡_ {A = ℕ} 0 1 = cc in absurd (omega arith)
     go false false false false false p q r e =
         let l = ltb-false (length text) 7 p in
-        let f = shape-range (tilesIn (headerLine text)) (sideIn (headerLine text)) (or-left-false (badShape (tilesIn (headerLine text)) (sideIn (headerLine text))) _ r) in
+        let f = shape-range (tilesIn (headerLine text)) (sideIn (headerLine text)) (or-false-left (badShape (tilesIn (headerLine text)) (sideIn (headerLine text))) _ r) in
         record { long = l; lines = whole-line 7 text (omega arith) l (well-formed 0 (headerLine text) q); tiles = f .0; side = f .1 }
 
 pub facts : {limit N t : ℕ} {text : List ℕ} → Headed limit text N t → HeaderFacts text N t
@@ -89,7 +76,7 @@ refusal-read limit text r n x e q = go (headerAnswer limit text) refl (sym q ∙
     go Accepted p e = let z : _≡_ {A = ℕ} 0 1 = cc in absurd (omega arith)
     go (Refused m y) p e = cc
 
-pub start-placed : (text : List ℕ) → 7 ≤ length text → Placed text start
+pub start-placed : (text : List ℕ) → 7 ≤ length text → CursorFits text start
 start-placed text h = record { within = h; counted = omega arith }
 
 -- ---- the whole file

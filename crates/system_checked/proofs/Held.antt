@@ -10,22 +10,23 @@ use lib.Seq.{take-at}
 use lib.Ieee.{Float, nan, binary64, ofBits}
 use borrow.Author.Tests.{ltb-false}
 use Rattle.laws.proofs.Blocks.{getD-table}
+use Rattle.laws.proofs.Every.{every-at}
+use Rattle.laws.proofs.Runs.{length-map-below}
+use Rattle.laws.proofs.Texts.{length-tile-frames}
 use Rattle.model.specs.declared.Answer.the-variants.{Accepted}
 use Rattle.model.specs.Lists.{below, table, joined}
 use Rattle.model.specs.Num.{finite}
 use Rattle.model.specs.Tile.{allFinite}
 use Rattle.model.specs.Refusal.{refuse}
 use Rattle.model.specs.Read.{Frame, field, lineLength, linesFrom, lastLine, numbersIn, tileFrames, tilesOf}
-use Rattle.digits_read.proofs.Fields.{every-at}
 use Rattle.lines_read.proofs.Tested.{line-of-digits}
 use Rattle.cursors.specs.declared.Cursor.{Cursor}
 use Rattle.cursors.specs.declared.Step.{Step}
 use Rattle.cursors.specs.declared.Step.the-variants.{Next, Stopped}
-use Rattle.cursors.specs.Steps.{Placed}
+use Rattle.cursors.specs.Steps.{CursorFits}
 use Rattle.frames_read.specs.Follow.{onward, follow, rowFrames, textEnd}
 use Rattle.frames_read.proofs.Rows.{follow-append, follow-placed}
 use Rattle.numbers_read.specs.Decoded.{lineAt, tileSize, numbersOf, TileLine, TileLines, tilesFrom}
-use Rattle.numbers_read.proofs.Filled.{length-table, length-joined}
 use Rattle.system_checked.proofs.Uniform.{AllKind, all-map, all-joined, Checked, Uniform, uniform}
 
 -- ---- to the end of the text
@@ -71,10 +72,6 @@ module _ (N : ℕ) where
   unfolding tileFrames
   tiles-kind = all-joined 2 (rowFrames 2 N) (below N) (λ i. all-map 2 (λ j. record { kind = 2; i = i; j = j }) (below N) (λ j. refl))
 
-  pub tiles-count : length (tileFrames N) ≡ N * N
-  unfolding tileFrames
-  tiles-count = length-joined N (rowFrames 2 N) (λ i. length-table (λ j. record { kind = 2; i = i; j = j }) N) N
-
 tile-line : (t : ℕ) (l : List ℕ) → Checked t 2 l → TileLine (t * t) l
 unfolding lineLength allFinite numbersIn table
 tile-line t l c = record {
@@ -82,23 +79,23 @@ tile-line t l c = record {
   digits = line-of-digits l (omega (arith, c .size)) (c .clean);
   finite-each = λ x h.
       let num : ℕ → Float = λ y. ofBits binary64 (field (6 + 16 * y) 16 l) in
-      let e = every-at finite (map num (below (t * t))) x nan (c .numbers refl) (rw (length-table num (t * t)) h) in
+      let e = every-at finite (map num (below (t * t))) nan x (c .numbers refl) (rw (length-map-below num (t * t)) h) in
       rw (getD-table (t * t) num x nan h) at e;
 }
 
-module _ (t N : ℕ) (text : List ℕ) (c d : Cursor) (p : Placed text c) (e : follow t text (tileFrames N) c ≡ Next d) where
+module _ (t N : ℕ) (text : List ℕ) (c d : Cursor) (p : CursorFits text c) (e : follow t text (tileFrames N) c ≡ Next d) where
   pub tiles-followed : Uniform t 2 text (tileFrames N) c d
   tiles-followed = uniform t text 2 (tileFrames N) c d (tiles-kind N) e
 
   pub tiles-end : d .at ≡ c .at + N * N * tileSize (t * t)
   unfolding lineLength
-  tiles-end = tiles-followed .ends ∙ ap (λ (n : ℕ). c .at + n * tileSize (t * t)) (tiles-count N)
+  tiles-end = tiles-followed .ends ∙ ap (λ (n : ℕ). c .at + n * tileSize (t * t)) (length-tile-frames N)
 
   pub tile-lines : TileLines (t * t) (N * N) (c .at) text
   unfolding lineLength
   tile-lines = record {
     room = omega (arith, tiles-end, follow-placed t text (tileFrames N) c d p e .within);
-    each = λ q h. tile-line t (lineAt (c .at + q * tileSize (t * t)) (tileSize (t * t)) text) (tiles-followed .each q (rw (tiles-count N) h));
+    each = λ q h. tile-line t (lineAt (c .at + q * tileSize (t * t)) (tileSize (t * t)) text) (tiles-followed .each q (rw (length-tile-frames N) h));
   }
 
   -- the tiles' lines, and those behind them
@@ -106,12 +103,12 @@ module _ (t N : ℕ) (text : List ℕ) (c d : Cursor) (p : Placed text c) (e : f
   unfolding lineLength
   lines-tiles =
       tiles-followed .lines
-      ∙ ap (λ (n : ℕ). map (λ q. lineAt (c .at + q * tileSize (t * t)) (tileSize (t * t)) text) (below n) ++ linesFrom [] (drop (d .at) text)) (tiles-count N)
+      ∙ ap (λ (n : ℕ). map (λ q. lineAt (c .at + q * tileSize (t * t)) (tileSize (t * t)) text) (below n) ++ linesFrom [] (drop (d .at) text)) (length-tile-frames N)
 
   pub tiles-read : tilesOf N t (linesFrom [] (drop (c .at) text)) ≡ tilesFrom (t * t) (N * N) (c .at) text
   unfolding tilesOf tilesFrom numbersIn numbersOf
   tiles-read =
       let g : ℕ → List ℕ = λ q. lineAt (c .at + q * tileSize (t * t)) (tileSize (t * t)) text in
       ap (λ (ls : List (List ℕ)). joined (map (numbersIn t) (take (N * N) ls))) lines-tiles
-      ∙ ap (λ (ls : List (List ℕ)). joined (map (numbersIn t) ls)) (take-at (map g (below (N * N))) (linesFrom [] (drop (d .at) text)) (N * N) (length-table g (N * N)))
+      ∙ ap (λ (ls : List (List ℕ)). joined (map (numbersIn t) ls)) (take-at (map g (below (N * N))) (linesFrom [] (drop (d .at) text)) (N * N) (length-map-below g (N * N)))
       ∙ ap joined (map-map (numbersIn t) g (below (N * N)))

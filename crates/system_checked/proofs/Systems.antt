@@ -1,16 +1,12 @@
 -- Checking a system by its header and its frames is checking it by the definition. Assumes nothing.
 use Prim.Native.Nat.{ℕ, _*_}
 use mathlib.Core.Path.{_≡_, refl, sym, ap, _∙_}
-use mathlib.Core.Bool.{Bool, true, false}
+use mathlib.Core.Bool.{Bool, false}
 use mathlib.Core.List.{List, []}
-use lib.ListN.{length}
 use lib.Ieee.{Float}
-use borrow.Author.Tests.{eq-eqb, ne-eqb}
 use Rattle.model.specs.declared.Answer.the-variants.{Accepted, Refused}
 use Rattle.model.specs.declared.ReadAnswer.the-variants.{SystemRead, ReadRefused}
-use Rattle.model.specs.Plan.{plan, order}
 use Rattle.model.specs.Refusal.{refuse}
-use Rattle.model.specs.Text.{badMatrix}
 use Rattle.model.specs.Read.{linesFrom, systemFrames, tileFrames, fileAnswer, SystemReading, systemReading}
 use Rattle.frames_read.specs.Follow.{follow, textEnd}
 use Rattle.header_read.specs.Heads.{headerAnswer}
@@ -18,16 +14,6 @@ use Rattle.numbers_read.specs.Decoded.{tilesFrom}
 use Rattle.system_checked.specs.Files.{Headed, start, checkedSystem}
 use Rattle.system_checked.proofs.Headers.{facts, start-placed, file-refused, file-followed}
 use Rattle.system_checked.proofs.Held.{to-end, tiles-read}
-
--- ---- lengths
-
-pub length-right : (N t : ℕ) (m : List Float) → length m ≡ N * t * (N * t) → badMatrix N t m ≡ false
-unfolding badMatrix order plan
-length-right N t m e = rw (eq-eqb (length m) (N * t * (N * t)) e)
-
-pub length-wrong : (N t : ℕ) (m : List Float) → (length m ≡ N * t * (N * t) → ⊥) → badMatrix N t m ≡ true
-unfolding badMatrix order plan
-length-wrong N t m n = rw (ne-eqb (length m) (N * t * (N * t)) n)
 
 -- ---- what is read, by what the file answers
 

@@ -14,7 +14,7 @@ use model::Answer;
 use model::ReadAnswer;
 
 // 14 where text comes behind the last frame, and else what the frames answered.
-pub fn ended(text: &[u8], step: Step) -> Answer
+pub fn text_end(text: &[u8], step: Step) -> Answer
     ensures { λ r. ⌜ r ≡ textEnd (now (text .entry)) step ⌝ }
 {
     match step {
@@ -34,7 +34,7 @@ pub fn check_system_lines(text: &[u8], tiles: usize, side: usize) -> Answer
     requires { ⌜ (7 ≤ length (now text)) × (side ≤ 16) ⌝ }
     ensures { λ r. ⌜ r ≡ textEnd (now (text .entry)) (follow side (now (text .entry)) (systemFrames tiles) start) ⌝ }
 {
-    ended(
+    text_end(
         text,
         check_tiles(text, Cursor { at: 7, line: 2 }, tiles, side),
     )

@@ -16,7 +16,8 @@ use Rattle.numbers_read.specs.Decoded.{TileLines, tilesFrom}
 use Rattle.system_checked.specs.Files.{Headed, start}
 use Rattle.system_checked.proofs.Headers.{facts, start-placed, file-refused, file-followed}
 use Rattle.system_checked.proofs.Held.{to-end, tile-lines}
-use Rattle.system_checked.proofs.Systems.{length-right, length-wrong, reading, refused, by-frames, accepted}
+use Rattle.system_checked.proofs.Systems.{reading, refused, by-frames, accepted}
+use Rattle.laws.proofs.Refusals.{right-matrix, wrong-matrix}
 
 -- ---- into a lent matrix
 
@@ -30,18 +31,18 @@ module _ (text : List ℕ) (m : List Float) where
     unfolding readSystem reading refuse
     length-refused n =
         refused (λ N t. badMatrix N t m) noLimit text m 2 0
-        (file-followed noLimit systemFrames (λ N t. badMatrix N t m) text N t h ∙ ap (λ (b : Bool). refuse 2 0 b (textEnd text (follow t text (systemFrames N) start))) (length-wrong N t m n))
+        (file-followed noLimit systemFrames (λ N t. badMatrix N t m) text N t h ∙ ap (λ (b : Bool). refuse 2 0 b (textEnd text (follow t text (systemFrames N) start))) (wrong-matrix N t m n))
 
     module _ (l : length m ≡ N * t * (N * t)) where
       pub lines-refused : (n x : ℕ) → textEnd text (follow t text (systemFrames N) start) ≡ Refused n x → record { answer = ReadRefused n x; matrix = m } ≡ readSystem text m
       unfolding readSystem reading
-      lines-refused n x e = refused (λ N t. badMatrix N t m) noLimit text m n x (by-frames (λ N t. badMatrix N t m) noLimit text m N t h (length-right N t m l) ∙ e)
+      lines-refused n x e = refused (λ N t. badMatrix N t m) noLimit text m n x (by-frames (λ N t. badMatrix N t m) noLimit text m N t h (right-matrix N t m l) ∙ e)
 
       pub system-read : (m′ : List Float) → textEnd text (follow t text (systemFrames N) start) ≡ Accepted → m′ ≡ tilesFrom (t * t) (N * N) 7 text
           → record { answer = SystemRead N t; matrix = m′ } ≡ readSystem text m
       unfolding readSystem reading
       system-read m′ e q =
-          ap (λ (f : List Float). record { answer = SystemRead N t; matrix = f }) q ∙ accepted (λ N t. badMatrix N t m) noLimit text m N t h (length-right N t m l) e
+          ap (λ (f : List Float). record { answer = SystemRead N t; matrix = f }) q ∙ accepted (λ N t. badMatrix N t m) noLimit text m N t h (right-matrix N t m l) e
 
 -- ---- what loading asks
 

@@ -14,8 +14,8 @@ fn read_system_lines(text: &[u8], tiles: usize, side: usize, matrix: &mut [f64])
     requires { ⌜ Headed noLimit (now text) tiles side ⌝ }
     ensures { λ r. ⌜ record { answer = r; matrix = now (matrix .exit) } ≡ readSystem (now (text .entry)) (now (matrix .entry)) ⌝ }
 {
-    let n = tiles * side;
-    if matrix.len() != n * n {
+    let order = tiles * side;
+    if matrix.len() != order * order {
         return ReadAnswer::ReadRefused(2, 0);
     }
     match check_system_lines(text, tiles, side) {

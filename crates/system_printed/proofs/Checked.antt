@@ -1,15 +1,17 @@
 -- What is known of a text that is a system with n at most 48: what the program prints for it, and what reading it gives. Assumes nothing.
 use Prim.Native.Nat.{ℕ, suc, _*_, _≤_}
 use mathlib.Core.Path.{_≡_, refl, ap, _∙_}
-use mathlib.Core.Bool.{Bool, true, false, not, _&&_, _||_}
-use mathlib.Core.List.{List, [], _∷_, _++_, map}
+use mathlib.Core.Bool.{true, false, not, _||_}
+use mathlib.Core.List.{List, [], _∷_, map}
 use native.Mathlib.Nat.{mul-le-mul, mul-assoc}
 use native.Mathlib.Omega.{arith}
 use lib.Dec.{eqb, ltb}
 use lib.ListN.{length, take}
 use lib.Ieee.{Float}
-use borrow.Author.Tests.{ltb-false, le-ltb, eq-eqb, not-false}
-use Rattle.laws.proofs.Tests.{and-left, and-right, and-intro, or-false}
+use borrow.Author.Tests.{ltb-false, le-ltb, eq-eqb}
+use Rattle.laws.proofs.Tests.{or-false}
+use Rattle.laws.proofs.Every.{every-both}
+use Rattle.laws.proofs.Texts.{length-tile-frames}
 use Rattle.model.specs.declared.Answer.{Answer}
 use Rattle.model.specs.declared.Answer.the-variants.{Accepted, Refused}
 use Rattle.model.specs.declared.ReadAnswer.the-variants.{SystemRead}
@@ -17,24 +19,15 @@ use Rattle.model.specs.Lists.{every, joined}
 use Rattle.model.specs.Num.{finite}
 use Rattle.model.specs.Tile.{allFinite}
 use Rattle.model.specs.Plan.{plan, order}
-use Rattle.model.specs.Refusal.{inside}
 use Rattle.model.specs.Text.{badShape, badMatrix}
 use Rattle.model.specs.Read.{Frame, kindIn, numbersIn, notFiniteIn, badLine, wrongFrame, lineAnswer, linesAnswer, tilesIn, sideIn, linesFrom, systemFrames, tileFrames, fileAnswer, tilesOf, systemReading, noLimit, readSystem, resultOf, printed, program}
-use Rattle.system_checked.proofs.Headers.{in-range}
-use Rattle.laws.proofs.Refusals.{passed}
+use Rattle.laws.proofs.Refusals.{passed, shape-range}
 use Rattle.answers.proofs.Refusals.{passes}
 use Rattle.system_checked.specs.Files.{checkedSystem}
 use Rattle.system_checked.proofs.Uniform.{AllKind, finite-of}
-use Rattle.system_checked.proofs.Held.{tiles-kind, tiles-count}
+use Rattle.system_checked.proofs.Held.{tiles-kind}
 
 -- ---- the numbers of accepted tiles are finite
-
-module _ {A : Type 0} (p : A → Bool) where
-  every-append : (xs ys : List A) → every p xs ≡ true → every p ys ≡ true → every p (xs ++ ys) ≡ true
-  unfolding every
-  every-append [] ys a b = b
-  every-append (x ∷ xs) ys a b =
-      and-intro (p x) (every p (xs ++ ys)) (and-left (p x) (every p xs) a) (every-append xs ys (and-right (p x) (every p xs) a) b)
 
 finite-tiles : (t x : ℕ) (fs : List Frame) (ls : List (List ℕ)) → AllKind 2 fs → linesAnswer t x fs ls ≡ Accepted
     → allFinite (joined (map (numbersIn t) (take (length fs) ls))) ≡ true
@@ -45,7 +38,7 @@ finite-tiles t x (f ∷ fs) (l ∷ ls) (k, a) e =
     let p = passed 12 x (badLine t (f .kind) l) _ e in
     let q = passed 13 x (wrongFrame f l) _ (p .1) in
     let r = passed 3 x (notFiniteIn t f l) _ (q .1) in
-    every-append finite (numbersIn t l) (joined (map (numbersIn t) (take (length fs) ls))) (finite-of t f l k (r .0)) (finite-tiles t (suc x) fs ls a (r .1))
+    every-both finite (numbersIn t l) (joined (map (numbersIn t) (take (length fs) ls))) (finite-of t f l k (r .0)) (finite-tiles t (suc x) fs ls a (r .1))
 
 -- ---- a checked system
 
@@ -99,7 +92,7 @@ module _ (text h : List ℕ) (ls : List (List ℕ)) (lines : linesFrom [] text �
     shape = all-passed .shape;
     small = all-passed .small;
     numbers = tilesOf N t ls;
-    all-finite = rw (tiles-count N) at (finite-tiles t 2 (tileFrames N) ls (tiles-kind N) (all-passed .behind));
+    all-finite = rw (length-tile-frames N) at (finite-tiles t 2 (tileFrames N) ls (tiles-kind N) (all-passed .behind));
     prints = ap (λ (ks : List (List ℕ)). printed (answerIn ks) ks) lines ∙ ap (λ (a : Answer). printed a (h ∷ ls)) accepted;
     reads = λ m e.
         ap (λ (ks : List (List ℕ)). systemReading (fileAnswer noLimit systemFrames (λ N t. badMatrix N t m) ks) ks m) lines
@@ -128,13 +121,11 @@ pub record Small (N t : ℕ) : Type 0 where
   pub listed : N * N * t ≤ 768
 
 pub small-sizes : {text : List ℕ} {N t : ℕ} → Checked text N t → Small N t
-unfolding badShape
 small-sizes {text} {N} {t} c =
-    let both = not-false (inside 16 N && inside 16 t) (c .shape) in
-    let n = in-range N (and-left (inside 16 N) (inside 16 t) both) in
+    let (n, s) = shape-range N t (c .shape) in
     record {
       tiles = n;
-      side = in-range t (and-right (inside 16 N) (inside 16 t) both);
+      side = s;
       order = c .small;
       size = mul-le-mul (c .small) (c .small);
       squares = mul-le-mul (n .1) (n .1);

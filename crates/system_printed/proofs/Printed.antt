@@ -14,7 +14,7 @@ use Rattle.model.specs.Plan.{plan, order}
 use Rattle.model.specs.Refusal.{refuse}
 use Rattle.model.specs.Text.{resultText, writing, badMatrix, badLists, writeResult}
 use Rattle.model.specs.Read.{SystemReading, readSystem, resultOf, program}
-use Rattle.one_worker.specs.Alone.{Lendable, Factored, alone}
+use Rattle.one_worker.specs.Alone.{Lendable, Result, alone}
 use Rattle.rows_written.specs.Rows.{systemLength, resultLength}
 use Rattle.rows_written.proofs.Shapes.{bounds, enough, small-tiles, half}
 use Rattle.result_written.proofs.Answers.{length-result}
@@ -47,7 +47,7 @@ module _ (text : List ℕ) (N t : ℕ) (c : Checked text N t) where
   module _ (M m′ : List Float) (l′ : List ℕ) (o : Outcome) (is : M ≡ c .numbers) (e : record { buffers = record { matrix = m′; lists = l′ }; outcome = o } ≡ alone (plan N t) M) where
     result-is : program text ≡ resultText (plan N t) (record { matrix = m′; lists = l′ }) o
     unfolding alone resultOf
-    result-is = c .prints ∙ sym (ap (λ (k : Factored). resultText (plan N t) (k .buffers) (k .outcome)) (e ∙ ap (alone (plan N t)) is))
+    result-is = c .prints ∙ sym (ap (λ (k : Result). resultText (plan N t) (k .buffers) (k .outcome)) (e ∙ ap (alone (plan N t)) is))
 
     pub result-printed : (out : List ℕ) → length m′ ≡ N * t * (N * t) → length l′ ≡ N * N * t → writeResult N t m′ l′ o out ≡ printResult text out
     unfolding writeResult refuse badMatrix badLists order plan

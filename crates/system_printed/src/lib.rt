@@ -61,15 +61,15 @@ pub fn print_system(text: &[u8], tiles: usize, side: usize, out: &mut [u8]) -> W
     let mut numbers = blank_numbers();
     let mut entries = blank_entries();
     let mut records = blank_records();
-    let n = tiles * side;
-    let size = n * n;
+    let order = tiles * side;
+    let elements = order * order;
     let listed = tiles * tiles * side;
     let count = task_count(tiles);
     print_worked(
         text,
         tiles,
         side,
-        &mut numbers[..size],
+        &mut numbers[..elements],
         &mut entries[..listed],
         &mut records[..count],
         out,

@@ -7,14 +7,14 @@ use native.Mathlib.Omega.{arith}
 use lib.ListN.{length, length-append}
 use lib.Dec.{ltb}
 use lib.Ieee.{Float}
-use borrow.Author.Tests.{eq-eqb, ne-eqb}
 use Rattle.model.specs.declared.Answer.the-variants.{Accepted}
 use Rattle.model.specs.declared.WriteAnswer.the-variants.{Written, WriteRefused}
 use Rattle.model.specs.Lists.{withPart}
 use Rattle.model.specs.Refusal.{refuse}
-use Rattle.model.specs.Plan.{plan, order}
+use Rattle.model.specs.Plan.{plan}
 use Rattle.model.specs.Buffer.{tile, tileOf}
-use Rattle.model.specs.Text.{line, headerFrame, tileFrame, systemText, Writing, writing, badShape, badMatrix, writeSystem}
+use Rattle.model.specs.Text.{line, headerFrame, tileFrame, systemText, Writing, writing, badShape, writeSystem}
+use Rattle.laws.proofs.Refusals.{wrong-matrix, right-matrix}
 use Rattle.digits_written.proofs.Put.{Put, put-text, length-hex}
 use Rattle.digits_written.proofs.Pieces.{put-next}
 use Rattle.lines_written.proofs.Lines.{three}
@@ -49,15 +49,6 @@ module _ (N t : ℕ) (m : List Float) where
       put-text (put-next 7 (N * (N * (7 + t * t * 16))) (tileRows N (t * t) m) first (length-tile-rows N (t * t) m k) refl (omega arith) e₂) (sym (system-is []))
 
 -- ---- what the call answers
-
-module _ (N t : ℕ) (m : List Float) where
-  pub wrong-matrix : (length m ≡ N * t * (N * t) → ⊥) → badMatrix N t m ≡ true
-  unfolding badMatrix order plan
-  wrong-matrix h = rw (ne-eqb (length m) (N * t * (N * t)) h)
-
-  pub right-matrix : length m ≡ N * t * (N * t) → badMatrix N t m ≡ false
-  unfolding badMatrix order plan
-  right-matrix h = rw (eq-eqb (length m) (N * t * (N * t)) h)
 
 module _ (N t : ℕ) (m : List Float) (text : List ℕ) where
   pub system-shape : badShape N t ≡ true → _≡_ {A = Writing} (record { answer = WriteRefused 1 0; left = text }) (writeSystem N t m text)

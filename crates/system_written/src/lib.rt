@@ -34,10 +34,10 @@ pub fn write_system(n: usize, t: usize, matrix: &[f64], text: &mut [u8]) -> Writ
     if matrix.len() != n * t * (n * t) {
         return WriteAnswer::WriteRefused(2, 0);
     }
-    let size = system_length(n, t);
-    if text.len() < size {
+    let length = system_length(n, t);
+    if text.len() < length {
         return WriteAnswer::WriteRefused(15, 0);
     }
     put_system(text, matrix, n, t);
-    WriteAnswer::Written(size)
+    WriteAnswer::Written(length)
 }

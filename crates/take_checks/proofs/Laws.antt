@@ -23,7 +23,7 @@ use Rattle.laws.proofs.Tests.{or-left, or-right, or-false-left}
 use Rattle.records.specs.Records.{marksFrom, lent}
 use Rattle.answers.specs.Answers.{accepts}
 use Rattle.answers.proofs.Refusals.{refuses, passes, is-accepted}
-use Rattle.states.specs.States.{stateAnswer, Sound}
+use Rattle.states.specs.States.{stateAnswer, Undamaged}
 use Rattle.states.proofs.Laws.{sound, goes-on, stops}
 use Rattle.call_laws.proofs.Undamaged.{worker-lent, workers-long}
 
@@ -54,7 +54,7 @@ module _ (z : Sizes) (m : List Float) (l : List ℕ) (r : List (List ℕ)) (ws :
     state-stops q = e ∙ stops z old (damaged (planOf z) old) false (λ h. h) (λ h. h) from-5 (ap accepts (sym e) ∙ sym f ∙ q)
 
     module _ (q : b ≡ true) (long : length ws ≡ 32) where
-      pub is-sound : Sound z m l r ws
+      pub is-sound : Undamaged z m l r ws
       is-sound = sound z m l r ws (sym e ∙ is-accepted a b f q)
 
       after-4 : from-5 ≡ takeAnswer z w p old
@@ -101,7 +101,7 @@ module _ (z : Sizes) (m : List Float) (l : List ℕ) (r : List (List ℕ)) (ws :
   -- ---- an accepted take
 
   pub record Accepting : Type 0 where
-    pub state : Sound z m l r ws
+    pub state : Undamaged z m l r ws
     pub worker-exists : w < z .workers
     pub task-exists : p < length (tasks (z .tiles))
 

@@ -13,18 +13,18 @@ pub fn take_part(
     z: Sizes,
     matrix: &[f64],
     lists: &[u8],
-    flat: &mut [[u8; 5]],
+    records: &mut [[u8; 5]],
     n: usize,
     workers: [Worker; 32],
     w: usize,
     p: usize,
 ) -> CallReply
-    requires { ⌜ n ≤ length (now flat) ⌝ }
+    requires { ⌜ n ≤ length (now records) ⌝ }
     ensures { λ r. ⌜ (record {
       answer = r .answer;
-      left = lent (now (matrix .entry)) (now (lists .entry)) (upTo n (now (flat .exit))) (r .workers) (z .workers);
-    } ≡ takeCall z w p (lent (now (matrix .entry)) (now (lists .entry)) (upTo n (now (flat .entry))) workers (z .workers)))
+      left = lent (now (matrix .entry)) (now (lists .entry)) (upTo n (now (records .exit))) (r .workers) (z .workers);
+    } ≡ takeCall z w p (lent (now (matrix .entry)) (now (lists .entry)) (upTo n (now (records .entry))) workers (z .workers)))
         × (drop (z .workers) (r .workers) ≡ drop (z .workers) workers) ⌝ }
 {
-    taking::take(z, matrix, lists, &mut flat[..n], workers, w, p)
+    taking::take(z, matrix, lists, &mut records[..n], workers, w, p)
 }

@@ -43,6 +43,17 @@ get-copied (suc k) p rs xs i h l b =
     ∙ getD-set-same xs p (getD rs p blank) blank (omega (arith, b, e)) ∙ ap (λ j. getD rs j blank) e)
     (lt-or-le p i)
 
+-- ---- the records from p to n - 1, one at a time
+
+module _ (n p : ℕ) (rs xs : List TaskRecord) where
+  pub copied-more : p < n → copied (n - p) p rs xs ≡ copied (n - (p + 1)) (p + 1) rs (set xs p (getD rs p blank))
+  unfolding copied
+  copied-more h = let e : n - p ≡ suc (n - (p + 1)) = omega (arith, h) in ap (λ (k : ℕ). copied k p rs xs) e
+
+  pub copied-none : n ≤ p → copied (n - p) p rs xs ≡ xs
+  unfolding copied
+  copied-none h = let e : n - p ≡ 0 = omega (arith, h) in ap (λ (k : ℕ). copied k p rs xs) e
+
 -- ---- the first n records
 
 module _ (n : ℕ) (rs xs : List TaskRecord) where

@@ -2,7 +2,7 @@
 --     shares-again     own (the `&κ mut [T]`) ∗ [κ]_q  ⊢ ⇛ ∃ γ. own (the `&κ′ [T]` named γ) ∗ Shared
 --     shared-back      [†κ′] ∗ Shared  ⊢ ⇛ (own (the `&κ mut [T]`) ∗ [κ]_q)
 -- Assumes `Given`.
-use mathlib.Core.Path.{_≡_, refl}
+use mathlib.Core.Path.{refl}
 use Prim.Native.Nat.{ℕ}
 use mathlib.Core.List.{List, [], _∷_}
 use lib.ListN.{length}

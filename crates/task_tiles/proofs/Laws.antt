@@ -1,11 +1,9 @@
--- A tile as a part of the matrix, and the tiles that a record's kind touches, in the order in which the code tests them. Assumes nothing.
-use Prim.Native.Nat.{ℕ, _+_, _-_, _*_}
+-- The tiles that a record's kind touches, in the order in which the code tests them. Assumes nothing.
+use Prim.Native.Nat.{ℕ}
 use mathlib.Core.Path.{_≡_, refl, sym, ap, _∙_}
 use mathlib.Core.Bool.{Bool, true, false, not, _&&_}
 use mathlib.Core.List.{List}
-use native.Mathlib.Nat.{add-sub-cancel-left}
 use lib.Ieee.{Float}
-use lib.ListN.{take, drop}
 use borrow.Author.Tests.{eq-eqb, ne-eqb}
 use Rattle.model.specs.declared.Sizes.{Sizes}
 use Rattle.model.specs.declared.TaskRecord.{TaskRecord}
@@ -15,15 +13,6 @@ use Rattle.model.specs.Task.{T-1, T-2, T-3, T-4, isList, reads, writes, touches
 use Rattle.model.specs.Plan.{plan, planOf}
 use Rattle.model.specs.Buffer.{Buffers, tile, tileOf, finiteIn, finiteTiles}
 use Rattle.checks.specs.Checks.{taskFrom}
-
--- a part of s numbers from a on, as the code cuts it
-cut : (m : List Float) (a s : ℕ) → take (a + s - a) (drop a m) ≡ take s (drop a m)
-cut m a s = rw (add-sub-cancel-left a s)
-
-pub tile-cut : (N t : ℕ) (m : List Float) (i j : ℕ) (v : Bool)
-    → v ≡ allFinite (take ((i * N + j) * (t * t) + t * t - (i * N + j) * (t * t)) (drop ((i * N + j) * (t * t)) m)) → v ≡ allFinite (tile N t m i j)
-unfolding tile
-tile-cut N t m i j v e = e ∙ ap allFinite (cut m ((i * N + j) * (t * t)) (t * t))
 
 module _ (z : Sizes) (m : List Float) (l : List ℕ) where
   abbrev F : ℕ → ℕ → Bool

@@ -5,27 +5,25 @@ ghost use mathlib.Core.List.{List};
 ghost use Prim.Native.Nat.{ℕ, _<_};
 ghost use Rattle.model.specs.Tile.{allFinite};
 ghost use Rattle.model.specs.Plan.{planOf};
-ghost use Rattle.model.specs.Buffer.{tile, finiteTiles};
+ghost use Rattle.model.specs.Buffer.{tile as tileOf, finiteTiles};
 ghost use Rattle.checks.specs.Checks.{Sized, MatrixFits, Inside, taskFrom};
 use finite_numbers::all_finite;
 use model::Sizes;
 use model::TaskRecord;
+use tile_parts::tile;
 
 // Whether every element of tile A(i,j) is finite.
 fn finite_tile(z: Sizes, matrix: &[f64], i: usize, j: usize) -> bool
     requires { ⌜ Sized z × MatrixFits z (now matrix) × (i < z .tiles) × (j < z .tiles) ⌝ }
-    ensures { λ r. ⌜ r ≡ allFinite (tile (z .tiles) (z .side) (now (matrix .entry)) i j) ⌝ }
+    ensures { λ r. ⌜ r ≡ allFinite (tileOf (z .tiles) (z .side) (now (matrix .entry)) i j) ⌝ }
 {
-    let size = z.side * z.side;
-    let start = (i * z.tiles + j) * size;
-    let end = start + size;
-    all_finite(&matrix[start..end])
+    all_finite(tile(z, matrix, i, j))
 }
 
 // Whether every element of tiles A(i,j) and A(k,l) is finite.
 fn finite_pair(z: Sizes, matrix: &[f64], i: usize, j: usize, k: usize, l: usize) -> bool
     requires { ⌜ Sized z × MatrixFits z (now matrix) × ((i < z .tiles) × (j < z .tiles) × (k < z .tiles) × (l < z .tiles)) ⌝ }
-    ensures { λ r. ⌜ r ≡ allFinite (tile (z .tiles) (z .side) (now (matrix .entry)) i j) && allFinite (tile (z .tiles) (z .side) (now (matrix .entry)) k l) ⌝ }
+    ensures { λ r. ⌜ r ≡ allFinite (tileOf (z .tiles) (z .side) (now (matrix .entry)) i j) && allFinite (tileOf (z .tiles) (z .side) (now (matrix .entry)) k l) ⌝ }
 {
     if !finite_tile(z, matrix, i, j) {
         return false;

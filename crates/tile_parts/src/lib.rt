@@ -7,7 +7,7 @@ use model::Sizes;
 use places::place::tile_start;
 
 // The t² numbers of tile (i,j).
-pub fn tile(matrix: &[f64], z: Sizes, i: usize, j: usize) -> &[f64]
+pub fn tile(z: Sizes, matrix: &[f64], i: usize, j: usize) -> &[f64]
     requires { ⌜ (z .tiles ≤ 16) × (z .side ≤ 16) × (i < z .tiles) × (j < z .tiles) × (length (now matrix) ≡ z .tiles * z .side * (z .tiles * z .side)) ⌝ }
     ensures { λ r. ⌜ now r ≡ tileOf (z .tiles) (z .side) (now (matrix .entry)) i j ⌝ }
 {

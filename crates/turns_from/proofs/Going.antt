@@ -23,9 +23,9 @@ use Rattle.model.specs.Calls.{Lent, RunEnd, marksOf, withMark, marked, worker, 
 use Rattle.worker.specs.Holding.{idle, holding}
 use Rattle.model.specs.Refusal.{damaged, badTiles, runAnswer}
 use Rattle.laws.proofs.Refusals.{passed}
-use Rattle.laws.proofs.Tests.{never, or-false}
+use Rattle.laws.proofs.Tests.{never, or-false, and-true-not}
+use Rattle.run_laws.proofs.NextWorker.{round}
 use Rattle.run_laws.proofs.Pointer.{NoneReady, none-after, none-after-take, none-kept}
-use Rattle.run_laws.proofs.Undamaged.{and-true-not}
 use Rattle.records.specs.Records.{recordsFrom, marksFrom, lent}
 use Rattle.records.proofs.Laws.{length-records, length-marks, marks-lent}
 use Rattle.checks.specs.Checks.{Sized}
@@ -38,14 +38,13 @@ use Rattle.demand.proofs.Limits.{good-tiles}
 use Rattle.demand.proofs.Whole.{Whole}
 use Rattle.demand.proofs.Steps.{took-whole, advanced-whole}
 use Rattle.demand.proofs.Answers.{run-whole, run-accepted}
-use Rattle.next_task.specs.NextTask.{Passed}
+use Rattle.next_task.specs.NextTask.{NoneBelow}
 use Rattle.next_task.specs.NextTask.{LowestReady}
 use Rattle.next_worker.specs.NextWorker.{NextBusy, busy-after, all-idle}
 use Rattle.task_columns.specs.Due.{ColumnDue}
 use Rattle.advancing.specs.Advancing.{Advanced}
 use Rattle.advancing.proofs.Laws.{due, state-after}
 use Rattle.turns_from.specs.Underway.{Underway}
-use Rattle.next_worker.proofs.Rounds.{round}
 use Rattle.next_worker.proofs.Steps.{takes, works, passes, over, finishes, ends}
 
 pub record Going (z : Sizes) (budget : ℕ) (all : RunEnd) (ws₀ : List Worker) (m : List Float) (l : List ℕ) (r : List (List ℕ)) (ws : List Worker) (n w from : ℕ) : Type 0 where
@@ -133,7 +132,7 @@ module _ {z : Sizes} {budget : ℕ} {all : RunEnd} {ws₀ : List Worker} {m : Li
   pub few-records : length r ≤ 1496
   few-records = subst (λ (k : ℕ). k ≤ 1496) (sym (records-long z m l r ws (g .whole))) (few-tasks (z .tiles) (sizes .few-tiles))
 
-  pub searched : Passed (z .tiles) r from
+  pub searched : NoneBelow (z .tiles) r from
   searched = record {
     recorded = λ p h. recorded z m l r ws sizes (records-long z m l r ws (g .whole)) fine p (subst (λ (k : ℕ). p < k) (records-long z m l r ws (g .whole)) h);
     none = g .none;

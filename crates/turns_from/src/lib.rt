@@ -11,10 +11,10 @@ use model::RunAnswer;
 use model::RunReply;
 use model::Sizes;
 use next_task::lowest_ready;
-use next_task::search_from;
+use next_task::search_start;
 use next_task::take_task;
-use next_worker::after;
 use next_worker::next_busy;
+use next_worker::worker_after;
 use unfinished::answer_after;
 use worker::Worker;
 
@@ -51,17 +51,17 @@ pub fn turns_from(
                 task: g.task,
                 column: g.column,
             };
-            from = search_from(from, g.busy, h.task as usize);
+            from = search_start(from, g.busy, h.task as usize);
             n += 1;
-            w = after(z.workers, w);
+            w = worker_after(z.workers, w);
             continue;
         }
         from = lowest_ready(z.tiles, records, from);
         if from < records.len() {
-            left[w] = take_task(records, from, h);
+            left[w] = take_task(records, h, from);
             from += 1;
             n += 1;
-            w = after(z.workers, w);
+            w = worker_after(z.workers, w);
             continue;
         }
         let v = next_busy(left, z.workers, w);

@@ -4,15 +4,22 @@ use mathlib.Core.Bool.{Bool, true, false, not, cond, _||_}
 use mathlib.Core.Path.{_≡_, refl, sym, ap, _∙_}
 use mathlib.Core.List.{List, [], _∷_}
 use native.Mathlib.Omega.{arith}
+use lib.Ieee.{Float}
 use lib.ListN.{length}
 use lib.Seq.{take-length}
+use Rattle.model.specs.declared.Sizes.{Sizes}
+use Rattle.worker.specs.declared.Worker.{Worker}
 use Rattle.model.specs.Lists.{below, every, some, keep, firstOr}
 use Rattle.model.specs.Links.{mark, finished}
-use Rattle.records.specs.Records.{marksFrom}
+use Rattle.model.specs.Plan.{plan, planOf}
+use Rattle.model.specs.Calls.{marksOf}
+use Rattle.model.specs.Refusal.{unfinished}
+use Rattle.records.specs.Records.{marksFrom, lent}
 use Rattle.records.proofs.Laws.{length-marks}
 use Rattle.finite_numbers.specs.declared.Lowest.{Lowest}
 use Rattle.finite_numbers.specs.declared.Lowest.the-variants.{None, At}
-use Rattle.checks.proofs.Searches.{every-places, every-is-none}
+use Rattle.checks.specs.Checks.{RecordsFit}
+use Rattle.laws.proofs.Searches.{every-places, every-is-none}
 
 -- whether something was found
 abbrev pub isFound : Lowest → Bool
@@ -41,3 +48,9 @@ module _ (r : List (List ℕ)) where
   none-found x e =
       ap (λ (y : Lowest). not (isFound y)) e ∙ ap not (found-some (λ p. not (finished (mark (marksFrom r) p))) (below (length r)))
       ∙ sym (by-mark ∙ every-is-none (λ p. finished (mark (marksFrom r) p)) (below (length r)))
+
+-- the search over the lent records is the definition's
+pub unfinished-is : (z : Sizes) (m : List Float) (l : List ℕ) (r : List (List ℕ)) (ws : List Worker) → RecordsFit z r
+    → keep (λ p. not (finished (mark (marksFrom r) p))) (below (length r)) ≡ unfinished (planOf z) (lent m l r ws (z .workers))
+unfolding unfinished marksOf lent marksFrom plan
+unfinished-is z m l r ws fit = ap (λ (n : ℕ). keep (λ p. not (finished (mark (marksFrom r) p))) (below n)) fit

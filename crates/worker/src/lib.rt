@@ -11,6 +11,7 @@ pub struct Worker {
 }
 
 impl Worker {
+    // A worker that holds nothing.
     pub fn idle() -> Worker
         ensures { λ r. ⌜ r ≡ idle ⌝ }
     {

@@ -7,7 +7,8 @@ mod compare;
 use std::time::{Duration, Instant};
 
 fn main() {
-    let arguments: Vec<u64> = std::env::args().skip(1).map(|word| word.parse().expect("SEED SECONDS")).collect();
+    let arguments: Vec<u64> =
+        std::env::args().skip(1).map(|word| word.parse().expect("SEED SECONDS")).collect();
     let first = arguments.first().copied().unwrap_or(1);
     let limit = Duration::from_secs(arguments.get(1).copied().unwrap_or(60));
     let began = Instant::now();
@@ -15,7 +16,10 @@ fn main() {
     while began.elapsed() < limit {
         calls += compare::calls_of(seed, 2800);
         texts += compare::texts_of(seed);
-        eprint!("\rseeds {first} to {seed}: {calls} calls and {texts} texts alike, {} s", began.elapsed().as_secs());
+        eprint!(
+            "\rseeds {first} to {seed}: {calls} calls and {texts} texts alike, {} s",
+            began.elapsed().as_secs()
+        );
         seed += 1;
     }
     eprintln!();

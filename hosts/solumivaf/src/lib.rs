@@ -55,6 +55,7 @@ pub enum Run {
     Spent(u64),
 }
 
+/// How a finished system ended: good, overflow with its lowest failed task, or singular with the lowest row whose diagonal is zero.
 #[derive(Clone, Copy, Debug, PartialEq, Eq)]
 pub enum Outcome {
     Good,
@@ -84,26 +85,16 @@ struct Read {
     place: usize,
     tiles: usize,
     side: usize,
-    row: u16,
+    at: u16,
     number: u8,
     kind: u8,
 }
 
-impl Told {
-    fn accepted(self) -> Result<Told, Refusal> {
-        match self.number {
-            0 => Ok(self),
-            number => Err(Refusal { number, place: self.place }),
-        }
-    }
-}
-
-impl Read {
-    fn accepted(self) -> Result<Read, Refusal> {
-        match self.number {
-            0 => Ok(self),
-            number => Err(Refusal { number, place: self.place }),
-        }
+/// What a call tells of a refusal: number 0 is none.
+fn accepted(number: u8, place: usize) -> Result<(), Refusal> {
+    match number {
+        0 => Ok(()),
+        _ => Err(Refusal { number, place }),
     }
 }
 
@@ -117,8 +108,35 @@ fn outcome_of(kind: u8, place: u16) -> Outcome {
 
 // ---- the calls on what is lent
 
+/// A call with the sizes and everything lent. A buffer is lent by `as_ptr` to be read, or by `as_mut_ptr` to be written; the worker slots
+/// are lent like the records.
+macro_rules! call {
+    ($function:ident, $sizes:expr, $lent:expr, $matrix:ident, $lists:ident, $records:ident $(, $more:expr)*) => {
+        // SAFETY: the header's conditions hold. Each pointer is of a Vec, an array or a slice with the length that goes with it, which the
+        // borrow of `$lent` and of what else is passed keeps alive, and which no one else writes during the call. Buffers do not overlap.
+        // A `bool` is 0 or 1, `Record` is laid out as in C, and wrong sizes and lengths are refused.
+        unsafe {
+            raw::$function(
+                $sizes.tiles,
+                $sizes.side,
+                $sizes.workers,
+                $lent.matrix.$matrix(),
+                $lent.matrix.len(),
+                $lent.lists.$lists(),
+                $lent.lists.len(),
+                $lent.records.$records(),
+                $lent.records.len(),
+                $lent.workers.busy.$records(),
+                $lent.workers.task.$records(),
+                $lent.workers.column.$records(),
+                $($more),*
+            )
+        }
+    };
+}
+
 impl Lent {
-    /// Buffers of the lengths that a system of these sizes calls for, around its matrix.
+    /// Buffers of the lengths that a system calls for, around its matrix, for sizes in range.
     pub fn of(sizes: Sizes, matrix: Vec<f64>) -> Lent {
         let n = sizes.tiles;
         Lent {
@@ -129,109 +147,35 @@ impl Lent {
         }
     }
 
+    /// Starts the work on the matrix: lists of 0, every task waiting, every worker idle.
     pub fn open(&mut self, sizes: Sizes) -> Result<(), Refusal> {
-        let told = unsafe {
-            raw::solumivaf_open(
-                sizes.tiles,
-                sizes.side,
-                sizes.workers,
-                self.matrix.as_ptr(),
-                self.matrix.len(),
-                self.lists.as_mut_ptr(),
-                self.lists.len(),
-                self.records.as_mut_ptr(),
-                self.records.len(),
-                self.workers.busy.as_mut_ptr(),
-                self.workers.task.as_mut_ptr(),
-                self.workers.column.as_mut_ptr(),
-            )
-        };
-        told.accepted().map(|_| ())
+        let told = call!(solumivaf_open, sizes, self, as_ptr, as_mut_ptr, as_mut_ptr);
+        accepted(told.number, told.place)
     }
 
+    /// A worker takes a task that is ready.
     pub fn take(&mut self, sizes: Sizes, worker: usize, task: usize) -> Result<(), Refusal> {
-        let told = unsafe {
-            raw::solumivaf_take(
-                sizes.tiles,
-                sizes.side,
-                sizes.workers,
-                self.matrix.as_ptr(),
-                self.matrix.len(),
-                self.lists.as_ptr(),
-                self.lists.len(),
-                self.records.as_mut_ptr(),
-                self.records.len(),
-                self.workers.busy.as_mut_ptr(),
-                self.workers.task.as_mut_ptr(),
-                self.workers.column.as_mut_ptr(),
-                worker,
-                task,
-            )
-        };
-        told.accepted().map(|_| ())
+        let told = call!(solumivaf_take, sizes, self, as_ptr, as_ptr, as_mut_ptr, worker, task);
+        accepted(told.number, told.place)
     }
 
+    /// A busy worker does the next column of its task. The task's mark tells how it goes on.
     pub fn column(&mut self, sizes: Sizes, worker: usize) -> Result<(), Refusal> {
-        let told = unsafe {
-            raw::solumivaf_column(
-                sizes.tiles,
-                sizes.side,
-                sizes.workers,
-                self.matrix.as_mut_ptr(),
-                self.matrix.len(),
-                self.lists.as_mut_ptr(),
-                self.lists.len(),
-                self.records.as_mut_ptr(),
-                self.records.len(),
-                self.workers.busy.as_mut_ptr(),
-                self.workers.task.as_mut_ptr(),
-                self.workers.column.as_mut_ptr(),
-                worker,
-            )
-        };
-        told.accepted().map(|_| ())
+        let told = call!(solumivaf_column, sizes, self, as_mut_ptr, as_mut_ptr, as_mut_ptr, worker);
+        accepted(told.number, told.place)
     }
 
+    /// The workers take turns from 0 until all tasks are finished, or as many calls are made as the budget allows.
     pub fn run(&mut self, sizes: Sizes, budget: u64) -> Result<Run, Refusal> {
-        let told = unsafe {
-            raw::solumivaf_run(
-                sizes.tiles,
-                sizes.side,
-                sizes.workers,
-                self.matrix.as_mut_ptr(),
-                self.matrix.len(),
-                self.lists.as_mut_ptr(),
-                self.lists.len(),
-                self.records.as_mut_ptr(),
-                self.records.len(),
-                self.workers.busy.as_mut_ptr(),
-                self.workers.task.as_mut_ptr(),
-                self.workers.column.as_mut_ptr(),
-                budget,
-            )
-        };
-        let told = told.accepted()?;
+        let told = call!(solumivaf_run, sizes, self, as_mut_ptr, as_mut_ptr, as_mut_ptr, budget);
+        accepted(told.number, told.place)?;
         Ok(if told.kind == 1 { Run::Finished(told.count) } else { Run::Spent(told.count) })
     }
 
+    /// The outcome by the marks and the diagonal, or the lowest unfinished task. Only sizes and lengths are checked.
     pub fn outcome(&self, sizes: Sizes) -> Result<Ending, Refusal> {
-        let told = unsafe {
-            raw::solumivaf_outcome(
-                sizes.tiles,
-                sizes.side,
-                sizes.workers,
-                self.matrix.as_ptr(),
-                self.matrix.len(),
-                self.lists.as_ptr(),
-                self.lists.len(),
-                self.records.as_ptr(),
-                self.records.len(),
-                self.workers.busy.as_ptr(),
-                self.workers.task.as_ptr(),
-                self.workers.column.as_ptr(),
-            )
-        };
-        let told = told.accepted()?;
+        let told = call!(solumivaf_outcome, sizes, self, as_ptr, as_ptr, as_ptr);
+        accepted(told.number, told.place)?;
         Ok(match told.kind {
             3 => Ending::Unfinished(told.place),
             kind => Ending::Ended(outcome_of(kind, told.place as u16)),
@@ -240,53 +184,47 @@ impl Lent {
 
     /// Solves for one right side. The answers change only where the call is accepted.
     pub fn solve(&self, sizes: Sizes, right: &[f64], answers: &mut [f64]) -> Result<(), Refusal> {
-        let told = unsafe {
-            raw::solumivaf_solve(
-                sizes.tiles,
-                sizes.side,
-                sizes.workers,
-                self.matrix.as_ptr(),
-                self.matrix.len(),
-                self.lists.as_ptr(),
-                self.lists.len(),
-                self.records.as_ptr(),
-                self.records.len(),
-                self.workers.busy.as_ptr(),
-                self.workers.task.as_ptr(),
-                self.workers.column.as_ptr(),
-                right.as_ptr(),
-                right.len(),
-                answers.as_mut_ptr(),
-                answers.len(),
-            )
-        };
-        told.accepted().map(|_| ())
+        let told = call!(
+            solumivaf_solve,
+            sizes,
+            self,
+            as_ptr,
+            as_ptr,
+            as_ptr,
+            right.as_ptr(),
+            right.len(),
+            answers.as_mut_ptr(),
+            answers.len()
+        );
+        accepted(told.number, told.place)
     }
 }
 
 // ---- files
 
+// SAFETY, of each call below: as above, each pointer is a slice's and goes with its length, the slices written are borrowed alone, and
+// wrong sizes and lengths are refused.
+
 /// Reads a system into the lent matrix, and tells N and t.
 pub fn read_system(text: &[u8], matrix: &mut [f64]) -> Result<(usize, usize), Refusal> {
-    let read = unsafe { raw::solumivaf_read_system(text.as_ptr(), text.len(), matrix.as_mut_ptr(), matrix.len()) };
-    let read = read.accepted()?;
+    let read =
+        unsafe { raw::solumivaf_read_system(text.as_ptr(), text.len(), matrix.as_mut_ptr(), matrix.len()) };
+    accepted(read.number, read.place)?;
     Ok((read.tiles, read.side))
 }
 
 /// Reads a result into the lent matrix and lists, and tells N, t and the outcome.
-pub fn read_result(text: &[u8], matrix: &mut [f64], lists: &mut [u8]) -> Result<(usize, usize, Outcome), Refusal> {
-    let read = unsafe {
-        raw::solumivaf_read_result(
-            text.as_ptr(),
-            text.len(),
-            matrix.as_mut_ptr(),
-            matrix.len(),
-            lists.as_mut_ptr(),
-            lists.len(),
-        )
-    };
-    let read = read.accepted()?;
-    Ok((read.tiles, read.side, outcome_of(read.kind, read.row)))
+pub fn read_result(
+    text: &[u8],
+    matrix: &mut [f64],
+    lists: &mut [u8],
+) -> Result<(usize, usize, Outcome), Refusal> {
+    let (numbers, entries) = (matrix.len(), lists.len());
+    let (matrix, lists) = (matrix.as_mut_ptr(), lists.as_mut_ptr());
+    let read =
+        unsafe { raw::solumivaf_read_result(text.as_ptr(), text.len(), matrix, numbers, lists, entries) };
+    accepted(read.number, read.place)?;
+    Ok((read.tiles, read.side, outcome_of(read.kind, read.at)))
 }
 
 /// Writes a system into the front of the lent text, and tells its length.
@@ -294,7 +232,8 @@ pub fn write_system(tiles: usize, side: usize, matrix: &[f64], text: &mut [u8]) 
     let told = unsafe {
         raw::solumivaf_write_system(tiles, side, matrix.as_ptr(), matrix.len(), text.as_mut_ptr(), text.len())
     };
-    Ok(told.accepted()?.count as usize)
+    accepted(told.number, told.place)?;
+    Ok(told.count as usize)
 }
 
 /// Writes a result into the front of the lent text, and tells its length.
@@ -311,19 +250,11 @@ pub fn write_result(
         Outcome::Overflow(task) => (1, task),
         Outcome::Singular(row) => (2, row),
     };
+    let (numbers, entries, room) = (matrix.len(), lists.len(), text.len());
+    let (matrix, lists, text) = (matrix.as_ptr(), lists.as_ptr(), text.as_mut_ptr());
     let told = unsafe {
-        raw::solumivaf_write_result(
-            tiles,
-            side,
-            matrix.as_ptr(),
-            matrix.len(),
-            lists.as_ptr(),
-            lists.len(),
-            kind,
-            place,
-            text.as_mut_ptr(),
-            text.len(),
-        )
+        raw::solumivaf_write_result(tiles, side, matrix, numbers, lists, entries, kind, place, text, room)
     };
-    Ok(told.accepted()?.count as usize)
+    accepted(told.number, told.place)?;
+    Ok(told.count as usize)
 }

@@ -101,7 +101,12 @@ extern "C" {
         answers_length: usize,
     ) -> Told;
 
-    pub fn solumivaf_read_system(text: *const u8, text_length: usize, matrix: *mut f64, matrix_length: usize) -> Read;
+    pub fn solumivaf_read_system(
+        text: *const u8,
+        text_length: usize,
+        matrix: *mut f64,
+        matrix_length: usize,
+    ) -> Read;
 
     pub fn solumivaf_read_result(
         text: *const u8,

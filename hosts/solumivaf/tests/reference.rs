@@ -1,4 +1,4 @@
-//! Library and reference program on random call lists and texts: at least 20,000 calls, in a few seconds.
+//! Library and reference program on random call lists and texts: at least 20,000 calls, in a few seconds. Then specimens, and a NaN written.
 
 mod compare;
 
@@ -36,4 +36,13 @@ fn specimens() {
     let mut answers = [0.0; 2];
     assert_eq!(lent.solve(sizes, &[3.0, 8.0], &mut answers), Ok(()));
     assert_eq!(answers, [1.0, 1.0]);
+}
+
+#[test]
+fn a_nan_has_one_text() {
+    let mut text = [0; 30];
+    for bits in [0x7FF8_0000_0000_0000, 0x7FF8_0000_0000_0001, 0xFFF0_0000_0000_0005] {
+        assert_eq!(solumivaf::write_system(1, 1, &[f64::from_bits(bits)], &mut text), Ok(30));
+        assert_eq!(&text, b"010101\n0200007FF8000000000000\n");
+    }
 }

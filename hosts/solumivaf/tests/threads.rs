@@ -7,16 +7,13 @@ use std::time::Duration;
 
 use reference::families::numbers;
 use reference::loops::published_loops;
+use reference::numbers::bits;
 use reference::rng::Rng;
 use reference::tile::Shape;
 use solumivaf::{Lent, Sizes};
 
 const THREADS: usize = 8;
 const IDLE: Duration = Duration::from_micros(200);
-
-fn bits(numbers: &[f64]) -> Vec<u64> {
-    numbers.iter().map(|number| number.to_bits()).collect()
-}
 
 /// Worker `worker` takes what it can get and works it, until no task waits or is taken.
 fn work(sizes: Sizes, shared: &Mutex<Lent>, worker: usize) {

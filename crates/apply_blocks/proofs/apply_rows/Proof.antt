@@ -5,9 +5,9 @@ use mathlib.Core.Logic.{inl}
 use Prim.Native.Nat.{suc, _+_, _-_, _*_}
 use native.Mathlib.Omega.{arith}
 use denote.Ref.{now}
-use Rattle.column_laws.proofs.Rows.{row-room}
 use Rattle.column_laws.proofs.Finite.{finite-part}
 use Rattle.column_laws.proofs.Updates.{rows-applied}
+use Rattle.laws.proofs.Blocks.{row-end}
 use Rattle.apply_blocks.proofs.apply_rows.Statement.{statement}
 use Rattle.apply_blocks.proofs.apply_rows.Tie as tie
 
@@ -15,16 +15,16 @@ add-update-rows : tie.Need-add-update-rows
 add-update-rows c = search needs
 
 mul-update-rows : tie.Need-mul-update-rows
-mul-update-rows c = let a = c .before .before .args in omega (arith, c .before .before .pre .0, row-room (a .t) (a .w) (a .c) (c .before .before .pre .1 .0))
+mul-update-rows c = let a = c .before .before .args in omega (arith, c .before .before .pre .0, row-end (a .c) (a .t) (a .w) (c .before .before .pre .1 .0))
 
 add-update-rows-2 : tie.Need-add-update-rows-2
-add-update-rows-2 c = let a = c .before .before .args in omega (arith, c .before .before .pre .0, row-room (a .t) (a .w) (a .c) (c .before .before .pre .1 .0))
+add-update-rows-2 c = let a = c .before .before .args in omega (arith, c .before .before .pre .0, row-end (a .c) (a .t) (a .w) (c .before .before .pre .1 .0))
 
 mul-update-rows-2 : tie.Need-mul-update-rows-2
-mul-update-rows-2 c = let a = c .before .before .args in omega (arith, c .before .before .pre .0, row-room (a .t) (a .w) (a .c) (c .before .before .pre .1 .0))
+mul-update-rows-2 c = let a = c .before .before .args in omega (arith, c .before .before .pre .0, row-end (a .c) (a .t) (a .w) (c .before .before .pre .1 .0))
 
 add-update-rows-3 : tie.Need-add-update-rows-3
-add-update-rows-3 c = let a = c .before .before .args in omega (arith, c .before .before .pre .0, row-room (a .t) (a .w) (a .c) (c .before .before .pre .1 .0))
+add-update-rows-3 c = let a = c .before .before .args in omega (arith, c .before .before .pre .0, row-end (a .c) (a .t) (a .w) (c .before .before .pre .1 .0))
 
 add-update-rows-4 : tie.Need-add-update-rows-4
 add-update-rows-4 c = search needs

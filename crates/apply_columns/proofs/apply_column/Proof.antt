@@ -66,8 +66,8 @@ apply-rows-requires c κs =
       (r .column, started-finite t t (a .c) (c .before .before .before .before .before .before .before .before .before .tile-start .result) (c .before .before .before .before .before .before .before .list-start .result) (now (a .lists)) (now (a .matrix)) _ room x (rw p (r .list-room)) (rw p (r .entries)) (rw e (r .tile-finite))),
     )
 
-ended-requires : tie.Need-ended-requires
-ended-requires c κs = apply-ready (c .before .before .before .before .before .before .before .before .before .before .before .before .before .before .before .before .pre) .column
+column-end-requires : tie.Need-column-end-requires
+column-end-requires c κs = apply-ready (c .before .before .before .before .before .before .before .before .before .before .before .before .before .before .before .before .pre) .column
 
 same-length : tie.Need-same-length
 same-length c = c .before .before .before .before .apply-rows .kept .0 ∙ c .before .before .before .before .before .before .before .before .start-block .kept .0
@@ -82,7 +82,7 @@ returns c =
     apply-ends n t k (a .j) (a .c) _ _ (now (a .matrix)) (now (a .lists)) (c .before .before .before .before .before .before .before .before .before .before .before .before .before .before .tile-start .ensures) (c .before .before .before .before .before .before .before .before .before .before .before .before .list-start .ensures) (rw (c .before .before .before .before .before .before .before .before .before .before .before .before .before .before .tile-start .ensures) (r .room)) _ (c .before .before .before .before .before .before .before .before .before .before .read-column .result) _ _
     (c .before .before .before .before .before .before .before .before .start-block .ensures)
     (below-read t (a .c) _ (tileStart n t k k) (t - (a .c + 1)) (now (a .matrix)) (c .before .before .before .before .before .before .before .before .before .before .read-column .result) (omega (arith, r .column)) (omega (arith, c .before .before .before .before .before .before .before .before .before .before .before .before .before .tile-start2 .ensures)) (r .mult-room) (c .before .before .before .before .before .before .before .before .before .before .read-column .ensures))
-    (c .before .before .before .before .apply-rows .ensures) _ (c .before .if1 .taken) (c .ended .ensures)
+    (c .before .before .before .before .apply-rows .ensures) _ (c .before .if1 .taken) (c .column-end .ensures)
 
 mul-fill-numbers : tie.Need-mul-fill-numbers
 mul-fill-numbers c = omega (arith, apply-ready (c .before .before .before .before .before .before .before .before .before .before .before .before .before .before .before .before .before .pre) .square)
@@ -123,7 +123,7 @@ apply-column-spec =
     read-column-requires
     start-block-requires
     apply-rows-requires
-    ended-requires
+    column-end-requires
     same-length
     returns
     mul-fill-numbers

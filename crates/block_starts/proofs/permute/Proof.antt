@@ -3,8 +3,8 @@ use borrow.Author.Needs.{needs}
 use native.Mathlib.Omega.{arith}
 use Prim.Native.Nat.{_+_, _-_, _*_, _<_, _≤_}
 use denote.Ref.{now}
-use Rattle.column_laws.proofs.Rows.{row-room}
 use Rattle.column_laws.proofs.Permutes.{rows-exchangeable, Permuting, permute-none, permute-more, permute-all}
+use Rattle.laws.proofs.Blocks.{row-end}
 use Rattle.block_starts.proofs.permute.Statement.{statement}
 use Rattle.block_starts.proofs.permute.Tie as tie
 
@@ -19,10 +19,10 @@ entry : (c : tie.After-exchange-arg Inv-loop μ-loop) → c .before .wide .resul
 entry c = rw (c .before .wide .ensures) (c .before .before .before .before .before .before .before .pre .1 .2 (c .before .before .before .before .loop .c) (c .before .before .before .loop-test .taken))
 
 upper-end : (c : tie.After-exchange-arg Inv-loop μ-loop) → c .before .before .before .before .before .before .before .args .a + (c .before .before .before .before .loop .c * c .before .before .before .before .before .before .before .args .w + c .before .before .before .before .before .before .before .args .w) ≤ 65536
-upper-end c = let a = c .before .before .before .before .before .before .before .args in omega (arith, c .before .before .before .before .before .before .before .pre .0, row-room (a .t) (a .w) (c .before .before .before .before .loop .c) (c .before .before .before .loop-test .taken))
+upper-end c = let a = c .before .before .before .before .before .before .before .args in omega (arith, c .before .before .before .before .before .before .before .pre .0, row-end (c .before .before .before .before .loop .c) (a .t) (a .w) (c .before .before .before .loop-test .taken))
 
 lower-end : (c : tie.After-exchange-arg Inv-loop μ-loop) → c .before .before .before .before .before .before .before .args .a + (c .before .wide .result * c .before .before .before .before .before .before .before .args .w + c .before .before .before .before .before .before .before .args .w) ≤ 65536
-lower-end c = let a = c .before .before .before .before .before .before .before .args in omega (arith, c .before .before .before .before .before .before .before .pre .0, row-room (a .t) (a .w) (c .before .wide .result) (entry c))
+lower-end c = let a = c .before .before .before .before .before .before .before .args in omega (arith, c .before .before .before .before .before .before .before .pre .0, row-end (c .before .wide .result) (a .t) (a .w) (entry c))
 
 loop-holds : tie.Need-loop-holds Inv-loop μ-loop
 loop-holds c = let a = c .before .before .args in permute-none (a .t) (a .w) (a .a) (a .p) (now (a .lists)) (now (a .m)) (c .before .before .pre .0 .room) (c .before .before .pre .1 .0)
@@ -53,8 +53,8 @@ exchange-requires c κs =
     let a = c .before .before .before .before .before .before .before .args in
     let long = c .before .before .before .before .loop .inv .long in
     let b = c .before .before .before .before .before .before .before .pre .0 in (
-      omega (arith, long, b .room, row-room (a .t) (a .w) (c .before .before .before .before .loop .c) (c .before .before .before .loop-test .taken)),
-      omega (arith, long, b .room, row-room (a .t) (a .w) (c .before .wide .result) (entry c)),
+      omega (arith, long, b .room, row-end (c .before .before .before .before .loop .c) (a .t) (a .w) (c .before .before .before .loop-test .taken)),
+      omega (arith, long, b .room, row-end (c .before .wide .result) (a .t) (a .w) (entry c)),
       rows-exchangeable (a .w) (a .a) (c .before .before .before .before .loop .c) (c .before .wide .result),
     )
 

@@ -51,8 +51,8 @@ add-lists c = let r = couple-ready (c .before .before .before .before .before .b
 slice-write-lists : tie.Need-slice-write-lists
 slice-write-lists c = let r = couple-ready (c .before .before .before .before .before .before .before .before .pre) in omega (arith, r .column, r .list-room, r .lists-few, c .before .before .before .list-start .ensures)
 
-ended-requires : tie.Need-ended-requires
-ended-requires c κs = couple-ready (c .before .before .before .before .before .before .before .before .pre) .column
+column-end-requires : tie.Need-column-end-requires
+column-end-requires c κs = couple-ready (c .before .before .before .before .before .before .before .before .pre) .column
 
 same-length : tie.Need-same-length
 same-length c = refl
@@ -66,7 +66,7 @@ returns c =
     let r = couple-ready (c .before .before .before .before .before .before .before .before .before .pre) in
     let p = c .before .before .before .before .list-start .ensures in
     couple-skips (a .z .tiles) (a .z .side) (a .k) (a .i) (a .c) _ _ _ (c .before .before .before .before .before .before .tile-start .ensures) (c .before .before .before .before .before .tile-start2 .ensures) p (r .column) (now (a .matrix)) (now (a .lists)) _ (rw p (r .list-room))
-    (c .before .before .couple-pivot .result) (c .before .before .couple-pivot .ensures) _ (zero (c .before)) refl (c .ended .ensures)
+    (c .before .before .couple-pivot .result) (c .before .before .couple-pivot .ensures) _ (zero (c .before)) refl (c .column-end .ensures)
 
 cast-lists : tie.Need-cast-lists
 cast-lists c = omega (arith, in-range (c .before), couple-ready (c .before .before .before .before .before .before .before .before .pre) .side-most)
@@ -93,8 +93,8 @@ couple-rows-requires c κs =
       ),
     )
 
-ended-requires-2 : tie.Need-ended-requires-2
-ended-requires-2 c κs = couple-ready (c .before .before .before .before .before .before .before .before .before .before .before .before .before .pre) .column
+column-end-requires-2 : tie.Need-column-end-requires-2
+column-end-requires-2 c κs = couple-ready (c .before .before .before .before .before .before .before .before .before .before .before .before .before .pre) .column
 
 same-length-3 : tie.Need-same-length-3
 same-length-3 c = c .before .before .before .before .couple-rows .kept .0
@@ -110,7 +110,7 @@ returns-2 c =
     let d = c .before .before .before .before .before .before .before .before .before .before .tile-start2 .ensures in
     let p = c .before .before .before .before .before .before .before .before .before .list-start .ensures in
     couple-ends (a .z .tiles) (a .z .side) (a .k) (a .i) (a .c) _ _ _ u d p (r .column) (now (a .matrix)) (now (a .lists)) _ (rw p (r .list-room)) (c .before .before .before .before .before .before .before .couple-pivot .result) (c .before .before .before .before .before .before .before .couple-pivot .ensures) _
-    (rw u (r .upper-room)) (rw d (r .lower-room)) (rw (u, d) (r .apart)) (nonzero (c .before .before .before .before .before .before)) refl refl _ _ (c .before .before .before .before .couple-rows .ensures) _ (c .before .if2 .taken) (c .ended2 .ensures)
+    (rw u (r .upper-room)) (rw d (r .lower-room)) (rw (u, d) (r .apart)) (nonzero (c .before .before .before .before .before .before)) refl refl _ _ (c .before .before .before .before .couple-rows .ensures) _ (c .before .if2 .taken) (c .column-end2 .ensures)
 
 fill-coupled-requires : tie.Need-fill-coupled-requires
 fill-coupled-requires c κs =
@@ -147,7 +147,7 @@ couple-column-spec =
     couple-pivot-requires
     add-lists
     slice-write-lists
-    ended-requires
+    column-end-requires
     same-length
     same-length-2
     returns
@@ -155,7 +155,7 @@ couple-column-spec =
     add-lists-2
     slice-write-lists-2
     couple-rows-requires
-    ended-requires-2
+    column-end-requires-2
     same-length-3
     same-length-4
     returns-2

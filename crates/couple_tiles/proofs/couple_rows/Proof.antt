@@ -3,9 +3,9 @@ use borrow.Author.Needs.{needs}
 use mathlib.Core.Path.{refl}
 use native.Mathlib.Omega.{arith}
 use denote.Ref.{now}
-use Rattle.column_laws.proofs.Rows.{row-room}
 use Rattle.column_laws.proofs.Exchanges.{row-apart}
 use Rattle.column_laws.proofs.Pairs.{mid-long, mid-finite, coupled-fine, tiles-coupled}
+use Rattle.laws.proofs.Blocks.{row-end}
 use Rattle.couple_tiles.proofs.couple_rows.Statement.{statement}
 use Rattle.couple_tiles.proofs.couple_rows.Tie as tie
 
@@ -13,10 +13,10 @@ exchange-entry-requires : tie.Need-exchange-entry-requires
 exchange-entry-requires c κs = search needs
 
 mul-eliminate : tie.Need-mul-eliminate
-mul-eliminate c = let a = c .before .before .before .before .before .before .args in omega (arith, c .before .before .before .before .before .before .pre .0, row-room (a .t) (a .t) (a .c) (c .before .before .before .before .before .before .pre .1 .0 .0))
+mul-eliminate c = let a = c .before .before .before .before .before .before .args in omega (arith, c .before .before .before .before .before .before .pre .0, row-end (a .c) (a .t) (a .t) (c .before .before .before .before .before .before .pre .1 .0 .0))
 
 add-eliminate : tie.Need-add-eliminate
-add-eliminate c = let a = c .before .before .before .before .before .before .args in omega (arith, c .before .before .before .before .before .before .pre .0, row-room (a .t) (a .t) (a .c) (c .before .before .before .before .before .before .pre .1 .0 .0))
+add-eliminate c = let a = c .before .before .before .before .before .before .args in omega (arith, c .before .before .before .before .before .before .pre .0, row-end (a .c) (a .t) (a .t) (c .before .before .before .before .before .before .pre .1 .0 .0))
 
 eliminate-requires : tie.Need-eliminate-requires
 eliminate-requires c κs =
@@ -25,7 +25,7 @@ eliminate-requires c κs =
     let h = c .before .before .before .before .before .before .pre .1 in
     let x = c .before .before .before .exchange-entry .ensures in
     let long = mid-long (a .t) (a .t) (a .c) (a .c) (a .e) (a .u) (a .d) (now (a .m)) (b .upper-room) (b .lower-room) (b .apart) _ x in
-    let end = row-room (a .t) (a .t) (a .c) (h .0 .0) in (
+    let end = row-end (a .c) (a .t) (a .t) (h .0 .0) in (
       record {
         rows-most = b .rows-most;
         width-most = b .rows-most;

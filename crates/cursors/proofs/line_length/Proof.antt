@@ -3,7 +3,7 @@ use borrow.Author.Needs.{needs}
 use native.Mathlib.Omega.{arith}
 use borrow.Author.Tests.{ne-eqb}
 use Rattle.model.specs.Read.{lineLength}
-use Rattle.lines_read.proofs.Tested.{square-le}
+use Rattle.laws.proofs.Blocks.{square-most}
 use Rattle.cursors.proofs.line_length.Statement.{statement}
 use Rattle.cursors.proofs.line_length.Tie as tie
 
@@ -12,13 +12,13 @@ unfolding lineLength
 returns c = rw (c .if1 .taken)
 
 mul-result : tie.Need-mul-result
-mul-result c = omega (arith, square-le _ (c .before .before .pre))
+mul-result c = omega (arith, square-most _ (c .before .before .pre))
 
 mul-result-2 : tie.Need-mul-result-2
-mul-result-2 c = omega (arith, square-le _ (c .before .before .pre))
+mul-result-2 c = omega (arith, square-most _ (c .before .before .pre))
 
 add-result : tie.Need-add-result
-add-result c = omega (arith, square-le _ (c .before .before .pre))
+add-result c = omega (arith, square-most _ (c .before .before .pre))
 
 returns-2 : tie.Need-returns-2
 unfolding lineLength

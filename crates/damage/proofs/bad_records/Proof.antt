@@ -9,7 +9,7 @@ use Rattle.model.specs.Plan.{planOf}
 use Rattle.model.specs.Task.{tasks}
 use Rattle.model.specs.Lists.{run, below, some}
 use Rattle.links.specs.Closed.{key, In, number}
-use Rattle.checks.proofs.Searches.{some-begins, some-stops, some-goes-on, some-ends}
+use Rattle.laws.proofs.Searches.{some-begins, some-stops, some-goes-on, some-ends}
 use Rattle.checks.specs.Checks.{recordsAlone}
 use Rattle.damage.proofs.Laws.{record-bad, number-first}
 use Rattle.damage.proofs.bad_records.Statement.{statement}

@@ -7,11 +7,9 @@ use lib.ListN.{length, take}
 use lib.Seq.{take-all}
 use Rattle.model.specs.Lists.{every}
 use Rattle.model.specs.Read.{isDigit}
-use Rattle.digits_read.proofs.Fields.{every-take}
+use Rattle.laws.proofs.Every.{every-more}
 use Rattle.digits_read.proofs.all_digits.Statement.{statement}
 use Rattle.digits_read.proofs.all_digits.Tie as tie
-use Rattle.digits_read.proofs.all_digits.Reads as reads
-use Rattle.digits_read.proofs.all_digits.Lts as lts
 
 abbrev Inv-loop : tie.InvT-loop
 Inv-loop bytes good₀ k₀ good k = (k ≤ length bytes) × (good ≡ every isDigit (take k bytes))
@@ -39,7 +37,7 @@ loop-again : tie.Need-loop-again Inv-loop μ-loop
 loop-again c =
     let k = c .before .before .before .loop .k in
     let bytes = c .before .before .before .before .before .args .bytes .now in
-    (omega arith, rw add-one (cc (every-take isDigit bytes k 0 (omega arith))))
+    (omega arith, rw add-one (cc (every-more isDigit bytes k 0 (omega arith))))
 
 returns : tie.Need-returns Inv-loop μ-loop
 returns c = c .before .loop .inv .1 ∙ ap (every isDigit) (take-all (c .before .loop .k) (c .before .before .before .args .bytes .now) (omega arith))

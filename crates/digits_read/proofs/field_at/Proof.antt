@@ -4,12 +4,10 @@ use mathlib.Core.Path.{_≡_, sym, ap, _∙_}
 use native.Mathlib.Numerals.{add-one}
 use native.Mathlib.Omega.{arith}
 use Rattle.model.specs.Read.{field}
-use Rattle.digits_read.proofs.Fields.{field-none, field-suc, field-room, value-lt}
+use Rattle.laws.proofs.Texts.{value-lt}
+use Rattle.digits_read.proofs.Fields.{field-none, field-suc, field-room}
 use Rattle.digits_read.proofs.field_at.Statement.{statement}
 use Rattle.digits_read.proofs.field_at.Tie as tie
-use Rattle.digits_read.proofs.field_at.Reads as reads
-use Rattle.digits_read.proofs.field_at.Lts as lts
-use Rattle.digits_read.proofs.digit_value.Reads as digit-value-reads
 
 abbrev Inv-loop : tie.InvT-loop
 Inv-loop line p n v₀ k₀ v k = (k ≤ n) × (v ≡ field p k line)

@@ -1,23 +1,17 @@
 -- `digits_written::bits_of` meets its contract: only a NaN differs from itself. Assumes nothing.
 use mathlib.Core.Path.{_≡_, sym, ap, subst}
-use mathlib.Core.Bool.{true, false, not}
+use mathlib.Core.Bool.{true}
 use borrow.Author.Needs.{needs}
 use lib.Dec.{T}
-use lib.Ieee.{Float, nan, inf, fin, binary64, toBits, isNan, ne}
-use lib.Ieee.Compare.{differs-from-itself, nan-differs}
-use Rattle.laws.proofs.Tests.{never}
+use lib.Ieee.{Float, binary64, toBits, ne}
+use lib.Ieee.Compare.{differs-from-itself}
+use Rattle.laws.proofs.Finite.{no-nan}
 use Rattle.digits_written.proofs.bits_of.Statement.{statement}
 use Rattle.digits_written.proofs.bits_of.Tie as tie
 
 nan-bits : (x : Float) → ne x x ≡ true → 0x7FF8_0000_0000_0000 ≡ toBits binary64 x
 unfolding toBits
 nan-bits x e = sym (ap (toBits binary64) (differs-from-itself x (subst T (sym e) tt)))
-
-no-nan : (x : Float) → ne x x ≡ false → T (not (isNan x))
-unfolding isNan
-no-nan nan e = never nan-differs e
-no-nan (inf s) e = tt
-no-nan (fin s m k) e = tt
 
 returns : tie.Need-returns
 returns c = nan-bits _ (c .if1 .taken)

@@ -5,10 +5,10 @@ use Rattle.digits_written.proofs.put_hex.Statement.{statement}
 use Rattle.digits_written.proofs.put_hex.Tie as tie
 
 abbrev Inv-loop : tie.InvT-loop
-Inv-loop text₀ at digits value left₀ rest₀ text left rest = Hexed at digits value text₀ left rest text
+Inv-loop text₀ at count value left₀ rest₀ text left rest = Hexed at count value text₀ left rest text
 
 abbrev μ-loop : tie.MeasureT-loop
-μ-loop text₀ at digits value left₀ rest₀ text left rest = left
+μ-loop text₀ at count value left₀ rest₀ text left rest = left
 
 loop-holds : tie.Need-loop-holds Inv-loop μ-loop
 loop-holds c = hexed-none _ _ _ _ (c .before .pre)

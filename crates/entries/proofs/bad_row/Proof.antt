@@ -5,10 +5,10 @@ use native.Mathlib.Omega.{arith}
 use Rattle.model.specs.Refusal.{badEntry}
 use Rattle.model.specs.Plan.{planOf}
 use Rattle.model.specs.Lists.{run, some}
-use Rattle.laws.proofs.Blocks.{in-block}
+use Rattle.laws.proofs.Blocks.{in-block, place-room}
 use Rattle.checks.proofs.Laws.{small}
 use Rattle.checks.specs.Checks.{listsAlone}
-use Rattle.entries.proofs.Laws.{list-exceeds, rowLeft, row-begins, row-stops, row-goes-on, row-ends, list-fits}
+use Rattle.entries.proofs.Laws.{list-exceeds, rowLeft, row-begins, row-stops, row-goes-on, row-ends}
 use Rattle.entries.proofs.bad_row.Statement.{statement}
 use Rattle.entries.proofs.bad_row.Tie as tie
 
@@ -29,13 +29,13 @@ add-exceeded : tie.Need-add-exceeded Inv-loop μ-loop
 add-exceeded c = omega (arith, small _ _ (c .before .before .before .pre .0 .few-tiles) (c .before .before .before .pre .0 .small-side), in-block _ _ _ _ (c .before .before .before .pre .2) (c .loop-test .taken))
 
 mul-exceeded-2 : tie.Need-mul-exceeded-2 Inv-loop μ-loop
-mul-exceeded-2 c = omega (arith, small _ _ (c .before .before .before .pre .0 .few-tiles) (c .before .before .before .pre .0 .small-side), list-fits _ (c .before .before .before .args .z .side) _ _ (c .before .before .before .pre .2) (c .loop-test .taken))
+mul-exceeded-2 c = omega (arith, small _ _ (c .before .before .before .pre .0 .few-tiles) (c .before .before .before .pre .0 .small-side), place-room _ (c .before .before .before .args .z .side) _ _ (c .before .before .before .pre .2) (c .loop-test .taken))
 
 entry-limit-requires : tie.Need-entry-limit-requires Inv-loop μ-loop
 entry-limit-requires c κs = c .before .before .before .pre .0 .some-side
 
 exceeded-requires : tie.Need-exceeded-requires Inv-loop μ-loop
-exceeded-requires c κs = omega (arith, c .before .before .before .before .pre .1, list-fits _ (c .before .before .before .before .args .z .side) _ _ (c .before .before .before .before .pre .2) (c .before .loop-test .taken))
+exceeded-requires c κs = omega (arith, c .before .before .before .before .pre .1, place-room _ (c .before .before .before .before .args .z .side) _ _ (c .before .before .before .before .pre .2) (c .before .loop-test .taken))
 
 returns : tie.Need-returns Inv-loop μ-loop
 returns c = row-stops (c .before .before .before .before .before .before .args .z) _ _ _ _ (c .before .before .before .loop-test .taken) (c .before .before .before .before .loop .inv .1) (sym (list-exceeds (c .before .before .before .before .before .before .args .z) _ _ _ (c .before .before .before .loop-test .taken) _ (c .before .before .entry-limit .ensures) _ (c .before .exceeded .ensures)) ∙ c .if1 .taken)

@@ -7,7 +7,7 @@ use lib.ListN.{getD}
 use lib.Dec.{ltb}
 use borrow.Author.Tests.{lt-ltb, le-ltb}
 use Rattle.model.specs.Lists.{run, some}
-use Rattle.checks.proofs.Searches.{some-stops, some-goes-on, some-ends}
+use Rattle.laws.proofs.Searches.{some-stops, some-goes-on, some-ends}
 use Rattle.entries.proofs.exceeded.Statement.{statement}
 use Rattle.entries.proofs.exceeded.Tie as tie
 

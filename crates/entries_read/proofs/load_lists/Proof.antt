@@ -8,7 +8,8 @@ use native.Mathlib.Omega.{arith}
 use lib.ListN.{length}
 use Rattle.model.specs.Lists.{below, run, joined}
 use Rattle.entries_read.specs.Entries.{listSize, ListLines, above, rowFrom, listsFrom}
-use Rattle.numbers_read.proofs.Filled.{part-fits, length-lent, parted, parted-none, turn, parted-all}
+use Rattle.numbers_read.proofs.Filled.{length-lent, parted, parted-none, turn, parted-all}
+use Rattle.laws.proofs.Blocks.{row-end}
 use Rattle.entries_read.proofs.Held.{length-row, above-next, above-grows, further}
 use Rattle.entries_read.proofs.load_lists.Statement.{statement}
 use Rattle.entries_read.proofs.load_lists.Tie as tie
@@ -49,7 +50,7 @@ lines c =
     rw (c .before .loop .inv .2) (further (a .t) (above (a .tiles)) (a .at) (above (c .before .loop .i)) (suc (c .before .loop .i)) (a .text .now) (c .before .before .before .before .pre .0) (above-grows (c .before .loop .i) (a .tiles) (c .loop-test .taken)))
 
 inside : (c : tie.In-loop Inv-loop μ-loop) → let a = c .before .before .before .before .args in c .before .loop .i * (a .tiles * a .t) + a .tiles * a .t ≤ length (c .before .loop .lists)
-inside c = omega (arith, c .before .loop .inv .1, part-fits (c .before .loop .i) (c .before .before .before .before .args .tiles) (c .before .before .before .before .args .tiles * c .before .before .before .before .args .t) (c .loop-test .taken))
+inside c = omega (arith, c .before .loop .inv .1, row-end (c .before .loop .i) (c .before .before .before .before .args .tiles) (c .before .before .before .before .args .tiles * c .before .before .before .before .args .t) (c .loop-test .taken))
 
 mul-b : tie.Need-mul-b Inv-loop μ-loop
 mul-b c = omega (arith, inside c, c .before .loop .inv .1, c .before .before .before .before .pre .1 .0, c .before .before .before .before .good)

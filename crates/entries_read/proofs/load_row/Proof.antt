@@ -4,7 +4,8 @@ use mathlib.Core.Path.{_≡_, sym, ap, _∙_}
 use native.Mathlib.Omega.{arith}
 use lib.ListN.{length}
 use Rattle.entries_read.specs.Entries.{listFrom, rowFrom}
-use Rattle.numbers_read.proofs.Filled.{part-fits, length-lent, parted, parted-none, turn, parted-all}
+use Rattle.numbers_read.proofs.Filled.{length-lent, parted, parted-none, turn, parted-all}
+use Rattle.laws.proofs.Blocks.{row-end}
 use Rattle.entries_read.proofs.Held.{length-list}
 use Rattle.entries_read.proofs.load_row.Statement.{statement}
 use Rattle.entries_read.proofs.load_row.Tie as tie
@@ -19,7 +20,7 @@ loop-holds : tie.Need-loop-holds Inv-loop μ-loop
 loop-holds c = (omega arith, c .before .before .pre .1 .0, parted-none _ _ (length-list _ _ _ _) _)
 
 within : (c : tie.In-loop Inv-loop μ-loop) → c .before .loop .j * c .before .before .before .before .args .t + c .before .before .before .before .args .t ≤ length (c .before .loop .row)
-within c = omega (arith, c .before .loop .inv .1, part-fits (c .before .loop .j) (c .before .before .before .before .args .tiles) (c .before .before .before .before .args .t) (c .loop-test .taken))
+within c = omega (arith, c .before .loop .inv .1, row-end (c .before .loop .j) (c .before .before .before .before .args .tiles) (c .before .before .before .before .args .t) (c .loop-test .taken))
 
 mul-b : tie.Need-mul-b Inv-loop μ-loop
 mul-b c = omega (arith, within c, c .before .before .before .before .good)

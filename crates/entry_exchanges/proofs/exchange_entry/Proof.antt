@@ -5,8 +5,8 @@ use mathlib.Core.Logic.{inr}
 use Prim.Native.Nat.{suc, _+_, _-_, _*_, _<_, _≤_}
 use native.Mathlib.Omega.{arith}
 use denote.Ref.{now}
-use Rattle.column_laws.proofs.Rows.{row-room}
 use Rattle.column_laws.proofs.Exchanges.{exchange-entry, exchange-none, runs-apart}
+use Rattle.laws.proofs.Blocks.{row-end}
 use Rattle.entry_exchanges.proofs.exchange_entry.Statement.{statement}
 use Rattle.entry_exchanges.proofs.exchange_entry.Tie as tie
 
@@ -15,10 +15,10 @@ above c = omega (arith, c .before .if1 .left)
 
 -- the rows' ends
 upper-end : (c : tie.After-exchange-arg) → c .before .before .before .args .u + (c .before .before .before .args .c * c .before .before .before .args .w + c .before .before .before .args .w) ≤ 65536
-upper-end c = let a = c .before .before .before .args in omega (arith, c .before .before .before .pre .0 .upper-room, c .before .before .before .pre .0 .few, row-room (a .t) (a .w) (a .c) (c .before .before .before .pre .1 .1))
+upper-end c = let a = c .before .before .before .args in omega (arith, c .before .before .before .pre .0 .upper-room, c .before .before .before .pre .0 .few, row-end (a .c) (a .t) (a .w) (c .before .before .before .pre .1 .1))
 
 lower-end : (c : tie.After-exchange-arg) → c .before .before .before .args .d + ((c .before .before .before .args .e - 1) * c .before .before .before .args .w + c .before .before .before .args .w) ≤ 65536
-lower-end c = let a = c .before .before .before .args in omega (arith, c .before .before .before .pre .0 .lower-room, c .before .before .before .pre .0 .few, row-room (a .t) (a .w) (a .e - 1) (omega (arith, c .before .before .before .pre .1 .2, above c)))
+lower-end c = let a = c .before .before .before .args in omega (arith, c .before .before .before .pre .0 .lower-room, c .before .before .before .pre .0 .few, row-end (a .e - 1) (a .t) (a .w) (omega (arith, c .before .before .before .pre .1 .2, above c)))
 
 returns : tie.Need-returns
 returns c = let a = c .before .before .args in let b = c .before .before .pre .0 in rw (c .if1 .taken) (exchange-none (a .t) (a .w) (a .u) (a .d) (a .c) (c .before .before .pre .1 .1) (now (a .m)) (b .upper-room) (b .lower-room) (b .apart) (a .f))
@@ -54,7 +54,7 @@ exchange-requires c κs =
     let h = c .before .before .before .pre .1 in
     let y : a .e - 1 < a .t = omega (arith, h .2, above c) in
     let ends : a .f + (a .w - a .f) ≡ a .w = omega (arith, h .0) in
-    (omega (arith, b .upper-room, h .0, row-room (a .t) (a .w) (a .c) (h .1)), omega (arith, b .lower-room, h .0, row-room (a .t) (a .w) (a .e - 1) y), inr (runs-apart (a .t) (a .w) (a .u) (a .d) (a .c) (h .1) (b .apart) (a .e - 1) (a .f) (a .w - a .f) y ends))
+    (omega (arith, b .upper-room, h .0, row-end (a .c) (a .t) (a .w) (h .1)), omega (arith, b .lower-room, h .0, row-end (a .e - 1) (a .t) (a .w) y), inr (runs-apart (a .t) (a .w) (a .u) (a .d) (a .c) (h .1) (b .apart) (a .e - 1) (a .f) (a .w - a .f) y ends))
 
 same-length : tie.Need-same-length
 same-length c = search needs

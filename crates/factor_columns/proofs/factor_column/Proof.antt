@@ -52,8 +52,8 @@ add-lists c = let r = factor-ready (c .before .before .before .before .before .b
 slice-write-lists : tie.Need-slice-write-lists
 slice-write-lists c = let r = factor-ready (c .before .before .before .before .before .before .before .before .pre) in omega (arith, r .column, r .list-room, r .lists-few, c .before .before .before .before .list-start .ensures)
 
-ended-requires : tie.Need-ended-requires
-ended-requires c κs = factor-ready (c .before .before .before .before .before .before .before .before .pre) .column
+column-end-requires : tie.Need-column-end-requires
+column-end-requires c κs = factor-ready (c .before .before .before .before .before .before .before .before .pre) .column
 
 same-length : tie.Need-same-length
 same-length c = refl
@@ -67,7 +67,7 @@ returns c =
     let r = factor-ready (c .before .before .before .before .before .before .before .before .before .pre) in
     let p = c .before .before .before .before .before .list-start .ensures in
     factor-skips (a .z .tiles) (a .z .side) (a .k) (a .c) _ _ (c .before .before .before .before .before .before .tile-start .ensures) p (r .column) (now (a .matrix)) (now (a .lists)) _ (rw p (r .list-room)) (c .before .before .before .factor-pivot .result) (c .before .before .before .factor-pivot .ensures) _
-    (zero (c .before)) refl (c .ended .ensures)
+    (zero (c .before)) refl (c .column-end .ensures)
 
 cast-lists-2 : tie.Need-cast-lists-2
 cast-lists-2 c = omega (arith, in-tile (c .before), factor-ready (c .before .before .before .before .before .before .before .before .pre) .side-most)
@@ -92,8 +92,8 @@ factor-rows-requires c κs =
       ),
     )
 
-ended-requires-2 : tie.Need-ended-requires-2
-ended-requires-2 c κs = factor-ready (c .before .before .before .before .before .before .before .before .before .before .before .before .before .pre) .column
+column-end-requires-2 : tie.Need-column-end-requires-2
+column-end-requires-2 c κs = factor-ready (c .before .before .before .before .before .before .before .before .before .before .before .before .before .pre) .column
 
 same-length-3 : tie.Need-same-length-3
 same-length-3 c = c .before .before .before .before .factor-rows .kept .0
@@ -108,7 +108,7 @@ returns-2 c =
     let e = c .before .before .before .before .before .before .before .before .before .before .before .tile-start .ensures in
     let p = c .before .before .before .before .before .before .before .before .before .before .list-start .ensures in
     factor-ends (a .z .tiles) (a .z .side) (a .k) (a .c) _ _ e p (r .column) (now (a .matrix)) (now (a .lists)) _ (rw p (r .list-room)) (c .before .before .before .before .before .before .before .before .factor-pivot .result) (c .before .before .before .before .before .before .before .before .factor-pivot .ensures) _
-    (rw e (r .room)) (nonzero (c .before .before .before .before .before .before)) refl refl _ _ (c .before .before .before .before .factor-rows .ensures) _ (c .before .if2 .taken) (c .ended2 .ensures)
+    (rw e (r .room)) (nonzero (c .before .before .before .before .before .before)) refl refl _ _ (c .before .before .before .before .factor-rows .ensures) _ (c .before .if2 .taken) (c .column-end2 .ensures)
 
 mul-fill-numbers : tie.Need-mul-fill-numbers
 mul-fill-numbers c = omega (arith, factor-ready (c .before .before .before .before .before .before .before .before .before .before .before .before .before .before .pre) .square)
@@ -145,7 +145,7 @@ factor-column-spec =
     cast-lists
     add-lists
     slice-write-lists
-    ended-requires
+    column-end-requires
     same-length
     same-length-2
     returns
@@ -153,7 +153,7 @@ factor-column-spec =
     add-lists-2
     slice-write-lists-2
     factor-rows-requires
-    ended-requires-2
+    column-end-requires-2
     same-length-3
     same-length-4
     returns-2

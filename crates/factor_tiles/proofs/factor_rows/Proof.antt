@@ -5,45 +5,45 @@ use mathlib.Core.Logic.{inl}
 use Prim.Native.Nat.{suc, _+_, _-_, _*_}
 use native.Mathlib.Omega.{arith}
 use denote.Ref.{now}
-use Rattle.column_laws.proofs.Rows.{row-room}
 use Rattle.column_laws.proofs.Exchanges.{exchange-at}
 use Rattle.column_laws.proofs.Permutes.{rows-exchangeable}
 use Rattle.column_laws.proofs.Pairs.{kept-long, factored-finite, factored-fine, tile-factored}
+use Rattle.laws.proofs.Blocks.{row-end}
 use Rattle.factor_tiles.proofs.factor_rows.Statement.{statement}
 use Rattle.factor_tiles.proofs.factor_rows.Tie as tie
 
 mul-exchange : tie.Need-mul-exchange
-mul-exchange c = let a = c .before .before .args in omega (arith, c .before .before .pre .0, row-room (a .t) (a .t) (a .c) (c .before .before .pre .1 .0 .0))
+mul-exchange c = let a = c .before .before .args in omega (arith, c .before .before .pre .0, row-end (a .c) (a .t) (a .t) (c .before .before .pre .1 .0 .0))
 
 add-exchange : tie.Need-add-exchange
-add-exchange c = let a = c .before .before .args in omega (arith, c .before .before .pre .0, row-room (a .t) (a .t) (a .c) (c .before .before .pre .1 .0 .0))
+add-exchange c = let a = c .before .before .args in omega (arith, c .before .before .pre .0, row-end (a .c) (a .t) (a .t) (c .before .before .pre .1 .0 .0))
 
 mul-exchange-2 : tie.Need-mul-exchange-2
-mul-exchange-2 c = let a = c .before .before .args in omega (arith, c .before .before .pre .0, row-room (a .t) (a .t) (a .y) (c .before .before .pre .1 .0 .1))
+mul-exchange-2 c = let a = c .before .before .args in omega (arith, c .before .before .pre .0, row-end (a .y) (a .t) (a .t) (c .before .before .pre .1 .0 .1))
 
 add-exchange-2 : tie.Need-add-exchange-2
-add-exchange-2 c = let a = c .before .before .args in omega (arith, c .before .before .pre .0, row-room (a .t) (a .t) (a .y) (c .before .before .pre .1 .0 .1))
+add-exchange-2 c = let a = c .before .before .args in omega (arith, c .before .before .pre .0, row-end (a .y) (a .t) (a .t) (c .before .before .pre .1 .0 .1))
 
 exchange-requires : tie.Need-exchange-requires
 exchange-requires c κs =
     let a = c .before .before .args in
     let h = c .before .before .pre .1 .0 in
-    (omega (arith, c .before .before .pre .0, row-room (a .t) (a .t) (a .c) (h .0)), omega (arith, c .before .before .pre .0, row-room (a .t) (a .t) (a .y) (h .1)), rows-exchangeable (a .t) (a .a) (a .c) (a .y))
-
-mul-eliminate : tie.Need-mul-eliminate
-mul-eliminate c = let a = c .before .before .before .before .before .before .args in omega (arith, c .before .before .before .before .before .before .pre .0, row-room (a .t) (a .t) (a .c) (c .before .before .before .before .before .before .pre .1 .0 .0))
+    (omega (arith, c .before .before .pre .0, row-end (a .c) (a .t) (a .t) (h .0)), omega (arith, c .before .before .pre .0, row-end (a .y) (a .t) (a .t) (h .1)), rows-exchangeable (a .t) (a .a) (a .c) (a .y))
 
 add-eliminate : tie.Need-add-eliminate
-add-eliminate c = let a = c .before .before .before .before .before .before .args in omega (arith, c .before .before .before .before .before .before .pre .0, row-room (a .t) (a .t) (a .c) (c .before .before .before .before .before .before .pre .1 .0 .0))
+add-eliminate c = search needs
+
+mul-eliminate : tie.Need-mul-eliminate
+mul-eliminate c = let a = c .before .before .before .before .before .before .args in omega (arith, c .before .before .before .before .before .before .pre .0, row-end (a .c) (a .t) (a .t) (c .before .before .before .before .before .before .pre .1 .0 .0))
 
 add-eliminate-2 : tie.Need-add-eliminate-2
-add-eliminate-2 c = search needs
+add-eliminate-2 c = let a = c .before .before .before .before .before .before .args in omega (arith, c .before .before .before .before .before .before .pre .0, row-end (a .c) (a .t) (a .t) (c .before .before .before .before .before .before .pre .1 .0 .0))
 
 mul-eliminate-2 : tie.Need-mul-eliminate-2
-mul-eliminate-2 c = let a = c .before .before .before .before .before .before .args in omega (arith, c .before .before .before .before .before .before .pre .0, row-room (a .t) (a .t) (a .c) (c .before .before .before .before .before .before .pre .1 .0 .0))
+mul-eliminate-2 c = let a = c .before .before .before .before .before .before .args in omega (arith, c .before .before .before .before .before .before .pre .0, row-end (a .c) (a .t) (a .t) (c .before .before .before .before .before .before .pre .1 .0 .0))
 
 add-eliminate-3 : tie.Need-add-eliminate-3
-add-eliminate-3 c = let a = c .before .before .before .before .before .before .args in omega (arith, c .before .before .before .before .before .before .pre .0, row-room (a .t) (a .t) (a .c) (c .before .before .before .before .before .before .pre .1 .0 .0))
+add-eliminate-3 c = let a = c .before .before .before .before .before .before .args in omega (arith, c .before .before .before .before .before .before .pre .0, row-end (a .c) (a .t) (a .t) (c .before .before .before .before .before .before .pre .1 .0 .0))
 
 add-eliminate-4 : tie.Need-add-eliminate-4
 add-eliminate-4 c = search needs
@@ -96,8 +96,8 @@ factor-rows-spec =
     mul-exchange-2
     add-exchange-2
     exchange-requires
-    mul-eliminate
     add-eliminate
+    mul-eliminate
     add-eliminate-2
     mul-eliminate-2
     add-eliminate-3

@@ -16,13 +16,13 @@ use Rattle.failures.proofs.first_zero_row.Statement.{statement}
 use Rattle.failures.proofs.first_zero_row.Tie as tie
 
 abbrev Inv-loop : tie.InvT-loop
-Inv-loop z matrix n x₀ x = firstFrom (λ y. isZero (element (z .tiles) (z .side) matrix y y)) n x ≡ firstOr (zeroRows (planOf z) matrix) At None
+Inv-loop z matrix order x₀ x = firstFrom (λ y. isZero (element (z .tiles) (z .side) matrix y y)) order x ≡ firstOr (zeroRows (planOf z) matrix) At None
 
 abbrev μ-loop : tie.MeasureT-loop
-μ-loop z matrix n x₀ x = n - x
+μ-loop z matrix order x₀ x = order - x
 
-mul-n : tie.Need-mul-n Inv-loop μ-loop
-mul-n c = omega (arith, small _ _ (c .before .before .pre .0 .few-tiles) (c .before .before .pre .0 .small-side))
+mul-order : tie.Need-mul-order Inv-loop μ-loop
+mul-order c = omega (arith, small _ _ (c .before .before .pre .0 .few-tiles) (c .before .before .pre .0 .small-side))
 
 loop-holds : tie.Need-loop-holds Inv-loop μ-loop
 unfolding zeroRows order plan
@@ -58,7 +58,7 @@ first-zero-row-spec =
     (tie.spec
     Inv-loop
     μ-loop
-    mul-n
+    mul-order
     loop-holds
     diagonal-requires
     returns

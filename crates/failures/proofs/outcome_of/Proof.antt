@@ -17,7 +17,7 @@ enum-known-task c = search needs
 cast-t8 : tie.Need-cast-t8
 cast-t8 c =
     let d = c .before .before .before .before .before in
-    omega (arith, failed-below (d .args .z) _ _ _ (c .before .before .before .first-failed .ensures) (c .before .task .given .1), length-marks (d .args .records .now), few-tasks _ (d .pre .0 .few-tiles))
+    omega (arith, failed-below _ _ _ (c .before .before .before .first-failed .ensures) (c .before .task .given .1), length-marks (d .args .records .now), few-tasks _ (d .pre .0 .few-tiles))
 
 returns : tie.Need-returns
 returns c = λ lists. outcome-failed (c .before .before .before .before .before .args .z) _ lists _ _ _ (c .before .before .before .first-failed .ensures) (c .before .task .given .1)

@@ -6,7 +6,7 @@ use borrow.Author.Needs.{needs}
 use lib.ListN.{replicate}
 use Rattle.model.specs.Lists.{withPart}
 use Rattle.model.specs.Buffer.{putRows}
-use Rattle.filling.proofs.Laws.{list-fits}
+use Rattle.laws.proofs.Blocks.{place-room}
 use Rattle.filling.proofs.fill_list.Statement.{statement}
 use Rattle.filling.proofs.fill_list.Tie as tie
 
@@ -16,7 +16,7 @@ list-start-requires c κs = search needs
 fill-entries-requires : tie.Need-fill-entries-requires
 fill-entries-requires c κs =
     let d = c .before .before .before in
-    omega (arith, c .before .list-start .ensures, d .pre .1, list-fits (d .args .z .tiles) (d .args .z .side) (d .args .i) (d .args .j) (d .pre .2) (d .pre .3))
+    omega (arith, c .before .list-start .ensures, d .pre .1, place-room (d .args .z .tiles) (d .args .z .side) (d .args .i) (d .args .j) (d .pre .2) (d .pre .3))
 
 same-length : tie.Need-same-length
 same-length c = search needs

@@ -40,8 +40,8 @@ returns-2 c = filled-2 (c .before .before .before .before .before .before .befor
 fill-tile-requires-3 : tie.Need-fill-tile-requires-3
 fill-tile-requires-3 c κs = search needs
 
-fill-diagonal-requires : tie.Need-fill-diagonal-requires
-fill-diagonal-requires c κs = search needs
+fill-upper-part-requires : tie.Need-fill-upper-part-requires
+fill-upper-part-requires c κs = search needs
 
 fill-list-requires-2 : tie.Need-fill-list-requires-2
 fill-list-requires-2 c κs = search needs
@@ -53,7 +53,7 @@ same-length-5 : tie.Need-same-length-5
 same-length-5 c = search needs
 
 returns-3 : tie.Need-returns-3
-returns-3 c = filled-3 (c .before .before .before .before .before .before .before .before .before .before .before .before .before .before .before .before .before .before .before .before .before .before .before .args .z) _ _ _ (c .before .before .before .before .before .before .before .before .before .before .before .before .if3 .taken) _ _ _ (c .before .before .before .before .before .before .before .before .before .before .fill-tile3 .ensures) (c .before .before .before .before .before .before .fill-diagonal .ensures) (c .before .before .fill-list2 .ensures)
+returns-3 c = filled-3 (c .before .before .before .before .before .before .before .before .before .before .before .before .before .before .before .before .before .before .before .before .before .before .before .args .z) _ _ _ (c .before .before .before .before .before .before .before .before .before .before .before .before .if3 .taken) _ _ _ (c .before .before .before .before .before .before .before .before .before .before .fill-tile3 .ensures) (c .before .before .before .before .before .before .fill-upper-part .ensures) (c .before .before .fill-list2 .ensures)
 
 fill-tile-requires-4 : tie.Need-fill-tile-requires-4
 fill-tile-requires-4 c κs = search needs
@@ -83,7 +83,7 @@ fill-task-spec =
     same-length-3
     returns-2
     fill-tile-requires-3
-    fill-diagonal-requires
+    fill-upper-part-requires
     fill-list-requires-2
     same-length-4
     same-length-5

@@ -10,7 +10,7 @@ use Rattle.model.specs.Read.{Frame, listFrames}
 use Rattle.lines_read.proofs.Runs.{upTo}
 use Rattle.cursors.specs.declared.Cursor.{Cursor}
 use Rattle.cursors.specs.declared.Step.{Step}
-use Rattle.cursors.specs.Steps.{Placed}
+use Rattle.cursors.specs.Steps.{CursorFits}
 use Rattle.frames_read.specs.Follow.{follow, rowFrames}
 use Rattle.frames_read.proofs.Rows.{follow-placed, rows-none, rows-stop, rows-go-on}
 use Rattle.frames_read.proofs.check_lists.Statement.{statement}
@@ -22,7 +22,7 @@ lists i = rowFrames 3 (suc i) i
 
 abbrev Inv-loop : tie.InvT-loop
 Inv-loop text tiles t here₀ i₀ here i =
-    (i ≤ tiles) × Placed text here × (follow t text (joined (map lists (upTo i tiles))) here ≡ follow t text (listFrames tiles) here₀)
+    (i ≤ tiles) × CursorFits text here × (follow t text (joined (map lists (upTo i tiles))) here ≡ follow t text (listFrames tiles) here₀)
 
 abbrev μ-loop : tie.MeasureT-loop
 μ-loop text tiles t here₀ i₀ here i = tiles - i

@@ -8,7 +8,7 @@ use Rattle.model.specs.Lists.{below, run}
 use Rattle.model.specs.Read.{Frame}
 use Rattle.lines_read.proofs.Runs.{upTo}
 use Rattle.cursors.specs.declared.Cursor.{Cursor}
-use Rattle.cursors.specs.Steps.{Placed}
+use Rattle.cursors.specs.Steps.{CursorFits}
 use Rattle.frames_read.specs.Follow.{follow, rowFrames}
 use Rattle.cursors.proofs.Steps.{step-placed}
 use Rattle.frames_read.proofs.Rows.{row-none, row-stops, row-goes-on}
@@ -20,7 +20,7 @@ frame kind i j = record { kind = kind; i = i; j = j }
 
 abbrev Inv-loop : tie.InvT-loop
 Inv-loop text t kind i count here₀ j₀ here j =
-    (j ≤ count) × Placed text here × (follow t text (map (frame kind i) (upTo j count)) here ≡ follow t text (rowFrames kind count i) here₀)
+    (j ≤ count) × CursorFits text here × (follow t text (map (frame kind i) (upTo j count)) here ≡ follow t text (rowFrames kind count i) here₀)
 
 abbrev μ-loop : tie.MeasureT-loop
 μ-loop text t kind i count here₀ j₀ here j = count - j

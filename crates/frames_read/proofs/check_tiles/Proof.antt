@@ -8,7 +8,7 @@ use Rattle.model.specs.Lists.{below, run, joined}
 use Rattle.model.specs.Read.{tileFrames}
 use Rattle.lines_read.proofs.Runs.{upTo}
 use Rattle.cursors.specs.declared.Cursor.{Cursor}
-use Rattle.cursors.specs.Steps.{Placed}
+use Rattle.cursors.specs.Steps.{CursorFits}
 use Rattle.frames_read.specs.Follow.{follow, rowFrames}
 use Rattle.frames_read.proofs.Rows.{follow-placed, rows-none, rows-stop, rows-go-on}
 use Rattle.frames_read.proofs.check_tiles.Statement.{statement}
@@ -16,7 +16,7 @@ use Rattle.frames_read.proofs.check_tiles.Tie as tie
 
 abbrev Inv-loop : tie.InvT-loop
 Inv-loop text tiles t here₀ i₀ here i =
-    (i ≤ tiles) × Placed text here × (follow t text (joined (map (rowFrames 2 tiles) (upTo i tiles))) here ≡ follow t text (tileFrames tiles) here₀)
+    (i ≤ tiles) × CursorFits text here × (follow t text (joined (map (rowFrames 2 tiles) (upTo i tiles))) here ≡ follow t text (tileFrames tiles) here₀)
 
 abbrev μ-loop : tie.MeasureT-loop
 μ-loop text tiles t here₀ i₀ here i = tiles - i

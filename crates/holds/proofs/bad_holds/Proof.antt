@@ -8,7 +8,7 @@ use Rattle.model.specs.Refusal.{badHold}
 use Rattle.model.specs.Plan.{planOf}
 use Rattle.model.specs.Task.{tasks}
 use Rattle.model.specs.Lists.{run, below, some}
-use Rattle.checks.proofs.Searches.{some-begins, some-stops, some-goes-on, some-ends}
+use Rattle.laws.proofs.Searches.{some-begins, some-stops, some-goes-on, some-ends}
 use Rattle.checks.specs.Checks.{held}
 use Rattle.holds.proofs.Laws.{hold-free, hold-bad, hold-good}
 use Rattle.holds.proofs.bad_holds.Statement.{statement}

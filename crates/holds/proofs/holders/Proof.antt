@@ -8,17 +8,17 @@ use borrow.Author.Needs.{needs}
 use Rattle.model.specs.Refusal.{holds}
 use Rattle.worker.specs.Holding.{idle}
 use Rattle.model.specs.Lists.{run, below, keep}
-use Rattle.checks.proofs.Searches.{keep-begins, keep-counts, keep-passes, keep-ends, keep-places}
+use Rattle.laws.proofs.Searches.{keep-begins, keep-counts, keep-passes, keep-ends, keep-places}
 use Rattle.holds.proofs.holders.Statement.{statement}
 use Rattle.holds.proofs.holders.Tie as tie
 
 abbrev Inv-loop : tie.InvT-loop
-Inv-loop w p workers n₀ v₀ n v =
-    (v ≤ w) × (n ≤ v)
-    × (n + length (keep (λ x. holds p (getD workers x idle)) (run v (w - v))) ≡ length (keep (λ x. holds p (getD workers x idle)) (below w)))
+Inv-loop count p workers n₀ v₀ n v =
+    (v ≤ count) × (n ≤ v)
+    × (n + length (keep (λ x. holds p (getD workers x idle)) (run v (count - v))) ≡ length (keep (λ x. holds p (getD workers x idle)) (below count)))
 
 abbrev μ-loop : tie.MeasureT-loop
-μ-loop w p workers n₀ v₀ n v = w - v
+μ-loop count p workers n₀ v₀ n v = count - v
 
 loop-holds : tie.Need-loop-holds Inv-loop μ-loop
 loop-holds c = (omega arith, omega arith, keep-begins _ _)
@@ -49,7 +49,7 @@ loop-again c = ⊎-elim
 
 returns : tie.Need-returns Inv-loop μ-loop
 returns c = let e : length (c .before .before .args .t1) ≡ 32 = c .before .before .good .0 .1 .0 .1 in
-    keep-ends _ _ _ _ _ (c .loop-test .left) (c .before .loop .inv .2) ∙ sym (keep-places (holds (c .before .before .args .p)) (c .before .before .args .w) (c .before .before .args .t1) idle (omega arith))
+    keep-ends _ _ _ _ _ (c .loop-test .left) (c .before .loop .inv .2) ∙ sym (keep-places (holds (c .before .before .args .p)) (c .before .before .args .count) (c .before .before .args .t1) idle (omega arith))
 
 pub holders-spec : {M : Type 1} → statement M
 holders-spec =

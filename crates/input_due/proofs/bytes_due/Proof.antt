@@ -4,7 +4,7 @@ use mathlib.Core.Path.{sym, ap, _∙_}
 use native.Mathlib.Omega.{arith}
 use Rattle.system_checked.proofs.Headers.{shape-read, refusal-read}
 use Rattle.input_due.specs.Due.{dueBehind, bytesDue}
-use Rattle.input_due.proofs.Decided.{bounds, seven-decide, due-decides}
+use Rattle.input_due.proofs.Decided.{limits, seven-decide, due-decides}
 use Rattle.input_due.proofs.bytes_due.Statement.{statement}
 use Rattle.input_due.proofs.bytes_due.Tie as tie
 
@@ -15,22 +15,22 @@ enum-known-tiles : tie.Need-enum-known-tiles
 enum-known-tiles c = search needs
 
 mul-result : tie.Need-mul-result
-mul-result c = let b = bounds (shape-read _ _ _ _ _ (c .before .before .before .check-header .ensures) (c .before .tiles .given .1)) in omega arith
+mul-result c = let b = limits (shape-read _ _ _ _ _ (c .before .before .before .check-header .ensures) (c .before .tiles .given .1)) in omega arith
 
 mul-result-2 : tie.Need-mul-result-2
-mul-result-2 c = let b = bounds (shape-read _ _ _ _ _ (c .before .before .before .check-header .ensures) (c .before .tiles .given .1)) in omega arith
+mul-result-2 c = let b = limits (shape-read _ _ _ _ _ (c .before .before .before .check-header .ensures) (c .before .tiles .given .1)) in omega arith
 
 add-result : tie.Need-add-result
-add-result c = let b = bounds (shape-read _ _ _ _ _ (c .before .before .before .check-header .ensures) (c .before .tiles .given .1)) in omega arith
+add-result c = let b = limits (shape-read _ _ _ _ _ (c .before .before .before .check-header .ensures) (c .before .tiles .given .1)) in omega arith
 
 mul-result-3 : tie.Need-mul-result-3
-mul-result-3 c = let b = bounds (shape-read _ _ _ _ _ (c .before .before .before .check-header .ensures) (c .before .tiles .given .1)) in omega arith
+mul-result-3 c = let b = limits (shape-read _ _ _ _ _ (c .before .before .before .check-header .ensures) (c .before .tiles .given .1)) in omega arith
 
 mul-result-4 : tie.Need-mul-result-4
-mul-result-4 c = let b = bounds (shape-read _ _ _ _ _ (c .before .before .before .check-header .ensures) (c .before .tiles .given .1)) in omega arith
+mul-result-4 c = let b = limits (shape-read _ _ _ _ _ (c .before .before .before .check-header .ensures) (c .before .tiles .given .1)) in omega arith
 
 add-result-2 : tie.Need-add-result-2
-add-result-2 c = let b = bounds (shape-read _ _ _ _ _ (c .before .before .before .check-header .ensures) (c .before .tiles .given .1)) in omega arith
+add-result-2 c = let b = limits (shape-read _ _ _ _ _ (c .before .before .before .check-header .ensures) (c .before .tiles .given .1)) in omega arith
 
 enum-told : tie.Need-enum-told
 enum-told c = search needs
@@ -40,7 +40,7 @@ unfolding bytesDue
 returns c =
     let h = shape-read _ _ _ _ _ (c .before .before .before .check-header .ensures) (c .before .tiles .given .1) in
     let e = sym (c .before .before .before .check-header .ensures) ∙ c .before .tiles .given .1 in
-    (sym (ap dueBehind e), ((λ text same. due-decides _ _ text _ same h), (omega arith, bounds h .most)))
+    (sym (ap dueBehind e), ((λ text same. due-decides _ _ text _ same h), (omega arith, limits h .most)))
 
 returns-2 : tie.Need-returns-2
 unfolding bytesDue

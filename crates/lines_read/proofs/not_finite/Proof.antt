@@ -10,8 +10,9 @@ use Rattle.model.specs.Lists.{run, below, every}
 use Rattle.model.specs.Num.{finite}
 use Rattle.model.specs.Tile.{allFinite}
 use Rattle.model.specs.Read.{field, numbersIn}
+use Rattle.laws.proofs.Blocks.{square-most}
 use Rattle.lines_read.proofs.Runs.{upTo, every-next, every-none}
-use Rattle.lines_read.proofs.Tested.{field-in, square-le, tile-length, no-tile, tile-finite}
+use Rattle.lines_read.proofs.Tested.{field-in, tile-length, no-tile, tile-finite}
 use Rattle.lines_read.proofs.not_finite.Statement.{statement}
 use Rattle.lines_read.proofs.not_finite.Tie as tie
 
@@ -41,16 +42,16 @@ returns : tie.Need-returns Inv-loop μ-loop
 returns c = no-tile _ _ _ (c .if1 .taken)
 
 mul-count : tie.Need-mul-count Inv-loop μ-loop
-mul-count c = omega (arith, square-le _ (c .before .before .before .pre .1 .1))
+mul-count c = omega (arith, square-most _ (c .before .before .before .pre .1 .1))
 
 loop-holds : tie.Need-loop-holds Inv-loop μ-loop
 loop-holds c = (omega arith, all-numbers _ _)
 
 mul-finite-at : tie.Need-mul-finite-at Inv-loop μ-loop
-mul-finite-at c = omega (arith, square-le _ (c .before .before .before .before .before .pre .1 .1))
+mul-finite-at c = omega (arith, square-most _ (c .before .before .before .before .before .pre .1 .1))
 
 add-finite-at : tie.Need-add-finite-at Inv-loop μ-loop
-add-finite-at c = omega (arith, square-le _ (c .before .before .before .before .before .pre .1 .1))
+add-finite-at c = omega (arith, square-most _ (c .before .before .before .before .before .pre .1 .1))
 
 finite-at-requires : tie.Need-finite-at-requires Inv-loop μ-loop
 finite-at-requires c κs =
@@ -65,7 +66,7 @@ returns-2 c =
     tile-finite t _ l false (c .before .before .before .before .if1 .left) (sym (ap (λ (b : Bool). b && finiteFrom t l (x + 1)) e) ∙ sym (next t l x (c .before .before .loop-test .taken)) ∙ c .before .before .before .loop .inv .1)
 
 add-x : tie.Need-add-x Inv-loop μ-loop
-add-x c = omega (arith, square-le _ (c .before .before .before .before .before .before .before .pre .1 .1))
+add-x c = omega (arith, square-most _ (c .before .before .before .before .before .before .before .pre .1 .1))
 
 loop-less : tie.Need-loop-less Inv-loop μ-loop
 loop-less c = omega arith

@@ -11,9 +11,6 @@ use Rattle.next_worker.specs.NextWorker.{all-idle}
 use Rattle.next_worker.proofs.Rounds.{from-here, one-further, found, idle-here}
 use Rattle.next_worker.proofs.next_busy.Statement.{statement}
 use Rattle.next_worker.proofs.next_busy.Tie as tie
-use Rattle.next_worker.proofs.next_busy.Reads as reads
-use Rattle.next_worker.proofs.next_busy.Lts as lts
-use Rattle.next_worker.proofs.after.Reads as after-reads
 
 abbrev Inv-loop : tie.InvT-loop
 Inv-loop count w workers v₀ d₀ v d =
@@ -34,8 +31,8 @@ array-copy-out-h c = omega arith
 returns : tie.Need-returns Inv-loop μ-loop
 returns c = let i = c .before .before .before .loop .inv in found _ _ _ _ _ (i .2) (omega arith) (c .if1 .taken) (i .3)
 
-after-requires : tie.Need-after-requires Inv-loop μ-loop
-after-requires c κs = omega arith
+worker-after-requires : tie.Need-worker-after-requires Inv-loop μ-loop
+worker-after-requires c κs = omega arith
 
 add-d : tie.Need-add-d Inv-loop μ-loop
 add-d c = omega arith
@@ -46,7 +43,7 @@ loop-less c = omega arith
 loop-again : tie.Need-loop-again Inv-loop μ-loop
 loop-again c =
     let i = c .before .before .before .before .loop .inv in
-    (subst (λ (x : ℕ). x < c .before .before .before .before .before .args .count) (sym (c .after .ensures)) (mod-lt _ (omega arith)), omega arith, one-further _ _ _ _ _ (i .2) (c .after .ensures), below-more _ _ (i .3) (idle-here (c .before .before .before .before .before .args .t1) _ _ _ _ (i .2) (c .before .if1 .left)))
+    (subst (λ (x : ℕ). x < c .before .before .before .before .before .args .count) (sym (c .worker-after .ensures)) (mod-lt _ (omega arith)), omega arith, one-further _ _ _ _ _ (i .2) (c .worker-after .ensures), below-more _ _ (i .3) (idle-here (c .before .before .before .before .before .args .t1) _ _ _ _ (i .2) (c .before .if1 .left)))
 
 returns-2 : tie.Need-returns-2 Inv-loop μ-loop
 returns-2 c = all-idle (λ d l. c .before .loop .inv .3 d (omega arith))
@@ -61,7 +58,7 @@ next-busy-spec =
     mul-h
     array-copy-out-h
     returns
-    after-requires
+    worker-after-requires
     add-d
     loop-less
     loop-again

@@ -4,7 +4,8 @@ use mathlib.Core.Path.{_≡_, sym, ap, _∙_}
 use native.Mathlib.Numerals.{add-one}
 use native.Mathlib.Omega.{arith}
 use Rattle.model.specs.Read.{field}
-use Rattle.digits_read.proofs.Fields.{field-none, field-suc, field-room, value-lt}
+use Rattle.digits_read.proofs.Fields.{field-none, field-suc, field-room}
+use Rattle.laws.proofs.Texts.{value-lt}
 use Rattle.numbers_read.proofs.bits_at.Statement.{statement}
 use Rattle.numbers_read.proofs.bits_at.Tie as tie
 

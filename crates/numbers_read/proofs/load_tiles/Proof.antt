@@ -6,8 +6,9 @@ use native.Mathlib.Nat.{add-sub-cancel-left}
 use native.Mathlib.Omega.{arith}
 use lib.ListN.{length, take, drop}
 use lib.Ieee.{Float}
+use Rattle.laws.proofs.Blocks.{row-end}
 use Rattle.numbers_read.specs.Decoded.{lineAt, tileSize, numbersOf, tilesFrom}
-use Rattle.numbers_read.proofs.Filled.{part-fits, place-fits, length-lent, parted, parted-none, turn, parted-all}
+use Rattle.numbers_read.proofs.Filled.{place-fits, length-lent, parted, parted-none, turn, parted-all}
 use Rattle.numbers_read.proofs.Held.{length-numbers}
 use Rattle.numbers_read.proofs.load_tiles.Statement.{statement}
 use Rattle.numbers_read.proofs.load_tiles.Tie as tie
@@ -36,7 +37,7 @@ within : (c : tie.In-loop Inv-loop μ-loop) → c .before .before .before .befor
 within c = let a = c .before .before .before .before .args in place-fits (a .at) (a .count) (c .before .loop .q) (tileSize (a .s)) (length (a .text .now)) (c .before .before .before .before .pre .0 .room) (c .loop-test .taken)
 
 inside : (c : tie.In-loop Inv-loop μ-loop) → c .before .loop .q * c .before .before .before .before .args .s + c .before .before .before .before .args .s ≤ length (c .before .loop .matrix)
-inside c = omega (arith, c .before .loop .inv .1, part-fits (c .before .loop .q) (c .before .before .before .before .args .count) (c .before .before .before .before .args .s) (c .loop-test .taken))
+inside c = omega (arith, c .before .loop .inv .1, row-end (c .before .loop .q) (c .before .before .before .before .args .count) (c .before .before .before .before .args .s) (c .loop-test .taken))
 
 mul-a : tie.Need-mul-a Inv-loop μ-loop
 mul-a c = omega (arith, within c, c .before .before .before .before .good)

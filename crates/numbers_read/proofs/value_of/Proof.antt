@@ -8,7 +8,7 @@ use native.Mathlib.Omega.{arith}
 use lib.ListN.{length, getD}
 use Rattle.model.specs.Read.{isDigit, digitValue}
 use Rattle.laws.proofs.Blocks.{length-table, getD-table}
-use Rattle.digits_read.proofs.Fields.{digit-cases, value-lt}
+use Rattle.laws.proofs.Texts.{digit-cases, value-lt}
 use Rattle.numbers_read.specs.Decoded.{digitValues}
 use Rattle.numbers_read.proofs.value_of.Statement.{statement}
 use Rattle.numbers_read.proofs.value_of.Tie as tie

@@ -1,4 +1,4 @@
--- After v turns the first v workers are idle, and those from w on are as they were. Assumes nothing.
+-- After v turns the first v workers are idle, and those from `count` on are as they were. Assumes nothing.
 use Prim.Native.Nat.{ℕ, _≤_, _-_}
 use mathlib.Core.Path.{_≡_, refl, _∙_, subst}
 use native.Mathlib.Omega.{arith}
@@ -11,10 +11,10 @@ use Rattle.opened.proofs.idle_workers.Statement.{statement}
 use Rattle.opened.proofs.idle_workers.Tie as tie
 
 abbrev Inv-loop : tie.InvT-loop
-Inv-loop w left₀ v₀ left v = (v ≤ w) × (length left ≡ 32) × (take v left ≡ replicate v idle) × (drop w left ≡ drop w left₀)
+Inv-loop count left₀ v₀ left v = (v ≤ count) × (length left ≡ 32) × (take v left ≡ replicate v idle) × (drop count left ≡ drop count left₀)
 
 abbrev μ-loop : tie.MeasureT-loop
-μ-loop w left₀ v₀ left v = w - v
+μ-loop count left₀ v₀ left v = count - v
 
 loop-holds : tie.Need-loop-holds Inv-loop μ-loop
 loop-holds c = (omega arith, search needs, refl, refl)
@@ -40,12 +40,12 @@ loop-again c =
       omega arith,
       length-set (c .before .before .loop .left) (c .before .before .loop .v) (c .idle .result) ∙ i .1,
       idle-more (c .before .before .loop .left) (c .before .before .loop .v) (c .idle .result) (c .idle .ensures) (omega arith) (i .2),
-      drop-set-lt (c .before .before .before .args .w) (c .before .before .loop .left) (c .before .before .loop .v) (c .idle .result) (omega arith) ∙ i .3,
+      drop-set-lt (c .before .before .before .args .count) (c .before .before .loop .left) (c .before .before .loop .v) (c .idle .result) (omega arith) ∙ i .3,
     )
 
 returns : tie.Need-returns Inv-loop μ-loop
 returns c =
-    let e : c .before .loop .v ≡ c .before .before .args .w = omega arith in
+    let e : c .before .loop .v ≡ c .before .before .args .count = omega arith in
     (subst (λ (k : ℕ). take k (c .before .loop .left) ≡ replicate k idle) e (c .before .loop .inv .2), c .before .loop .inv .3)
 
 pub idle-workers-spec : {M : Type 1} → statement M

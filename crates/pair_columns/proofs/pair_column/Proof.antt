@@ -56,8 +56,8 @@ pair-rows-requires c κs =
       ((r .column, r .entry), (r .upper-finite, r .lower-finite)),
     )
 
-ended-requires : tie.Need-ended-requires
-ended-requires c κs = pair-ready (c .before .before .before .before .before .before .before .before .before .before .before .before .before .before .before .pre) .column
+column-end-requires : tie.Need-column-end-requires
+column-end-requires c κs = pair-ready (c .before .before .before .before .before .before .before .before .before .before .before .before .before .before .before .pre) .column
 
 same-length : tie.Need-same-length
 same-length c = c .before .before .before .before .pair-rows .kept .0
@@ -69,7 +69,7 @@ returns c =
     let e = c .before .before .before .before .before .before .wide .ensures ∙ ap (λ p. getD (now (a .lists)) (p + a .c) 0) (c .before .before .before .before .before .before .before .before .list-start .ensures) in
     pair-ends (a .z .tiles) (a .z .side) (a .k) (a .i) (a .j) (a .c) _ _ _ (r .column) (now (a .matrix)) (now (a .lists)) (r .list-room) e (c .before .before .before .before .before .before .before .before .before .before .before .before .before .tile-start .ensures) (c .before .before .before .before .before .before .before .before .before .before .before .before .tile-start2 .ensures) (c .before .before .before .before .before .before .before .before .before .read-column .result) _ _
     (column-read (a .z .side) (a .c) _ (tileStart (a .z .tiles) (a .z .side) (a .i) (a .k)) (now (a .matrix)) (c .before .before .before .before .before .before .before .before .before .read-column .result) (r .column) (rw (c .before .before .before .before .before .before .before .before .before .before .tile-start3 .ensures)) (r .mult-room) (c .before .before .before .before .before .before .before .before .before .read-column .ensures))
-    (c .before .before .before .before .pair-rows .ensures) _ (c .before .if1 .taken) (c .ended .ensures)
+    (c .before .before .before .before .pair-rows .ensures) _ (c .before .if1 .taken) (c .column-end .ensures)
 
 fill-numbers-requires : tie.Need-fill-numbers-requires
 fill-numbers-requires c κs = omega (arith, pair-ready (c .before .before .before .before .before .before .before .before .before .before .before .before .before .before .before .before .pre) .lower-room, c .before .before .before .before .before .before .before .before .before .before .before .before .tile-start2 .ensures, c .before .before .before .before .pair-rows .kept .0)
@@ -107,7 +107,7 @@ pair-column-spec =
     shared-slice-read-wide
     wide-requires
     pair-rows-requires
-    ended-requires
+    column-end-requires
     same-length
     returns
     fill-numbers-requires

@@ -4,13 +4,13 @@ use mathlib.Core.Path.{refl, _∙_}
 use Prim.Native.Nat.{_+_, _*_, _≤_}
 use native.Mathlib.Omega.{arith}
 use denote.Ref.{now}
-use Rattle.column_laws.proofs.Rows.{row-room}
 use Rattle.column_laws.proofs.Pivots.{couple-search}
+use Rattle.laws.proofs.Blocks.{row-end}
 use Rattle.pivots.proofs.couple_pivot.Statement.{statement}
 use Rattle.pivots.proofs.couple_pivot.Tie as tie
 
 room-here : (c : tie.After-shared-slice-known) → c .before .args .c * c .before .args .t + c .before .args .t ≤ c .before .args .t * c .before .args .t
-room-here c = let a = c .before .args in row-room (a .t) (a .t) (a .c) (c .before .pre .1)
+room-here c = let a = c .before .args in row-end (a .c) (a .t) (a .t) (c .before .pre .1)
 
 room : (c : tie.After-shared-slice-known) → c .before .args .u + (c .before .args .c * c .before .args .t + c .before .args .t) ≤ 65536
 room c = omega (arith, c .before .pre .0, room-here c)

@@ -4,13 +4,13 @@ use mathlib.Core.Path.{_≡_, refl, _∙_}
 use Prim.Native.Nat.{suc, _+_, _-_, _*_, _≤_}
 use native.Mathlib.Omega.{arith}
 use denote.Ref.{now}
-use Rattle.column_laws.proofs.Rows.{row-room}
 use Rattle.column_laws.proofs.Pivots.{factor-search}
+use Rattle.laws.proofs.Blocks.{row-end}
 use Rattle.pivots.proofs.factor_pivot.Statement.{statement}
 use Rattle.pivots.proofs.factor_pivot.Tie as tie
 
 room : (c : tie.After-shared-slice-known) → c .before .args .a + (c .before .args .c * c .before .args .t + c .before .args .t) + 16 ≤ 65552
-room c = let a = c .before .args in omega (arith, c .before .pre .0, row-room (a .t) (a .t) (a .c) (c .before .pre .1))
+room c = let a = c .before .args in omega (arith, c .before .pre .0, row-end (a .c) (a .t) (a .t) (c .before .pre .1))
 
 mul-search-pivot : tie.Need-mul-search-pivot
 mul-search-pivot c = omega (arith, room c)

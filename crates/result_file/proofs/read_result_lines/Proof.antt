@@ -9,8 +9,8 @@ use Rattle.result_file.proofs.Results.{matrix-refused, lists-refused, l
 use Rattle.result_file.proofs.read_result_lines.Statement.{statement}
 use Rattle.result_file.proofs.read_result_lines.Tie as tie
 
-mul-n : tie.Need-mul-n
-mul-n c = let f = facts (c .before .before .before .pre) in omega (arith, mul-le-mul (f .tiles .1) (f .side .1))
+mul-order : tie.Need-mul-order
+mul-order c = let f = facts (c .before .before .before .pre) in omega (arith, mul-le-mul (f .tiles .1) (f .side .1))
 
 mul-if1 : tie.Need-mul-if1
 mul-if1 c = let f = facts (c .before .before .before .pre) in let b = mul-le-mul (f .tiles .1) (f .side .1) in omega (arith, mul-le-mul b b)
@@ -27,8 +27,8 @@ returns-2 c = lists-refused _ _ _ _ _ (c .before .before .before .before .before
 check-result-lines-requires : tie.Need-check-result-lines-requires
 check-result-lines-requires c κs = let f = facts (c .before .before .before .before .before .pre) in (f .long, f .side .1)
 
-ended-requires : tie.Need-ended-requires
-ended-requires c κs = search needs
+text-end-requires : tie.Need-text-end-requires
+text-end-requires c κs = search needs
 
 enum-known-n : tie.Need-enum-known-n
 enum-known-n c = search needs
@@ -38,13 +38,13 @@ enum-told c = search needs
 
 load-result-requires : tie.Need-load-result-requires
 load-result-requires c κs = (
-  result-lines _ _ _ (c .before .before .before .before .before .before .before .before .before .before .before .pre) (sym (c .before .before .before .before .ended .ensures ∙ ap (textEnd _) (c .before .before .before .before .before .check-result-lines .ensures)) ∙ c .before .before .enum-told .given .1),
+  result-lines _ _ _ (c .before .before .before .before .before .before .before .before .before .before .before .pre) (sym (c .before .before .before .before .text-end .ensures ∙ ap (textEnd _) (c .before .before .before .before .before .check-result-lines .ensures)) ∙ c .before .before .enum-told .given .1),
   (omega (arith, c .before .before .before .before .before .before .before .if1 .left), c .before .before .before .before .before .before .if2 .left),
 )
 
 returns-3 : tie.Need-returns-3
 returns-3 c =
-    lines-refused _ _ _ _ _ (c .before .before .before .before .before .before .before .before .before .before .pre) (c .before .before .before .before .before .before .if1 .left) (c .before .before .before .before .before .if2 .left) _ _ (sym (c .before .before .before .ended .ensures ∙ ap (textEnd _) (c .before .before .before .before .check-result-lines .ensures)) ∙ c .before .n .given .1)
+    lines-refused _ _ _ _ _ (c .before .before .before .before .before .before .before .before .before .before .pre) (c .before .before .before .before .before .before .if1 .left) (c .before .before .before .before .before .if2 .left) _ _ (sym (c .before .before .before .text-end .ensures ∙ ap (textEnd _) (c .before .before .before .before .check-result-lines .ensures)) ∙ c .before .n .given .1)
 
 same-length : tie.Need-same-length
 same-length c = search needs
@@ -55,7 +55,7 @@ same-length-2 c = search needs
 returns-4 : tie.Need-returns-4
 returns-4 c =
     c .before .before .before .before .load-result .ensures
-    ∙ result-read _ _ _ _ _ (c .before .before .before .before .before .before .before .before .before .before .before .before .before .before .before .before .pre) (c .before .before .before .before .before .before .before .before .before .before .before .before .if1 .left) (c .before .before .before .before .before .before .before .before .before .before .before .if2 .left) (sym (c .before .before .before .before .before .before .before .before .before .ended .ensures ∙ ap (textEnd _) (c .before .before .before .before .before .before .before .before .before .before .check-result-lines .ensures)) ∙ c .before .before .before .before .before .before .before .enum-told .given .1)
+    ∙ result-read _ _ _ _ _ (c .before .before .before .before .before .before .before .before .before .before .before .before .before .before .before .before .pre) (c .before .before .before .before .before .before .before .before .before .before .before .before .if1 .left) (c .before .before .before .before .before .before .before .before .before .before .before .if2 .left) (sym (c .before .before .before .before .before .before .before .before .before .text-end .ensures ∙ ap (textEnd _) (c .before .before .before .before .before .before .before .before .before .before .check-result-lines .ensures)) ∙ c .before .before .before .before .before .before .before .enum-told .given .1)
 
 pub read-result-lines-spec : {M : Type 1} → statement M
-read-result-lines-spec = tie.close (tie.spec mul-n mul-if1 returns mul-if2 returns-2 check-result-lines-requires ended-requires enum-known-n enum-told load-result-requires returns-3 same-length same-length-2 returns-4)
+read-result-lines-spec = tie.close (tie.spec mul-order mul-if1 returns mul-if2 returns-2 check-result-lines-requires text-end-requires enum-known-n enum-told load-result-requires returns-3 same-length same-length-2 returns-4)

@@ -1,11 +1,12 @@
 -- `rows_written::put_tile_row` meets its contract: after j turns the first j frames are written. Assumes nothing.
 use Prim.Native.Nat.{_+_, _-_, _*_}
-use native.Mathlib.Nat.{zero-mul}
+use native.Mathlib.Nat.{zero-mul, mul-le-mul}
 use native.Mathlib.Omega.{arith}
 use lib.ListN.{length}
 use Rattle.digits_written.proofs.Put.{put-length}
+use Rattle.laws.proofs.Blocks.{row-end}
 use Rattle.rows_written.specs.Rows.{tileRow}
-use Rattle.rows_written.proofs.Turns.{Row, row-none, row-room, row-more, row-all, turn, one-more, cell, small, tilePiece, length-tile}
+use Rattle.rows_written.proofs.Turns.{Row, row-none, row-room, row-more, row-all, one-more, cell, tilePiece, length-tile}
 use Rattle.rows_written.proofs.put_tile_row.Statement.{statement}
 use Rattle.rows_written.proofs.put_tile_row.Tie as tie
 
@@ -19,16 +20,16 @@ loop-holds : tie.Need-loop-holds Inv-loop μ-loop
 loop-holds c = row-none _ _ _ _ _ (zero-mul _) (omega arith)
 
 mul-put-tile : tie.Need-mul-put-tile Inv-loop μ-loop
-mul-put-tile c = let a = c .before .before .before .before .before .args in let p = c .before .before .before .before .before .pre in omega (arith, small (a .i) (a .n) 16 16 (omega arith) (omega arith))
+mul-put-tile c = let a = c .before .before .before .before .before .args in let p = c .before .before .before .before .before .pre in omega (arith, mul-le-mul {n₁ = a .i} {m₁ = a .n} {n₂ = 16} {m₂ = 16} (omega arith) (omega arith))
 
 add-put-tile : tie.Need-add-put-tile Inv-loop μ-loop
-add-put-tile c = let a = c .before .before .before .before .before .args in let p = c .before .before .before .before .before .pre in omega (arith, small (a .i) (a .n) 16 16 (omega arith) (omega arith))
+add-put-tile c = let a = c .before .before .before .before .before .args in let p = c .before .before .before .before .before .pre in omega (arith, mul-le-mul {n₁ = a .i} {m₁ = a .n} {n₂ = 16} {m₂ = 16} (omega arith) (omega arith))
 
 mul-put-tile-2 : tie.Need-mul-put-tile-2 Inv-loop μ-loop
 mul-put-tile-2 c = let a = c .before .before .before .before .before .args in let p = c .before .before .before .before .before .pre in omega (arith, cell (a .n) (a .s) (a .i) (c .before .before .loop .j) (length (a .m .now)) (p .0 .0) (c .before .loop-test .taken) (p .1 .1))
 
 put-tile-requires : tie.Need-put-tile-requires Inv-loop μ-loop
-put-tile-requires c κs = let a = c .before .before .before .before .before .args in let p = c .before .before .before .before .before .pre in (row-room _ _ _ _ _ _ _ (7 + a .s * 16) _ (c .before .before .loop .inv) (turn _ _ _ (c .before .loop-test .taken)) (p .1 .0), cell (a .n) (a .s) (a .i) (c .before .before .loop .j) (length (a .m .now)) (p .0 .0) (c .before .loop-test .taken) (p .1 .1))
+put-tile-requires c κs = let a = c .before .before .before .before .before .args in let p = c .before .before .before .before .before .pre in (row-room _ _ _ _ _ _ _ (7 + a .s * 16) _ (c .before .before .loop .inv) (row-end _ _ _ (c .before .loop-test .taken)) (p .1 .0), cell (a .n) (a .s) (a .i) (c .before .before .loop .j) (length (a .m .now)) (p .0 .0) (c .before .loop-test .taken) (p .1 .1))
 
 mul-place : tie.Need-mul-place Inv-loop μ-loop
 mul-place c = omega arith
@@ -37,7 +38,7 @@ add-place : tie.Need-add-place Inv-loop μ-loop
 add-place c = omega arith
 
 add-place-2 : tie.Need-add-place-2 Inv-loop μ-loop
-add-place-2 c = let a = c .before .before .before .before .before .before .before .before .args in let p = c .before .before .before .before .before .before .before .before .pre in omega (arith, row-room _ _ _ _ _ _ _ (7 + a .s * 16) _ (c .before .before .before .before .before .loop .inv) (turn _ _ _ (c .before .before .before .before .loop-test .taken)) (p .1 .0))
+add-place-2 c = let a = c .before .before .before .before .before .before .before .before .args in let p = c .before .before .before .before .before .before .before .before .pre in omega (arith, row-room _ _ _ _ _ _ _ (7 + a .s * 16) _ (c .before .before .before .before .before .loop .inv) (row-end _ _ _ (c .before .before .before .before .loop-test .taken)) (p .1 .0))
 
 add-j : tie.Need-add-j Inv-loop μ-loop
 add-j c = omega arith
@@ -46,7 +47,7 @@ loop-less : tie.Need-loop-less Inv-loop μ-loop
 loop-less c = omega arith
 
 loop-again : tie.Need-loop-again Inv-loop μ-loop
-loop-again c = let a = c .before .before .before .before .before .before .before .before .args in let p = c .before .before .before .before .before .before .before .before .pre in row-more _ _ _ _ _ _ _ (7 + a .s * 16) _ (c .before .before .before .before .before .loop .inv) (turn _ _ _ (c .before .before .before .before .loop-test .taken)) (p .1 .0) _ (c .before .before .before .before .loop-test .taken) (one-more _ _) (length-tile (a .n) (a .s) (a .m .now) (a .i) _ (p .0 .0) (c .before .before .before .before .loop-test .taken) (p .1 .1)) (c .before .before .put-tile .ensures)
+loop-again c = let a = c .before .before .before .before .before .before .before .before .args in let p = c .before .before .before .before .before .before .before .before .pre in row-more _ _ _ _ _ _ _ (7 + a .s * 16) _ (c .before .before .before .before .before .loop .inv) (row-end _ _ _ (c .before .before .before .before .loop-test .taken)) (p .1 .0) _ (c .before .before .before .before .loop-test .taken) (one-more _ _) (length-tile (a .n) (a .s) (a .m .now) (a .i) _ (p .0 .0) (c .before .before .before .before .loop-test .taken) (p .1 .1)) (c .before .before .put-tile .ensures)
 
 same-length : tie.Need-same-length Inv-loop μ-loop
 same-length c = put-length (c .before .loop .inv .written)

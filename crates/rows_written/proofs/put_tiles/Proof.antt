@@ -3,8 +3,9 @@ use Prim.Native.Nat.{_+_, _-_, _*_}
 use native.Mathlib.Nat.{zero-mul}
 use native.Mathlib.Omega.{arith}
 use Rattle.digits_written.proofs.Put.{put-length}
+use Rattle.laws.proofs.Blocks.{row-end}
 use Rattle.rows_written.specs.Rows.{tileRow, tileRows}
-use Rattle.rows_written.proofs.Turns.{Row, row-none, row-room, row-more, row-all, turn, one-more, length-tile-row}
+use Rattle.rows_written.proofs.Turns.{Row, row-none, row-room, row-more, row-all, one-more, length-tile-row}
 use Rattle.rows_written.proofs.put_tiles.Statement.{statement}
 use Rattle.rows_written.proofs.put_tiles.Tie as tie
 
@@ -18,7 +19,7 @@ loop-holds : tie.Need-loop-holds Inv-loop μ-loop
 loop-holds c = row-none _ _ _ _ _ (zero-mul _) (omega arith)
 
 put-tile-row-requires : tie.Need-put-tile-row-requires Inv-loop μ-loop
-put-tile-row-requires c κs = let a = c .before .before .before .before .before .args in let p = c .before .before .before .before .before .pre in ((c .before .loop-test .taken, p .0 .0, p .0 .1), (row-room _ _ _ _ _ _ _ (a .n * (7 + a .s * 16)) _ (c .before .before .loop .inv) (turn _ _ _ (c .before .loop-test .taken)) (p .1 .0), p .1 .1))
+put-tile-row-requires c κs = let a = c .before .before .before .before .before .args in let p = c .before .before .before .before .before .pre in ((c .before .loop-test .taken, p .0 .0, p .0 .1), (row-room _ _ _ _ _ _ _ (a .n * (7 + a .s * 16)) _ (c .before .before .loop .inv) (row-end _ _ _ (c .before .loop-test .taken)) (p .1 .0), p .1 .1))
 
 mul-place : tie.Need-mul-place Inv-loop μ-loop
 mul-place c = omega arith
@@ -27,10 +28,10 @@ add-place : tie.Need-add-place Inv-loop μ-loop
 add-place c = omega arith
 
 mul-place-2 : tie.Need-mul-place-2 Inv-loop μ-loop
-mul-place-2 c = let a = c .before .before .before .before .before .before .before .before .args in let p = c .before .before .before .before .before .before .before .before .pre in omega (arith, row-room _ _ _ _ _ _ _ (a .n * (7 + a .s * 16)) _ (c .before .before .before .before .before .loop .inv) (turn _ _ _ (c .before .before .before .before .loop-test .taken)) (p .1 .0), put-length (c .before .before .before .before .before .loop .inv .written))
+mul-place-2 c = let a = c .before .before .before .before .before .before .before .before .args in let p = c .before .before .before .before .before .before .before .before .pre in omega (arith, row-room _ _ _ _ _ _ _ (a .n * (7 + a .s * 16)) _ (c .before .before .before .before .before .loop .inv) (row-end _ _ _ (c .before .before .before .before .loop-test .taken)) (p .1 .0), put-length (c .before .before .before .before .before .loop .inv .written))
 
 add-place-2 : tie.Need-add-place-2 Inv-loop μ-loop
-add-place-2 c = let a = c .before .before .before .before .before .before .before .before .args in let p = c .before .before .before .before .before .before .before .before .pre in omega (arith, row-room _ _ _ _ _ _ _ (a .n * (7 + a .s * 16)) _ (c .before .before .before .before .before .loop .inv) (turn _ _ _ (c .before .before .before .before .loop-test .taken)) (p .1 .0), put-length (c .before .before .before .before .before .loop .inv .written))
+add-place-2 c = let a = c .before .before .before .before .before .before .before .before .args in let p = c .before .before .before .before .before .before .before .before .pre in omega (arith, row-room _ _ _ _ _ _ _ (a .n * (7 + a .s * 16)) _ (c .before .before .before .before .before .loop .inv) (row-end _ _ _ (c .before .before .before .before .loop-test .taken)) (p .1 .0), put-length (c .before .before .before .before .before .loop .inv .written))
 
 add-i : tie.Need-add-i Inv-loop μ-loop
 add-i c = omega arith
@@ -39,7 +40,7 @@ loop-less : tie.Need-loop-less Inv-loop μ-loop
 loop-less c = omega arith
 
 loop-again : tie.Need-loop-again Inv-loop μ-loop
-loop-again c = let a = c .before .before .before .before .before .before .before .before .args in let p = c .before .before .before .before .before .before .before .before .pre in row-more _ _ _ _ _ _ _ (a .n * (7 + a .s * 16)) _ (c .before .before .before .before .before .loop .inv) (turn _ _ _ (c .before .before .before .before .loop-test .taken)) (p .1 .0) _ (c .before .before .before .before .loop-test .taken) (one-more _ _) (length-tile-row (a .n) (a .s) (a .m .now) _ (c .before .before .before .before .loop-test .taken) (p .1 .1)) (c .before .before .put-tile-row .ensures)
+loop-again c = let a = c .before .before .before .before .before .before .before .before .args in let p = c .before .before .before .before .before .before .before .before .pre in row-more _ _ _ _ _ _ _ (a .n * (7 + a .s * 16)) _ (c .before .before .before .before .before .loop .inv) (row-end _ _ _ (c .before .before .before .before .loop-test .taken)) (p .1 .0) _ (c .before .before .before .before .loop-test .taken) (one-more _ _) (length-tile-row (a .n) (a .s) (a .m .now) _ (c .before .before .before .before .loop-test .taken) (p .1 .1)) (c .before .before .put-tile-row .ensures)
 
 same-length : tie.Need-same-length Inv-loop μ-loop
 same-length c = put-length (c .before .loop .inv .written)

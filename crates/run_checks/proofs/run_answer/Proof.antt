@@ -8,8 +8,6 @@ use Rattle.answers.proofs.Refusals.{lengths-fit}
 use Rattle.run_checks.proofs.Refused.{answer-1, answer-2, answer-3, answer-4, answer-5}
 use Rattle.run_checks.proofs.run_answer.Statement.{statement}
 use Rattle.run_checks.proofs.run_answer.Tie as tie
-use Rattle.run_checks.proofs.run_answer.Reads as reads
-use Rattle.run_checks.proofs.run_answer.Lts as lts
 
 bad-sizes-requires : tie.Need-bad-sizes-requires
 bad-sizes-requires c κs = search needs

@@ -4,8 +4,6 @@ use borrow.Author.Needs.{needs}
 use Rattle.runs.proofs.Replies.{refused, accepted}
 use Rattle.runs.proofs.run.Statement.{statement}
 use Rattle.runs.proofs.run.Tie as tie
-use Rattle.runs.proofs.run.Reads as reads
-use Rattle.runs.proofs.run.Lts as lts
 
 run-answer-requires : tie.Need-run-answer-requires
 run-answer-requires c κs = search needs

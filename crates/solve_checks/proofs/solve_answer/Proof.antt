@@ -25,8 +25,8 @@ returns-2 c =
     let slots : length (d .args .workers) ≡ 32 = search needs in
     solve-2 (d .args .z) _ _ _ (d .args .workers) _ _ _ (c .before .before .before .bad-sizes .ensures) (c .before .before .if1 .left) _ (c .before .bad-lengths .ensures (d .args .workers) slots) (c .if2 .taken)
 
-mul-n : tie.Need-mul-n
-mul-n c =
+mul-order : tie.Need-mul-order
+mul-order c =
     let s = sized (c .before .before .before .before .before .before .before .before .before .args .z) (sym (c .before .before .before .before .bad-sizes .ensures) ∙ c .before .before .before .if1 .left) in
     omega (arith, small (c .before .before .before .before .before .before .before .before .before .args .z .tiles) (c .before .before .before .before .before .before .before .before .before .args .z .side) (s .few-tiles) (s .small-side))
 
@@ -87,7 +87,7 @@ solve-answer-spec =
     returns
     bad-lengths-requires
     returns-2
-    mul-n
+    mul-order
     returns-3
     returns-4
     damaged-requires

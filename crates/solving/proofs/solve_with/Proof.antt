@@ -12,8 +12,8 @@ use Rattle.solving.proofs.solve_with.Tie as tie
 few : (c : tie.After-solve-in-arg) → c .before .before .before .before .before .before .before .args .z .tiles * c .before .before .before .before .before .before .before .args .z .side ≤ 256
 few c = mul-le-mul (c .before .before .before .before .before .before .before .pre .0 .tiles-most) (c .before .before .before .before .before .before .before .pre .0 .side-most)
 
-mul-n : tie.Need-mul-n
-mul-n c = search needs
+mul-order : tie.Need-mul-order
+mul-order c = search needs
 
 slice-relend-prefix-solve-in : tie.Need-slice-relend-prefix-solve-in
 slice-relend-prefix-solve-in c = omega (arith, few c, c .before .before .before .before .before .before .before .pre .1 .1 .2)
@@ -39,7 +39,7 @@ pub solve-with-spec : {M : Type 1} → statement M
 solve-with-spec =
     tie.close
     (tie.spec
-    mul-n
+    mul-order
     slice-relend-prefix-solve-in
     slice-aggregate-solve-in
     solve-in-requires

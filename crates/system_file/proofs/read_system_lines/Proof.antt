@@ -8,8 +8,8 @@ use Rattle.system_file.proofs.Systems.{length-refused, lines-refused, s
 use Rattle.system_file.proofs.read_system_lines.Statement.{statement}
 use Rattle.system_file.proofs.read_system_lines.Tie as tie
 
-mul-n : tie.Need-mul-n
-mul-n c = let f = facts (c .before .before .pre) in omega (arith, mul-le-mul (f .tiles .1) (f .side .1))
+mul-order : tie.Need-mul-order
+mul-order c = let f = facts (c .before .before .pre) in omega (arith, mul-le-mul (f .tiles .1) (f .side .1))
 
 mul-if1 : tie.Need-mul-if1
 mul-if1 c = let f = facts (c .before .before .pre) in let b = mul-le-mul (f .tiles .1) (f .side .1) in omega (arith, mul-le-mul b b)
@@ -49,4 +49,4 @@ returns-3 : tie.Need-returns-3
 returns-3 c = system-read _ _ _ _ (c .before .before .before .before .before .before .before .before .before .before .pre) (c .before .before .before .before .before .before .before .if1 .left) _ (sym (c .before .before .before .before .before .before .check-system-lines .ensures) ∙ c .before .before .before .before .enum-told .given .1) (c .before .before .load-tiles .ensures)
 
 pub read-system-lines-spec : {M : Type 1} → statement M
-read-system-lines-spec = tie.close (tie.spec mul-n mul-if1 returns check-system-lines-requires enum-known-n enum-told mul-load-tiles mul-load-tiles-2 load-tiles-requires returns-2 same-length returns-3)
+read-system-lines-spec = tie.close (tie.spec mul-order mul-if1 returns check-system-lines-requires enum-known-n enum-told mul-load-tiles mul-load-tiles-2 load-tiles-requires returns-2 same-length returns-3)

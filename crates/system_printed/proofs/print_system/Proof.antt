@@ -17,11 +17,11 @@ blank-entries-requires c κs = search needs
 blank-records-requires : tie.Need-blank-records-requires
 blank-records-requires c κs = search needs
 
-mul-n : tie.Need-mul-n
-mul-n c = let s = small-sizes (checked _ _ _ (c .before .before .before .before .before .pre)) in omega arith
+mul-order : tie.Need-mul-order
+mul-order c = let s = small-sizes (checked _ _ _ (c .before .before .before .before .before .pre)) in omega arith
 
-mul-size : tie.Need-mul-size
-mul-size c = let s = small-sizes (checked _ _ _ (c .before .before .before .before .before .pre)) in omega arith
+mul-elements : tie.Need-mul-elements
+mul-elements c = let s = small-sizes (checked _ _ _ (c .before .before .before .before .before .pre)) in omega arith
 
 mul-listed : tie.Need-mul-listed
 mul-listed c = let s = small-sizes (checked _ _ _ (c .before .before .before .before .before .pre)) in omega arith
@@ -76,8 +76,8 @@ print-system-spec =
     blank-numbers-requires
     blank-entries-requires
     blank-records-requires
-    mul-n
-    mul-size
+    mul-order
+    mul-elements
     mul-listed
     mul-listed-2
     task-count-requires

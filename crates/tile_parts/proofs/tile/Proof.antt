@@ -6,7 +6,8 @@ use native.Mathlib.Omega.{arith}
 use denote.Ref.{now}
 use lib.ListN.{length}
 use Rattle.model.specs.Buffer.{tile}
-use Rattle.column_laws.proofs.Places.{place-room, square-most, matrix-most}
+use Rattle.column_laws.proofs.Places.{matrix-most}
+use Rattle.laws.proofs.Blocks.{place-room, square-most}
 use Rattle.tile_parts.proofs.tile.Statement.{statement}
 use Rattle.tile_parts.proofs.tile.Tie as tie
 

@@ -37,17 +37,17 @@ mul-left c = let i = c .before .before .before .before .before .before .before .
 array-set-from-left : tie.Need-array-set-from-left Inv-loop μ-loop
 array-set-from-left c = let i = c .before .before .before .before .before .before .before .before .before .before .before .before .loop .inv in omega (arith, i .turn-of, sizes i .few-workers)
 
-cast-search-from : tie.Need-cast-search-from Inv-loop μ-loop
-cast-search-from c = search needs
+cast-search-start : tie.Need-cast-search-start Inv-loop μ-loop
+cast-search-start c = search needs
 
-search-from-requires : tie.Need-search-from-requires Inv-loop μ-loop
-search-from-requires c κs = search needs
+search-start-requires : tie.Need-search-start-requires Inv-loop μ-loop
+search-start-requires c κs = search needs
 
 add-n : tie.Need-add-n Inv-loop μ-loop
 add-n c = omega arith
 
-after-requires : tie.Need-after-requires Inv-loop μ-loop
-after-requires c κs = c .before .before .before .before .before .before .before .before .before .before .before .before .before .before .loop .inv .turn-of
+worker-after-requires : tie.Need-worker-after-requires Inv-loop μ-loop
+worker-after-requires c κs = c .before .before .before .before .before .before .before .before .before .before .before .before .before .before .loop .inv .turn-of
 
 loop-less : tie.Need-loop-less Inv-loop μ-loop
 loop-less c = call-less _ _ _ _ _ _ (omega arith)
@@ -55,7 +55,7 @@ loop-less c = call-less _ _ _ _ _ _ (omega arith)
 loop-again : tie.Need-loop-again Inv-loop μ-loop
 loop-again c =
     work-goes (c .before .before .before .before .before .before .before .before .before .before .before .before .before .before .before .loop .inv) (c .before .before .before .before .before .before .before .before .before .before .before .before .if1 .taken) (c .before .before .before .before .before .before .before .before .advance .ensures) (omega arith)
-    _ (c .before .search-from .ensures) _ (c .after .ensures)
+    _ (c .before .search-start .ensures) _ (c .worker-after .ensures)
 
 -- ---- a take
 
@@ -77,8 +77,8 @@ add-from c = omega (arith, few-records (c .before .before .before .before .befor
 add-n-2 : tie.Need-add-n-2 Inv-loop μ-loop
 add-n-2 c = omega arith
 
-after-requires-2 : tie.Need-after-requires-2 Inv-loop μ-loop
-after-requires-2 c κs = c .before .before .before .before .before .before .before .before .before .loop .inv .turn-of
+worker-after-requires-2 : tie.Need-worker-after-requires-2 Inv-loop μ-loop
+worker-after-requires-2 c κs = c .before .before .before .before .before .before .before .before .before .loop .inv .turn-of
 
 loop-less-2 : tie.Need-loop-less-2 Inv-loop μ-loop
 loop-less-2 c = call-less _ _ _ _ _ _ (omega arith)
@@ -87,7 +87,7 @@ loop-again-2 : tie.Need-loop-again-2 Inv-loop μ-loop
 loop-again-2 c =
     let t = c .before .before .take-task .ensures in
     take-goes (c .before .before .before .before .before .before .before .before .before .before .loop .inv) _ (c .before .before .before .before .before .lowest-ready .ensures) (c .before .before .before .before .before .before .before .if1 .left) (omega arith) (omega arith)
-    _ (t .0) _ (t .1 .0) (t .1 .1) _ (c .after2 .ensures)
+    _ (t .0) _ (t .1 .0) (t .1 .1) _ (c .worker-after2 .ensures)
 
 -- ---- neither
 
@@ -146,10 +146,10 @@ turns-from-spec =
     advance-requires
     mul-left
     array-set-from-left
-    cast-search-from
-    search-from-requires
+    cast-search-start
+    search-start-requires
     add-n
-    after-requires
+    worker-after-requires
     loop-less
     loop-again
     lowest-ready-requires
@@ -158,7 +158,7 @@ turns-from-spec =
     array-set-from-left-2
     add-from
     add-n-2
-    after-requires-2
+    worker-after-requires-2
     loop-less-2
     loop-again-2
     next-busy-requires

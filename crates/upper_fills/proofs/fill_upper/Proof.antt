@@ -16,9 +16,9 @@ use Rattle.model.specs.Num.{plusZero}
 use Rattle.model.specs.Tile.{at, block, zeros}
 use Rattle.laws.proofs.Tests.{lt-or-le}
 use Rattle.laws.proofs.Blocks.{getD-table, length-block, row-of, column-of, in-block, row-below, column-below, row-end}
-use Rattle.laws.proofs.Parts.{Fits, length-put, get-in, get-before, get-after}
+use Rattle.laws.proofs.Parts.{Fits, length-put, get-in, get-before, get-after, get-part}
 use Rattle.upper_fills.specs.Zeroed.{upperZeroed}
-use Rattle.fills.proofs.Stores.{Stored, stored-none, stored-join, stored-is, getD-part}
+use Rattle.fills.proofs.Stores.{Stored, stored-none, stored-join, stored-is}
 use Rattle.upper_fills.proofs.fill_upper.Statement.{statement}
 use Rattle.upper_fills.proofs.fill_upper.Tie as tie
 
@@ -88,7 +88,7 @@ unfolding upperZeroed upper block at
 upper-at t start m j h =
     getD-table (t * t) _ j nan h
     ∙ ap (λ (x : Float). cond (leb (j / t) (j % t)) plusZero x)
-    (getD-part nan start (t * t) m (j / t * t + j % t) (in-block t t (j / t) (j % t) (row-below t t j h) (column-below t t j h))
+    (get-part start (t * t) m nan (j / t * t + j % t) (in-block t t (j / t) (j % t) (row-below t t j h) (column-below t t j h))
     ∙ ap (λ (z : ℕ). getD m z nan) (sym (add-assoc start (j / t * t) (j % t))))
 
 upper-all : (t start r : ℕ) (before after : List Float) → r ≡ t → Stored nan start (r * t) (upper t start before) before after → start + t * t ≤ length before

@@ -7,7 +7,7 @@ use Rattle.model.specs.Refusal.{badWorker}
 use Rattle.worker.specs.Holding.{idle}
 use Rattle.model.specs.Plan.{planOf}
 use Rattle.model.specs.Lists.{run, some}
-use Rattle.checks.proofs.Searches.{some-begins, some-stops, some-goes-on, some-ends, some-places}
+use Rattle.laws.proofs.Searches.{some-begins, some-stops, some-goes-on, some-ends, some-places}
 use Rattle.checks.specs.Checks.{recordsAlone}
 use Rattle.workers.proofs.bad_workers.Statement.{statement}
 use Rattle.workers.proofs.bad_workers.Tie as tie

@@ -4,6 +4,7 @@ use reference::calls::{all_finished, is_finished};
 use reference::checks::{accept_shape, lengths_fit};
 use reference::hex::Fields;
 use reference::judge::{PROGRAM, RESULT, SYSTEM};
+use reference::numbers::bits;
 use reference::read::{read_header, NO_LIMIT};
 use reference::script::{Player, COLUMN, LEND, OPENING, OUTCOME, RUN, SOLVE, TAKE};
 use reference::texts::all_texts;
@@ -15,7 +16,13 @@ use solumivaf::{Ending, Lent, Outcome, Record, Refusal, Run, Sizes, SLOTS};
 pub fn lent_of(theirs: &reference::lent::Lent) -> Lent {
     let mut ours = Lent { matrix: theirs.matrix.clone(), lists: theirs.lists.clone(), ..Lent::default() };
     for record in &theirs.records {
-        ours.records.push(Record { kind: record.kind, k: record.k, i: record.i, j: record.j, mark: record.mark });
+        ours.records.push(Record {
+            kind: record.kind,
+            k: record.k,
+            i: record.i,
+            j: record.j,
+            mark: record.mark,
+        });
     }
     for slot in 0..SLOTS {
         ours.workers.busy[slot] = theirs.workers[slot].busy;
@@ -23,10 +30,6 @@ pub fn lent_of(theirs: &reference::lent::Lent) -> Lent {
         ours.workers.column[slot] = theirs.workers[slot].column;
     }
     ours
-}
-
-pub fn bits(numbers: &[f64]) -> Vec<u64> {
-    numbers.iter().map(|number| number.to_bits()).collect()
 }
 
 fn same_state(ours: &Lent, theirs: &reference::lent::Lent) -> bool {
@@ -37,7 +40,7 @@ fn same_state(ours: &Lent, theirs: &reference::lent::Lent) -> bool {
         && ours.workers == other.workers
 }
 
-fn theirs_of(refusal: reference::lent::Refusal) -> Refusal {
+fn refusal_of(refusal: reference::lent::Refusal) -> Refusal {
     Refusal { number: refusal.number, place: refusal.place as usize }
 }
 
@@ -72,8 +75,19 @@ impl Players {
     }
 
     fn sizes(fields: &mut Fields) -> (Sizes, reference::lent::Sizes) {
-        let theirs = reference::lent::Sizes { tiles: fields.take(16), side: fields.take(16), workers: fields.take(16) };
-        (Sizes { tiles: theirs.tiles as usize, side: theirs.side as usize, workers: theirs.workers as usize }, theirs)
+        let theirs = reference::lent::Sizes {
+            tiles: fields.take(16),
+            side: fields.take(16),
+            workers: fields.take(16),
+        };
+        (
+            Sizes {
+                tiles: theirs.tiles as usize,
+                side: theirs.side as usize,
+                workers: theirs.workers as usize,
+            },
+            theirs,
+        )
     }
 
     /// Makes the call of one line on both sides.
@@ -88,19 +102,25 @@ impl Players {
             }
             OPENING => {
                 let (ours, theirs) = Players::sizes(&mut fields);
-                let expected = reference::calls::opening(theirs, &mut self.theirs.lent).map_err(theirs_of);
+                let expected = reference::calls::opening(theirs, &mut self.theirs.lent).map_err(refusal_of);
                 assert_eq!(self.ours.open(ours), expected, "opening {ours:?}");
             }
             TAKE => {
                 let (ours, theirs) = Players::sizes(&mut fields);
                 let (worker, task) = (fields.take(16), fields.take(16));
-                let expected = reference::calls::take(theirs, &mut self.theirs.lent, worker, task).map_err(theirs_of);
-                assert_eq!(self.ours.take(ours, worker as usize, task as usize), expected, "take {ours:?} {worker} {task}");
+                let expected =
+                    reference::calls::take(theirs, &mut self.theirs.lent, worker, task).map_err(refusal_of);
+                assert_eq!(
+                    self.ours.take(ours, worker as usize, task as usize),
+                    expected,
+                    "take {ours:?} {worker} {task}"
+                );
             }
             COLUMN => {
                 let (ours, theirs) = Players::sizes(&mut fields);
                 let worker = fields.take(16);
-                let expected = reference::calls::column(theirs, &mut self.theirs.lent, worker).map_err(theirs_of);
+                let expected =
+                    reference::calls::column(theirs, &mut self.theirs.lent, worker).map_err(refusal_of);
                 assert_eq!(self.ours.column(ours, worker as usize), expected, "column {ours:?} {worker}");
             }
             RUN => {
@@ -109,7 +129,7 @@ impl Players {
                 let expected = match reference::calls::run(theirs, &mut self.theirs.lent, budget) {
                     Ok(reference::calls::Run::Finished(count)) => Ok(Run::Finished(count)),
                     Ok(reference::calls::Run::Spent(count)) => Ok(Run::Spent(count)),
-                    Err(refusal) => Err(theirs_of(refusal)),
+                    Err(refusal) => Err(refusal_of(refusal)),
                 };
                 assert_eq!(self.ours.run(ours, budget), expected, "run {ours:?} {budget}");
             }
@@ -120,7 +140,8 @@ impl Players {
                 let count = fields.take(8) as usize;
                 let mut answers = fields.numbers(count);
                 let mut their_answers = answers.clone();
-                let expected = reference::solve::solve(theirs, &self.theirs.lent, &right, &mut their_answers).map_err(theirs_of);
+                let expected = reference::solve::solve(theirs, &self.theirs.lent, &right, &mut their_answers)
+                    .map_err(refusal_of);
                 assert_eq!(self.ours.solve(ours, &right, &mut answers), expected, "solve {ours:?}");
                 let same = answers.iter().zip(&their_answers).all(|(a, b)| a.to_bits() == b.to_bits());
                 assert!(same, "answers differ after {line:.100}");
@@ -138,7 +159,7 @@ impl Players {
 
     fn expected_outcome(&self, tiles: u64, side: u64) -> Result<Ending, Refusal> {
         let lent = &self.theirs.lent;
-        let shape = accept_shape(tiles, side).map_err(theirs_of)?;
+        let shape = accept_shape(tiles, side).map_err(refusal_of)?;
         if !lengths_fit(shape, lent) {
             return Err(Refusal { number: 2, place: 0 });
         }
@@ -194,14 +215,19 @@ fn system_text(text: &[u8]) {
         let (mut ours, mut theirs) = (vec![7.0; length], vec![7.0; length]);
         let answer = solumivaf::read_system(text, &mut ours);
         let expected = reference::read::read_system(text, &mut theirs);
-        assert_eq!(answer, expected.map(|shape| (shape.tiles, shape.side)).map_err(theirs_of), "system {}", shown(text));
+        assert_eq!(
+            answer,
+            expected.map(|shape| (shape.tiles, shape.side)).map_err(refusal_of),
+            "system {}",
+            shown(text)
+        );
         assert_eq!(bits(&ours), bits(&theirs), "matrix of {}", shown(text));
         if let Ok((tiles, side)) = answer {
             for room in [text.len() + 3, text.len(), text.len() - 1] {
                 let (mut written, mut other) = (vec![b'x'; room], vec![b'x'; room]);
                 let answer = solumivaf::write_system(tiles, side, &ours, &mut written);
                 let expected = reference::write::write_system(tiles as u64, side as u64, &theirs, &mut other);
-                assert_eq!(answer, expected.map_err(theirs_of), "writing {}", shown(text));
+                assert_eq!(answer, expected.map_err(refusal_of), "writing {}", shown(text));
                 assert_eq!(written, other, "writing {}", shown(text));
             }
         }
@@ -215,7 +241,9 @@ fn result_text(text: &[u8]) {
         let (mut lists, mut their_lists) = (vec![9; entries], vec![9; entries]);
         let answer = solumivaf::read_result(text, &mut ours, &mut lists);
         let expected = reference::read::read_result(text, &mut theirs, &mut their_lists);
-        let expected = expected.map(|(shape, outcome)| (shape.tiles, shape.side, outcome_of(outcome))).map_err(theirs_of);
+        let expected = expected
+            .map(|(shape, outcome)| (shape.tiles, shape.side, outcome_of(outcome)))
+            .map_err(refusal_of);
         assert_eq!(answer, expected, "result {}", shown(text));
         assert_eq!((bits(&ours), &lists), (bits(&theirs), &their_lists), "buffers of {}", shown(text));
         if let Ok((tiles, side, outcome)) = answer {
@@ -223,9 +251,15 @@ fn result_text(text: &[u8]) {
                 let (mut written, mut other) = (vec![b'x'; room], vec![b'x'; room]);
                 let answer = solumivaf::write_result(tiles, side, &ours, &lists, outcome, &mut written);
                 let (tiles, side) = (tiles as u64, side as u64);
-                let expected =
-                    reference::write::write_result(tiles, side, &theirs, &their_lists, their_outcome(outcome), &mut other);
-                assert_eq!(answer, expected.map_err(theirs_of), "writing {}", shown(text));
+                let expected = reference::write::write_result(
+                    tiles,
+                    side,
+                    &theirs,
+                    &their_lists,
+                    their_outcome(outcome),
+                    &mut other,
+                );
+                assert_eq!(answer, expected.map_err(refusal_of), "writing {}", shown(text));
                 assert_eq!(written, other, "writing {}", shown(text));
             }
         }

@@ -7,19 +7,19 @@ use Rattle.fills.proofs.fill.fill_entries.Statement.{statement}
 use Rattle.fills.proofs.fill.fill_entries.Tie as tie
 
 abbrev Inv-loop : tie.InvT-loop
-Inv-loop l₀ start n i₀ l i = (i ≤ n) × Stored 0 start i (λ _. 0) l₀ l
+Inv-loop lists₀ start n i₀ lists i = (i ≤ n) × Stored 0 start i (λ _. 0) lists₀ lists
 
 abbrev μ-loop : tie.MeasureT-loop
-μ-loop l₀ start n i₀ l i = n - i
+μ-loop lists₀ start n i₀ lists i = n - i
 
 loop-holds : tie.Need-loop-holds Inv-loop μ-loop
 loop-holds c = (omega arith, stored-none 0 _ _ _)
 
-add-l : tie.Need-add-l Inv-loop μ-loop
-add-l c = omega arith
+add-lists : tie.Need-add-lists Inv-loop μ-loop
+add-lists c = omega arith
 
-slice-write-l : tie.Need-slice-write-l Inv-loop μ-loop
-slice-write-l c = omega arith
+slice-write-lists : tie.Need-slice-write-lists Inv-loop μ-loop
+slice-write-lists c = omega arith
 
 add-i : tie.Need-add-i Inv-loop μ-loop
 add-i c = omega arith
@@ -43,8 +43,8 @@ fill-entries-spec =
     Inv-loop
     μ-loop
     loop-holds
-    add-l
-    slice-write-l
+    add-lists
+    slice-write-lists
     add-i
     loop-less
     loop-again

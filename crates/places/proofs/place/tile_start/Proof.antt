@@ -1,7 +1,8 @@
 -- `place::tile_start` meets its contract: the products are small. Assumes nothing.
 use borrow.Author.Needs.{needs}
 use native.Mathlib.Omega.{arith}
-use Rattle.column_laws.proofs.Places.{place-below, square-most, tile-start-most}
+use Rattle.column_laws.proofs.Places.{place-below, tile-start-most}
+use Rattle.laws.proofs.Blocks.{square-most}
 use Rattle.places.proofs.place.tile_start.Statement.{statement}
 use Rattle.places.proofs.place.tile_start.Tie as tie
 

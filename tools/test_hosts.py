@@ -1,0 +1,73 @@
+"""Tests of the declarations that hosts link by: hosts/solumivaf.h, hosts/solumivaf/src/raw.rs and those in bench/src have the functions that
+crates host_* and bench_* export, and the structs that cross, with the same names, order and types."""
+import re
+import unittest
+
+from loading import text_of
+
+C = {"size_t": "usize", "double": "f64", "uint8_t": "u8", "uint16_t": "u16", "uint64_t": "u64", "solumivaf_record": "Record", "solumivaf_told": "Told",
+     "solumivaf_read": "Read"}
+RATTLE = {"[u8; 5]": "Record", "TaskRecord": "Record", "ReadTold": "Read"}
+
+
+def parameters(text):
+    return [part.strip() for part in text.split(",") if part.strip()]
+
+
+def exported(crate):
+    """The functions of a crate as a linker has them: a slice is a pointer and a length, an array a pointer."""
+    for name, listed, told in re.findall(r'pub extern "C" fn (\w+)\(([^)]*)\) -> (\w+)', text_of("crates", crate, "src", "lib.rt")):
+        passed = []
+        for own, kind in (part.split(": ", 1) for part in parameters(listed)):
+            lent = re.fullmatch(r"&(mut )?\[(.+?)(; 32)?\]", kind)
+            element = RATTLE.get(lent.group(2), lent.group(2)) if lent else kind
+            passed.append((own, "*%s %s" % ("mut" if lent.group(1) else "const", element) if lent else element))
+            if lent and not lent.group(3):
+                passed.append((own + "_length", "usize"))
+        yield name, passed, RATTLE.get(told, told)
+
+
+def declared_in_c(text):
+    for told, name, listed in re.findall(r"^(\w+) (solumivaf_\w+)\(([^)]*)\);", text, re.M):
+        found = [re.fullmatch(r"(const )?(\w+) (\*?)(\w+)", " ".join(part.split())).groups() for part in parameters(listed)]
+        yield name, [(own, ("*const " if const else "*mut " if star else "") + C.get(kind, kind)) for const, kind, star, own in found], C[told]
+
+
+def declared_in_rust(text):
+    for name, listed, told in re.findall(r"^    (?:pub )?fn (\w+)\(([^)]*)\) -> (\w+);", text, re.M):
+        if name != "clock_gettime":
+            yield name, [tuple(part.split(": ")) for part in parameters(listed)], told
+
+
+def fields_of(name, text):
+    return re.findall(r"(\w+): (\w+),", re.search(r"struct %s \{([^}]*)\}" % name, text).group(1))
+
+
+def exports(*crates):
+    return [function for crate in crates for function in exported(crate)]
+
+
+class Hosts(unittest.TestCase):
+    def test_library(self):
+        crates = re.search(r"^crates=\(([^)]*)\)", text_of("hosts", "build"), re.M).group(1).split()
+        library = exports(*crates)
+        self.assertEqual(len(library), 10)
+        self.assertEqual(list(declared_in_c(text_of("hosts", "solumivaf.h"))), library)
+        self.assertEqual(list(declared_in_rust(text_of("hosts", "solumivaf", "src", "raw.rs"))), library)
+
+    def test_structs(self):
+        rattle = text_of("crates", "host_answers", "src", "lib.rt") + text_of("crates", "model", "src", "lib.rt")
+        for own, name, c_name in (("Told", "Told", "solumivaf_told"), ("ReadTold", "Read", "solumivaf_read"), ("TaskRecord", "Record", "solumivaf_record")):
+            fields = fields_of(own, rattle)
+            in_c = re.search(r"typedef struct \{([^}]*)\} %s;" % c_name, text_of("hosts", "solumivaf.h")).group(1)
+            self.assertEqual([(field, C[kind]) for kind, field in re.findall(r"(\w+) (\w+);", in_c)], fields)
+            self.assertEqual(fields_of(name, text_of("hosts", "solumivaf", "src", "lib.rs")), fields)
+
+    def test_benchmark(self):
+        for crate, source, count in (("bench_host", "main.rs", 4), ("bench_structs", "structs.rs", 5)):
+            self.assertEqual(len(exports(crate)), count)
+            self.assertEqual(list(declared_in_rust(text_of("bench", "src", source))), exports(crate))
+
+
+if __name__ == "__main__":
+    unittest.main()
