@@ -69,6 +69,7 @@ fn one_holding(p: u16, c: u8) -> [Worker; 32]
     slots
 }
 
+// An opening with idle workers: 0, or the refusal's number.
 #[no_mangle]
 pub extern "C" fn bench_open(
     z: Sizes,
@@ -84,6 +85,7 @@ pub extern "C" fn bench_open(
     number_in(reply)
 }
 
+// Worker w takes task p, all workers idle: 0, or the refusal's number.
 #[no_mangle]
 pub extern "C" fn bench_take(
     z: Sizes,
@@ -100,6 +102,7 @@ pub extern "C" fn bench_take(
     number_in(reply)
 }
 
+// The next column, c, of task p, which worker 0 holds: 0, or the refusal's number.
 #[no_mangle]
 pub extern "C" fn bench_column(
     z: Sizes,
@@ -118,6 +121,7 @@ pub extern "C" fn bench_column(
     number_in(reply)
 }
 
+// A run from idle workers: the calls made.
 #[no_mangle]
 pub extern "C" fn bench_run(
     z: Sizes,
@@ -134,6 +138,7 @@ pub extern "C" fn bench_run(
     calls_in(reply)
 }
 
+// A solve with idle workers: 0, or the refusal's number.
 #[no_mangle]
 pub extern "C" fn bench_solve(
     z: Sizes,

@@ -32,6 +32,7 @@ rowsVal p = record { floats = []; bytes = p }
 -- ---- the cell of a place
 
 module _ (N : ℕ) where
+  -- the cells of tile (i,j) and of list (i,j), and of either by its sort
   abbrev pub tileAt : ℕ → ℕ → ℕ
   tileAt i j = i * N + j
 
@@ -109,6 +110,7 @@ module _ (N t : ℕ) where
   filledAt (T-3 k i) σ = putTile k k (upperFilled (plan N t) (putZeros i k σ (tileAt N k k) .floats)) (putZeros i k σ)
   filledAt (T-4 k i j) σ = putTile k j (zeros (t * t)) (putTile i j (zeros (t * t)) σ)
 
+  -- tiles, lists and tasks as order_free has them
   abbrev pub system : System
   system = record {
     Val = Val;

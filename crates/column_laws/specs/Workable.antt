@@ -11,6 +11,7 @@ use Rattle.model.specs.Plan.{planOf}
 use Rattle.model.specs.Buffer.{finiteTiles}
 use Rattle.column_laws.specs.Placed.{Placed, EntriesFit}
 
+-- column c of task a can be worked: sizes in range, lengths as stated, and what the task touches in order
 pub record Workable (z : Sizes) (a : Task) (c : ℕ) (m : List Float) (l : List ℕ) : Type 0 where
   pub tiles-some : 1 ≤ z .tiles
   pub tiles-most : z .tiles ≤ 16

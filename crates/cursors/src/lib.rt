@@ -14,7 +14,7 @@ pub struct Cursor {
     pub line: usize,
 }
 
-// The cursor behind what was read, or a refusal's number and place.
+// The cursor after what was read, or a refusal's number and place.
 pub enum Step {
     Next(Cursor),
     Stopped(u8, usize),

@@ -1,4 +1,4 @@
--- Pieces of text put one behind the other: what a writer has written so far is one piece. Assumes nothing.
+-- Pieces of text put one after the other: what a writer has written so far is one piece. Assumes nothing.
 use mathlib.Core.Path.{_≡_, refl, sym, ap, _∙_, subst}
 use mathlib.Core.List.{List, [], _∷_, _++_, map, append-assoc, append-nil}
 use Prim.Native.Nat.{ℕ, zero, suc, _+_, _-_, _/_, _%_, _^_, _≤_, _<_}
@@ -40,7 +40,7 @@ module _ {A : Type 0} where
       let r = drop n (drop a xs) in
       rw (← append-assoc (take a xs) ys r, take-at (take a xs ++ ys) r (a + n) l, drop-at (take a xs ++ ys) r (a + n) l, drop-drop k n (drop a xs)) (simp append-assoc)
 
-  -- a piece behind a piece
+  -- a piece after a piece
   pub put-then : {a n b k : ℕ} {ys zs xs xs′ xs″ : List A} → Put a n ys xs xs′ → Put b k zs xs′ xs″ → b ≡ a + n → Put a (n + k) (ys ++ zs) xs xs″
   put-then {a} {n} {b} {k} {ys} {zs} {xs} {xs′} {xs″} p q e =
       let l : length xs′ ≡ length xs = put-length p in

@@ -56,7 +56,7 @@ fn bad_row(z: Sizes, lists: &[u8], i: usize) -> bool
     false
 }
 
-// Whether a list entry exceeds t - 1 on the diagonal, t below it or 0 above it.
+// Whether some list has an entry above its limit.
 pub fn bad_entries(z: Sizes, lists: &[u8]) -> bool
     requires { ⌜ Sized z × ListsFit z (now lists) ⌝ }
     ensures { λ r. ⌜ r ≡ some (badEntry (planOf z) (listsAlone (now (lists .entry)))) (below (z .tiles * z .tiles * z .side)) ⌝ }

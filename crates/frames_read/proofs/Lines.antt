@@ -23,7 +23,7 @@ digits-line acc [] ys e = refl
 digits-line acc (d ∷ ds) ys e =
     rw (digit-goes-on d (and-left (isDigit d) (every isDigit ds) e), linesFrom) (digits-line (d ∷ acc) ds ys (and-right (isDigit d) (every isDigit ds) e))
 
--- ---- the first line of a text that is not empty, and what comes behind it
+-- ---- the first line of a text that is not empty, and what comes after it
 
 record Head (acc xs : List ℕ) : Type 0 where
   line : List ℕ

@@ -13,10 +13,12 @@ use Rattle.cursors.specs.declared.Step.{Step}
 use Rattle.cursors.specs.declared.Step.the-variants.{Next, Stopped}
 use Rattle.cursors.specs.Steps.{stepOf}
 
+-- what comes after a step that was not refused
 abbrev pub onward : (Cursor → Step) → Step → Step
 onward k (Next c) = k c
 onward k (Stopped n x) = Stopped n x
 
+-- the cursor past the lines that are due, or the first refusal
 unfoldable pub follow : ℕ → List ℕ → List Frame → Cursor → Step
 follow t text [] c = Next c
 follow t text (f ∷ fs) c = onward (follow t text fs) (stepOf t text f c)
@@ -25,7 +27,7 @@ follow t text (f ∷ fs) c = onward (follow t text fs) (stepOf t text f c)
 abbrev pub rowFrames : ℕ → ℕ → ℕ → List Frame
 rowFrames kind n i = map (λ j. record { kind = kind; i = i; j = j }) (below n)
 
--- what a text answers whose frames were followed: 14 where more text comes behind the last
+-- what a text answers whose frames were followed: 14 where more text comes after the last
 unfoldable pub textEnd : List ℕ → Step → Answer
 textEnd text (Next c) = refuse 14 (c .line) (ltb (c .at) (length text)) Accepted
 textEnd text (Stopped n x) = Refused n x

@@ -65,7 +65,7 @@ header-field text p n h a b =
 -- ---- in the definition by lines
 
 module _ (limit : ℕ) (frames : ℕ → List Frame) (lengths : ℕ → ℕ → Bool) where
-  -- what comes after an accepted header, where ls are the lines behind it
+  -- what comes after an accepted header, where ls are the lines after it
   abbrev pub behindHeader : List ℕ → List (List ℕ) → Answer
   behindHeader h ls = refuse 2 0 (lengths (tilesIn h) (sideIn h)) (linesAnswer (sideIn h) 2 (frames (tilesIn h)) ls)
 

@@ -17,6 +17,7 @@ use Rattle.header_read.specs.declared.Header.the-variants.{Shape, Unread
 abbrev pub headerLine : List ℕ → List ℕ
 headerLine text = take 7 text
 
+-- what line 1 answers, where n is at most limit
 unfoldable pub headerAnswer : ℕ → List ℕ → Answer
 headerAnswer limit text =
     let h = headerLine text in
@@ -27,9 +28,11 @@ headerAnswer limit text =
     otherwise refuse 1 1 (badShape (tilesIn h) (sideIn h) || ltb limit (tilesIn h * sideIn h))
     otherwise Accepted
 
+-- N and t of an accepted header, or the refusal
 abbrev pub shaped : Answer → List ℕ → Header
 shaped Accepted h = Shape (tilesIn h) (sideIn h)
 shaped (Refused n x) h = Unread n x
 
+-- what line 1 of a text tells
 unfoldable pub headerOf : ℕ → List ℕ → Header
 headerOf limit text = shaped (headerAnswer limit text) (headerLine text)

@@ -38,7 +38,7 @@ fn holders(workers: [Worker; 32], count: usize, p: usize) -> usize
     n
 }
 
-// Whether a task with mark 1 isn't held by exactly one worker. At most one more task with mark 1 is looked at than there are workers.
+// Whether some task with mark 1 has no worker or several. At most one more task with mark 1 is looked at than there are workers.
 pub fn bad_holds(z: Sizes, records: &[[u8; 5]], workers: [Worker; 32]) -> bool
     requires { ⌜ Sized z × RecordsFit z (now records) ⌝ }
     ensures { λ r. ⌜ r ≡ some (badHold (planOf z) (held (now (records .entry)) workers (z .workers))) (below (length (tasks (z .tiles)))) ⌝ }

@@ -97,7 +97,7 @@ module _ (N t : ℕ) (text : List ℕ) (headed : Headed 48 text N t) (long : sys
   unfolding systemFrames lineLength
   alike = follow-same t L text long 2 (tileFrames N) start (tiles-kind N) (omega (arith, ap (λ (k : ℕ). k * (7 + 16 * (t * t))) (length-tile-frames N), tiles-size N t))
 
-  -- more text comes behind the frames, in both
+  -- more text comes after the frames, in both
   more-behind : (k : List ℕ) (d : Cursor) → d .at < length k → textEnd k (Next d) ≡ Refused 14 (d .line)
   unfolding textEnd refuse
   more-behind k d h = rw (lt-ltb (d .at) (length k) h)

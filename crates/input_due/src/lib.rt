@@ -8,7 +8,7 @@ ghost use Rattle.input_due.specs.Due.{bytesDue};
 use header_read::Header;
 use header_read::check_header;
 
-// How many bytes decide what the program prints, told from the first 7, or from all where there are fewer: what comes behind them plays no
+// How many bytes decide what the program prints, told from the first 7, or from all where there are fewer: what comes after them plays no
 // part. It is one byte more than a system with this header has, and 7 where the header is refused.
 pub fn bytes_due(front: &[u8]) -> usize
     ensures { λ r. ⌜ r ≡ bytesDue (now (front .entry)) ⌝ }

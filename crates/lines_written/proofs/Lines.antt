@@ -1,4 +1,4 @@
--- The pieces of a line, put one behind the other. Assumes nothing.
+-- The pieces of a line, put one after the other. Assumes nothing.
 use mathlib.Core.Path.{_≡_, refl}
 use mathlib.Core.List.{List, _++_}
 use Prim.Native.Nat.{ℕ, _+_, _≤_}
@@ -21,7 +21,7 @@ length-three : (p q r : ℕ) → length (three p q r) ≡ 6
 length-three p q r = simp (length-append, length-hex)
 
 module _ (a p q r : ℕ) (xs xs₁ : List ℕ) where
-  -- hex 2 p is there, and the two numbers behind it follow
+  -- hex 2 p is there, and the two numbers after it follow
   two-more : (k : ℕ) (xs₂ xs₃ : List ℕ) → a + (4 + k) ≤ length xs → xs₁ ≡ withPart a 2 (hex 2 p) xs → xs₂ ≡ withPart (a + 2) 2 (hex 2 q) xs₁ → xs₃ ≡ withPart (a + 4) k (hex k r) xs₂
       → Put a (4 + k) (hex 2 p ++ hex 2 q ++ hex k r) xs xs₃
   two-more k xs₂ xs₃ h e₁ e₂ e₃ =

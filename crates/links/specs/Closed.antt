@@ -27,12 +27,14 @@ pub record In (N : ℕ) (a : Key) : Type 0 where
   pub row-fits : a .i < N
   pub column-fits : a .j < N
 
+-- the task of a triple
 unfoldable pub taskAt : Key → Task
 taskAt a =
     cond (eqb (a .i) (a .k))
     (cond (eqb (a .j) (a .k)) (T-1 (a .k)) (T-2 (a .k) (a .j)))
     (cond (eqb (a .j) (a .k)) (T-3 (a .k) (a .i)) (T-4 (a .k) (a .i) (a .j)))
 
+-- the triple of a task
 unfoldable pub keyOf : Task → Key
 keyOf (T-1 k) = key k k k
 keyOf (T-2 k j) = key k k j
@@ -51,6 +53,7 @@ unfoldable pub squares : ℕ → ℕ
 squares zero = 0
 squares (suc m) = squares m + suc m * suc m
 
+-- the number of the task with this triple
 unfoldable pub number : ℕ → Key → ℕ
 number N a = offset N (a .k) + ((a .i - a .k) * (N - a .k) + (a .j - a .k))
 
@@ -61,6 +64,7 @@ keyFrom (suc m) k p =
     let r : Key = keyFrom m (suc k) (p - suc m * suc m) in
     cond (ltb p (suc m * suc m)) (key k (k + p / suc m) (k + p % suc m)) r
 
+-- the triple of task number p
 unfoldable pub keyAt : ℕ → ℕ → Key
 keyAt N p = keyFrom N 0 p
 
@@ -99,6 +103,7 @@ pub data Last (a b : Key) (x : Place) : Type 0 where
 -- ---- the tests that code makes of the marks ms
 
 module _ (N : ℕ) (ms : List ℕ) where
+  -- the mark of the task with this triple
   unfoldable pub markAt : Key → ℕ
   markAt a = mark ms (number N a)
 
@@ -125,6 +130,7 @@ module _ (N : ℕ) (ms : List ℕ) where
   unfoldable pub linksFinished : Key → Bool
   linksFinished b = neighboursFinished b && (not (eqb (b .i) (b .k + 1) && eqb (b .j) (b .k)) || T-2s-finished (b .k))
 
+  -- b is ready
   unfoldable pub readyAt : Key → Bool
   readyAt b = eqb (markAt b) waiting && linksFinished b
 

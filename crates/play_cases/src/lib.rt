@@ -20,7 +20,7 @@ use worker::Worker;
 
 // ---- the state that a case stands for
 
-// The mark of task p where task `held` is taken, those before it are done and those behind it are waiting.
+// The mark of task p where task `held` is taken, those before it are done and those after it are waiting.
 fn mark(p: u8, held: u8) -> u8 {
     if p < held {
         return 2;

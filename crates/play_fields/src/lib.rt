@@ -18,7 +18,7 @@ pub fn at_most(x: u64, top: usize) -> usize
     top
 }
 
-// Argument k of a call: 16 digits each, behind the two of the command.
+// Argument k of a call: 16 digits each, after the two of the command.
 fn argument(line: &[u8], k: usize) -> u64
     requires { ⌜ k ≤ 8 ⌝ }
 {

@@ -1,4 +1,4 @@
-// Checking the lines of a result file behind its accepted header.
+// Checking the lines of a result file after its accepted header.
 ghost use mathlib.Core.Path.{_≡_};
 ghost use Prim.Native.Nat.{_≤_};
 ghost use lib.ListN.{length};
@@ -12,7 +12,7 @@ use frames_read::check_lists;
 use frames_read::check_tiles;
 use lines_read::Due;
 
-// The lines of a result behind an accepted header: tiles, lists and the outcome.
+// The lines of a result after an accepted header: tiles, lists and the outcome.
 pub fn check_result_lines(text: &[u8], tiles: usize, side: usize) -> Step
     requires { ⌜ (7 ≤ length (now text)) × (side ≤ 16) ⌝ }
     ensures { λ r. ⌜ r ≡ follow side (now (text .entry)) (resultFrames tiles) start ⌝ }

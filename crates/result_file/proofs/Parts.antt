@@ -112,7 +112,7 @@ module _ (t N : ℕ) (text : List ℕ) (long : 7 ≤ length text) (p : Parts t N
       let b : length text - (length text - 9) ≡ 9 = omega (arith, p .outcome-at) in
       ap (λ (k : ℕ). lineAt (length text - 9) k text) b ∙ ap (λ (k : ℕ). lineAt k 9 text) a
 
-  -- ---- the lines behind the header
+  -- ---- the lines after the header
 
   tileAt : ℕ → List ℕ
   tileAt q = lineAt (7 + q * tileSize (t * t)) (tileSize (t * t)) text

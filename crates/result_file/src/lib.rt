@@ -10,7 +10,7 @@ use result_checked::check_result_lines;
 use result_loaded::load_result;
 use system_checked::text_end;
 
-// A result behind its accepted header, into the lent buffers.
+// A result after its accepted header, into the lent buffers.
 fn read_result_lines(
     text: &[u8],
     tiles: usize,

@@ -8,7 +8,7 @@ use Rattle.lines_read.specs.Line.{LineOfDigits}
 use Rattle.numbers_read.specs.Decoded.{lineAt, tileSize, TileLines, tilesFrom}
 use Rattle.entries_read.specs.Entries.{above, ListLines, listsFrom}
 
--- the lists start behind the header and the tiles
+-- the lists start after the header and the tiles
 abbrev pub listsStart : ℕ → ℕ → ℕ
 listsStart N t = 7 + N * N * tileSize (t * t)
 
@@ -16,6 +16,7 @@ listsStart N t = 7 + N * N * tileSize (t * t)
 abbrev pub outcomeText : List ℕ → List ℕ
 outcomeText text = lineAt (length text - 9) (length text - (length text - 9)) text
 
+-- a text whose lines are those of a result
 pub record ResultLines (N t : ℕ) (text : List ℕ) : Type 0 where
   pub small : (N ≤ 16) × (t ≤ 16)
   pub tiles : TileLines (t * t) (N * N) 7 text
@@ -23,6 +24,7 @@ pub record ResultLines (N t : ℕ) (text : List ℕ) : Type 0 where
   pub long : 9 ≤ length text
   pub outcome : LineOfDigits (outcomeText text)
 
+-- what is read of such a text
 unfoldable pub loadedResult : ℕ → ℕ → List ℕ → ResultReading
 loadedResult N t text = record {
   answer = ResultRead N t (outcomeIn (outcomeText text));

@@ -46,7 +46,7 @@ digit-value c e = eqb-true (digit (digitValue c)) c (else-or (not (isDigit c)) (
 
 -- ---- numbers
 
--- what the digits stand for, behind v
+-- what the digits stand for, after v
 abbrev pub value : List ℕ → ℕ → ℕ
 value ds v = inTurn (λ d v. v * 16 + digitValue d) ds v
 

@@ -175,7 +175,7 @@ module _ (N : ℕ) (f : Frame) where
       ap (λ (k : ℕ). getD (tileFrames N ++ listFrames N ++ frame 4 0 0 ∷ []) k f) (add-zero (N * N + listed N))
       ∙ at-last (tileFrames N) (listFrames N) (frame 4 0 0) f (N * N) (listed N) (length-tile-frames N) (length-list-frames N)
 
--- a list cut behind a, behind b more, and before the last
+-- a list cut after a, after b more, and before the last
 in-three : (a b : ℕ) (xs : List (List ℕ)) → length xs ≡ a + b + 1 → xs ≡ take a xs ++ part a b xs ++ getD xs (a + b) [] ∷ []
 in-three a b xs e =
     let s : suc (a + b) ≡ length xs = omega arith in

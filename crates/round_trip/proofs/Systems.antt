@@ -47,7 +47,7 @@ pub no-limit : (N t : ℕ) → Range N t → ltb noLimit (N * t) ≡ false
 no-limit N t r = le-ltb 256 (N * t) (mul-le-mul (r .tiles) (r .side))
 
 module _ (limit : ℕ) (frames : ℕ → List Frame) (bad : ℕ → ℕ → Bool) where
-  -- a header and the lines due behind it
+  -- a header and the lines due after it
   pub file-accepted : (N t : ℕ) (ls : List (List ℕ)) → badShape N t ≡ false → ltb limit (N * t) ≡ false → bad N t ≡ false → linesAnswer t 2 (frames N) ls ≡ Accepted
       → fileAnswer limit frames bad (headerLine N t ∷ ls) ≡ Accepted
   unfolding fileAnswer refuse

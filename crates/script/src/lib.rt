@@ -2,7 +2,7 @@
 // is read past the end is 0, and what is written past the end is dropped. What they compute is not stated: it is matched with the reference program.
 ghost use Prim.Native.Nat.{_<_};
 
-// The byte k places behind at.
+// The byte k places after at.
 pub fn byte(text: &[u8], at: usize, k: usize) -> u8 {
     if text.len() <= at {
         return 0;
@@ -13,7 +13,7 @@ pub fn byte(text: &[u8], at: usize, k: usize) -> u8 {
     text[at + k]
 }
 
-// Writes the byte k places behind at.
+// Writes the byte k places after at.
 pub fn set_byte(out: &mut [u8], at: usize, k: usize, b: u8) {
     if out.len() <= at {
         return;

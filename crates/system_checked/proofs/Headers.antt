@@ -1,4 +1,4 @@
--- What an accepted header tells, and what a file answers by its header and by following the frames behind it. Assumes nothing.
+-- What an accepted header tells, and what a file answers by its header and by following the frames after it. Assumes nothing.
 use Prim.Native.Nat.{ℕ, _*_, _≤_}
 use mathlib.Core.Path.{_≡_, refl, sym, ap, _∙_}
 use mathlib.Core.Bool.{Bool, true, false, not, _||_}

@@ -98,7 +98,7 @@ module _ (t N : ℕ) (text : List ℕ) (c d : Cursor) (p : CursorFits text c) (e
     each = λ q h. tile-line t (lineAt (c .at + q * tileSize (t * t)) (tileSize (t * t)) text) (tiles-followed .each q (rw (length-tile-frames N) h));
   }
 
-  -- the tiles' lines, and those behind them
+  -- the tiles' lines, and those after them
   pub lines-tiles : linesFrom [] (drop (c .at) text) ≡ map (λ q. lineAt (c .at + q * tileSize (t * t)) (tileSize (t * t)) text) (below (N * N)) ++ linesFrom [] (drop (d .at) text)
   unfolding lineLength
   lines-tiles =

@@ -1,4 +1,4 @@
--- Frames of one kind that a cursor went past: their lines stand in the text one behind the other, each checked. Assumes nothing.
+-- Frames of one kind that a cursor went past: their lines stand in the text one after the other, each checked. Assumes nothing.
 use Prim.Native.Nat.{ℕ, zero, suc, _+_, _*_, _≤_, _<_}
 use mathlib.Core.Path.{_≡_, refl, sym, ap, _∙_, subst}
 use mathlib.Core.Bool.{Bool, true, false, not, _||_}
@@ -115,7 +115,7 @@ module _ (t k : ℕ) (text : List ℕ) where
 
 module _ (t : ℕ) (text : List ℕ) where
   module _ (f : Frame) (fs : List Frame) (c c′ d : Cursor) (s : Stepped t text f c c′) (u : Uniform t (f .kind) text fs c′ d) where
-    -- line q behind the cursor
+    -- line q after the cursor
     g : ℕ → List ℕ
     g q = lineAt (c .at + q * lineLength t (f .kind)) (lineLength t (f .kind)) text
 

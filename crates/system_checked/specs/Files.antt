@@ -9,12 +9,13 @@ use Rattle.model.specs.Read.{tilesIn, sideIn, linesFrom, systemFrames, fileAnsw
 use Rattle.cursors.specs.declared.Cursor.{Cursor}
 use Rattle.header_read.specs.Heads.{headerLine, headerAnswer}
 
+-- line 1 is accepted and tells N and t
 pub record Headed (limit : ℕ) (text : List ℕ) (N t : ℕ) : Type 0 where
   pub accepted : headerAnswer limit text ≡ Accepted
   pub tiles-in : N ≡ tilesIn (headerLine text)
   pub side-in : t ≡ sideIn (headerLine text)
 
--- behind the header
+-- the cursor after the header
 abbrev pub start : Cursor
 start = record { at = 7; line = 2 }
 

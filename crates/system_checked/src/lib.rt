@@ -13,7 +13,7 @@ use header_read::check_header;
 use model::Answer;
 use model::ReadAnswer;
 
-// 14 where text comes behind the last frame, and else what the frames answered.
+// 14 where text comes after the last frame, and else what the frames answered.
 pub fn text_end(text: &[u8], step: Step) -> Answer
     ensures { λ r. ⌜ r ≡ textEnd (now (text .entry)) step ⌝ }
 {
@@ -29,7 +29,7 @@ pub fn text_end(text: &[u8], step: Step) -> Answer
     }
 }
 
-// The lines of a system behind an accepted header.
+// The lines of a system after an accepted header.
 pub fn check_system_lines(text: &[u8], tiles: usize, side: usize) -> Answer
     requires { ⌜ (7 ≤ length (now text)) × (side ≤ 16) ⌝ }
     ensures { λ r. ⌜ r ≡ textEnd (now (text .entry)) (follow side (now (text .entry)) (systemFrames tiles) start) ⌝ }

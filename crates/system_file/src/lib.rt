@@ -9,7 +9,7 @@ use model::ReadAnswer;
 use numbers_read::load_tiles;
 use system_checked::check_system_lines;
 
-// A system behind its accepted header, into the lent matrix.
+// A system after its accepted header, into the lent matrix.
 fn read_system_lines(text: &[u8], tiles: usize, side: usize, matrix: &mut [f64]) -> ReadAnswer
     requires { ⌜ Headed noLimit (now text) tiles side ⌝ }
     ensures { λ r. ⌜ record { answer = r; matrix = now (matrix .exit) } ≡ readSystem (now (text .entry)) (now (matrix .entry)) ⌝ }

@@ -10,7 +10,7 @@ use numbering::task_count;
 use records::mark_of;
 use worker::Worker;
 
-// Whether the worker holds a task that doesn't exist or lacks mark 1, or a column not below t.
+// Whether a busy worker is at odds with the records: no such task, another mark than 1, or no such column.
 fn bad_worker(z: Sizes, records: &[[u8; 5]], h: Worker) -> bool
     requires { ⌜ Sized z × RecordsFit z (now records) ⌝ }
     ensures { λ r. ⌜ r ≡ badWorkerIn (planOf z) (recordsAlone (now (records .entry))) h ⌝ }
