@@ -5,7 +5,7 @@ usage: python3 -B tools/bench_walks.py     (from anywhere)
 
 Such a function makes the workers, hands everything lent on to crates/CALL_call, and tells a number. A walk is written as in call_walks.py.
 """
-from call_walks import ROOT, SLICE, Walk, answers, callee, lists, matrix, nested, nth, number, product, records, right, save, seps, sizes, sub, theorem, uses_of
+from call_walks import ROOT, SLICE, Walk, answers, callee, exit_steps, lists, matrix, nested, nth, number, product, records, right, save, seps, sizes, sub, theorem, uses_of
 
 CRATE = "bench_structs"
 WIDTH = {"usize": "w64", "u64": "w64", "u16": "w16", "u8": "w8"}
@@ -145,16 +145,7 @@ class Call:
         last = {p.name: v for p, v in self.ends}
         s.append("  exits : (r : ℕ) (v : Val) %s → (%s) → %s\n      → ent 𝓤 (⋆ 𝓤 H A (%s)) (Post v)\n" % (" ".join("(%s : List %s)" % (v, SLICE[p.name][1]) for p, v in self.ends), self.call["fact"], " → ".join("length %s ≡ length %s" % (v, SLICE[p.name][3]) for p, v in self.ends), items))
         s.append("  exits r v %s e %s =\n" % (" ".join(v for _, v in self.ends), " ".join("len" + SLICE[p.name][0] for p in self.muts)))
-        s.append("      qed W (%s) ∵\n      suffices ! _ (ends-at 𝓤 H A f.ended stayed (f.clauses 𝓤 H A mem run) W %s v r %s %s) $ says ! e $\n" % (items, self.bound, nested([last.get(p.name, "tt") for p in self.params]), nested(["len" + SLICE[p.name][0] if p in self.muts else "tt" for p in self.params])))
-        s.append("      nothing ! $ %sframe ! $\n      nothing ! $ " % "".join("move ! (%d ∷ 0 ∷ []) $ join ! $ " % i for i in range(len(self.indices), 0, -1)))
-        left = len(self.ends)
-        for p in reversed(self.params):
-            if p in self.muts:
-                s.append("move ! (%d ∷ 0 ∷ []) $ fjoin ! $ " % left)
-                left -= 1
-            else:
-                s.append("nothing ! $ fjoin ! $ ")
-        s.append("frame ! $ done !\n\n")
+        s.append(exit_steps(self, items, [last.get(p.name, "tt") for p in self.params], ["len" + SLICE[p.name][0] if p in self.muts else "tt" for p in self.params], self.muts))
 
     def workers(self):
         """how the workers are made"""

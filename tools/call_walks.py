@@ -25,6 +25,20 @@ def nested(xs, end="tt"):
     return s
 
 
+def exit_steps(walk, items, last, lengths, lent):
+    """How a walk leaves by an exit: the items that it holds, the last contents and lengths of its parameters, and those that it was lent to write."""
+    steps = ["      qed W (%s) ∵\n      suffices ! _ (ends-at 𝓤 H A f.ended stayed (f.clauses 𝓤 H A mem run) W %s v r %s %s) $ says ! e $\n" % (items, walk.bound, nested(last), nested(lengths))]
+    steps.append("      nothing ! $ %sframe ! $\n      nothing ! $ " % "".join("move ! (%d ∷ 0 ∷ []) $ join ! $ " % i for i in range(len(walk.indices), 0, -1)))
+    left = len(lent)
+    for p in reversed(walk.params):
+        if any(q is p for q in lent):
+            steps.append("move ! (%d ∷ 0 ∷ []) $ fjoin ! $ " % left)
+            left -= 1
+        else:
+            steps.append("nothing ! $ fjoin ! $ ")
+    return "".join(steps) + "frame ! $ done !\n\n"
+
+
 def seps(xs):
     return xs[0] if len(xs) == 1 else "(sep 𝓤 %s %s)" % (xs[0], seps(xs[1:]))
 
@@ -449,16 +463,7 @@ class Call:
         fact = self.whole_fact("r", self.ms2, self.ls2, "zs")
         s.append("  exits : %s → %s%s\n      → ent 𝓤 (⋆ 𝓤 H A (%s)) (Post v)\n" % (binders.strip(), fact if not self.has_store else "(%s)" % fact, (" → " + lens) if lens else "", items))
         s.append("  exits r v %s e %s =\n" % (" ".join(v for _, v in fins), " ".join("len%s" % SLICE[p.name][0] for p, _ in fins)))
-        s.append("      qed W (%s) ∵\n      suffices ! _ (ends-at 𝓤 H A f.ended stayed (f.clauses 𝓤 H A mem run) W %s v r %s %s) $ says ! e $\n" % (items, self.bound, nested(lastv), nested(lenv)))
-        s.append("      nothing ! $ %sframe ! $\n      nothing ! $ " % "".join("move ! (%d ∷ 0 ∷ []) $ join ! $ " % i for i in range(len(self.indices), 0, -1)))
-        left = len(fins)
-        for p in reversed(self.params):
-            if any(q is p for q, _ in fins):
-                s.append("move ! (%d ∷ 0 ∷ []) $ fjoin ! $ " % left)
-                left -= 1
-            else:
-                s.append("nothing ! $ fjoin ! $ ")
-        s.append("frame ! $ done !\n\n")
+        s.append(exit_steps(self, items, lastv, lenv, [p for p, _ in fins]))
 
     def looked_at_and_load(self):
         """how `looked_at` and `load` are called"""
