@@ -8,7 +8,7 @@ ghost use Rattle.model.specs.Refusal.{inside as isInside, badSizes, badLengths}
 ghost use Rattle.records.specs.Records.{lent};
 ghost use Rattle.checks.specs.Checks.{Sized};
 use model::Sizes;
-use numbering::task_count;
+use task_counts::task_count;
 
 // Whether x is from 1 to top.
 fn inside(top: usize, x: usize) -> bool

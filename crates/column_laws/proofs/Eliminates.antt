@@ -16,7 +16,7 @@ use Rattle.model.specs.Lists.{run, below, every, joined, part, withPart}
 use Rattle.model.specs.Num.{finite, update, updateComputes, quotient}
 use Rattle.model.specs.Tile.{at, allFinite}
 use Rattle.model.specs.Column.{beyond, eliminated, eliminationComputes}
-use Rattle.multipliers.specs.Divided.{ColumnDivided}
+use Rattle.divisions.specs.Divided.{ColumnDivided}
 use Rattle.row_updates.specs.Updates.{RowsUpdated, updatedRows, rowsCompute}
 use Rattle.laws.proofs.Tests.{Order, less, equal, more, order, lt-or-le}
 use Rattle.laws.proofs.Blocks.{block-cong, in-block, column-same}

@@ -21,7 +21,7 @@ use Rattle.model.specs.Calls.{Lent, RunEnd, opened, took, advanced, wholeRun}
 use Rattle.model.specs.Refusal.{Reply, refuse, replied, runReplied, outcomeReplied, badSizes, badLengths, openAnswer, openCall, takeAnswer, takeCall, columnAnswer, columnCall, runAnswer, runCall, outcomeFound, outcomeCall}
 use Rattle.model.specs.Solve.{Answers, Passed, answered, solved, solveAnswer, solveCall}
 use Rattle.laws.proofs.Tests.{true-or-false, never, or-left}
-use Rattle.numbering.proofs.Laws.{few-tasks}
+use Rattle.task_counts.proofs.Laws.{few-tasks}
 use Rattle.checks.proofs.Laws.{sized}
 use Rattle.answers.proofs.Refusals.{refuses, passes}
 

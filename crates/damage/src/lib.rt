@@ -17,9 +17,9 @@ use model::Sizes;
 use model::TaskRecord;
 use numbering::Triple;
 use numbering::next;
-use numbering::record_of;
-use numbering::task_count;
 use records::record_at;
+use task_counts::task_count;
+use waiting_records::record_of;
 use worker::Worker;
 use workers::bad_workers;
 

@@ -9,7 +9,7 @@ ghost use Rattle.model.specs.Num.{finite, quotient};
 ghost use Rattle.model.specs.Tile.{at, allFinite};
 ghost use Rattle.column_laws.specs.Steps.{RowsEliminated};
 ghost use Rattle.column_laws.specs.Room.{Rows};
-use multipliers::divide_column;
+use divisions::divide_column;
 use row_updates::update_rows;
 
 // Eliminates the pivot row at top from the rows of width t from `start` on. False where a computed number isn't finite.

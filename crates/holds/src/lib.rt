@@ -8,8 +8,8 @@ ghost use Rattle.model.specs.Plan.{planOf};
 ghost use Rattle.model.specs.Refusal.{holds as holdsTask, badHold};
 ghost use Rattle.checks.specs.Checks.{Sized, RecordsFit, held};
 use model::Sizes;
-use numbering::task_count;
 use records::mark_of;
+use task_counts::task_count;
 use worker::Worker;
 
 // Whether the worker holds task p.

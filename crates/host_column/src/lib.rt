@@ -33,13 +33,7 @@ pub extern "C" fn solumivaf_column(
     };
     let reply = working::column(z, matrix, lists, records, gather(*busy, *task, *column), w);
     let left = reply.workers;
-    let slots = scatter(left);
-    let now_busy = slots.busy;
-    *busy = now_busy;
-    let now_task = slots.task;
-    *task = now_task;
-    let now_column = slots.column;
-    *column = now_column;
+    scatter(left, busy, task, column);
     let answer = reply.answer;
     tell(answer)
 }

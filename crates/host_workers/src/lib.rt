@@ -3,13 +3,6 @@ ghost use mathlib.Core.Path.{_≡_};
 ghost use Rattle.host_workers.specs.Workers.{workersIn};
 use worker::Worker;
 
-// The 32 worker slots as three arrays.
-pub struct Slots {
-    pub busy: [bool; 32],
-    pub task: [u16; 32],
-    pub column: [u8; 32],
-}
-
 // The workers that three arrays hold.
 pub fn gather(busy: [bool; 32], task: [u16; 32], column: [u8; 32]) -> [Worker; 32]
     ensures { λ r. ⌜ r ≡ workersIn busy task column ⌝ }
@@ -28,20 +21,27 @@ pub fn gather(busy: [bool; 32], task: [u16; 32], column: [u8; 32]) -> [Worker; 3
     workers
 }
 
-// Three arrays that hold the workers.
-pub fn scatter(workers: [Worker; 32]) -> Slots
-    ensures { λ r. ⌜ workersIn (r .busy) (r .task) (r .column) ≡ workers ⌝ }
+// Puts workers into three arrays.
+pub fn scatter(
+    workers: [Worker; 32],
+    busy: &mut [bool; 32],
+    task: &mut [u16; 32],
+    column: &mut [u8; 32],
+)
+    ensures { λ _. ⌜ workersIn (now (busy .exit)) (now (task .exit)) (now (column .exit)) ≡ workers ⌝ }
 {
-    let mut busy = [false; 32];
-    let mut task = [0; 32];
-    let mut column = [0; 32];
+    let mut held = [false; 32];
+    let mut tasks = [0; 32];
+    let mut columns = [0; 32];
     let mut v = 0;
     while v < 32 {
         let h = workers[v];
-        busy[v] = h.busy;
-        task[v] = h.task;
-        column[v] = h.column;
+        held[v] = h.busy;
+        tasks[v] = h.task;
+        columns[v] = h.column;
         v += 1;
     }
-    Slots { busy, task, column }
+    *busy = held;
+    *task = tasks;
+    *column = columns;
 }

@@ -13,7 +13,7 @@ use Rattle.laws.proofs.Blocks.{in-block}
 use Rattle.links.specs.Closed.{Key, In, number, markAt}
 use Rattle.links.proofs.Order.{offset-squares, six-squares, number-of}
 use Rattle.links.proofs.Summary.{offset-is, numbered}
-use Rattle.numbering.proofs.Laws.{products-small}
+use Rattle.task_counts.proofs.Laws.{products-small}
 use Rattle.marks.specs.Marks.{KeyFits, Numbered}
 
 -- ---- the count of tasks, and numbers

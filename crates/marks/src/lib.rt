@@ -5,7 +5,7 @@ ghost use Rattle.model.specs.Links.{finished, broken};
 ghost use Rattle.links.specs.Closed.{key, markAt};
 ghost use Rattle.records.specs.Records.{marksFrom};
 ghost use Rattle.marks.specs.Marks.{KeyFits, Numbered, Marked};
-use numbering::task_count;
+use task_counts::task_count;
 
 // The number of the task with the triple (k,i,j).
 pub fn number(n: usize, k: usize, i: usize, j: usize) -> usize

@@ -1,9 +1,8 @@
-// A column of multipliers of one slice: read, or made by a division.
+// A column of multipliers of one slice, read.
 ghost use mathlib.Core.Path.{_≡_};
 ghost use Prim.Native.Nat.{ℕ, _+_, _*_, _<_, _≤_};
 ghost use lib.ListN.{length, getD};
 ghost use lib.Ieee.{nan};
-ghost use Rattle.multipliers.specs.Divided.{ColumnDivided};
 
 // The count numbers from start on, stride apart.
 pub fn read_column(m: &[f64], start: usize, stride: usize, count: usize) -> [f64; 16]
@@ -14,29 +13,6 @@ pub fn read_column(m: &[f64], start: usize, stride: usize, count: usize) -> [f64
     let mut i = 0;
     while i < count {
         l[i] = m[start + i * stride];
-        i += 1;
-    }
-    l
-}
-
-// Divides the count numbers from start on, stride apart, by the pivot, and hands back the quotients.
-pub fn divide_column(
-    m: &mut [f64],
-    start: usize,
-    stride: usize,
-    count: usize,
-    pivot: f64,
-) -> [f64; 16]
-    requires { ⌜ (1 ≤ stride) × (stride ≤ 16) × (count ≤ 16) × (start + count * stride < length (now m) + stride) × (length (now m) ≤ 65536) ⌝ }
-    ensures { λ r. ⌜ ColumnDivided start stride count pivot (now (m .entry)) (now (m .exit)) r ⌝ }
-{
-    let mut l = [0.0; 16];
-    let mut i = 0;
-    while i < count {
-        let at = start + i * stride;
-        let q = m[at] / pivot;
-        m[at] = q;
-        l[i] = q;
         i += 1;
     }
     l

@@ -1,30 +1,14 @@
--- The task after a task, and how many there are. Assumes nothing.
-use Prim.Native.Nat.{ℕ, suc, _+_, _-_, _*_, _/_, _≤_, _<_}
+-- The task after a task. Assumes nothing.
+use Prim.Native.Nat.{ℕ, suc, _+_, _-_, _*_, _≤_, _<_}
 use mathlib.Core.Path.{_≡_, refl, sym, _∙_}
 use mathlib.Core.Logic.{_⊎_, inl, inr}
-use native.Mathlib.Nat.{mul-le-mul, suc-mul}
+use native.Mathlib.Nat.{suc-mul}
 use native.Mathlib.Omega.{arith}
 use lib.ListN.{length}
-use Rattle.model.specs.Task.{tasks, taskCount}
+use Rattle.model.specs.Task.{tasks}
 use Rattle.laws.proofs.Tests.{lt-or-le}
 use Rattle.links.specs.Closed.{key, In, offset, number}
 use Rattle.links.proofs.Numbering.{count}
-use Rattle.links.proofs.Order.{count-is}
-
--- what the count of tasks is made of
-pub products-small : (n : ℕ) → n ≤ 16 → (n * (n + 1) ≤ 272) × (n * (n + 1) * (2 * n + 1) ≤ 8976)
-products-small n h =
-    let p : n + 1 ≤ 17 = omega arith in
-    let q : 2 * n + 1 ≤ 33 = omega arith in
-    let a : n * (n + 1) ≤ 272 = mul-le-mul h p in
-    (a, mul-le-mul a q)
-
-pub length-tasks : (n : ℕ) → n * (n + 1) * (2 * n + 1) / 6 ≡ length (tasks n)
-unfolding taskCount
-length-tasks n = sym (count n ∙ count-is n)
-
-pub few-tasks : (n : ℕ) → n ≤ 16 → length (tasks n) ≤ 1496
-few-tasks n h = omega (arith, products-small n h, length-tasks n)
 
 module _ (N k i j : ℕ) (v : In N (key k i j)) where
   -- in the same row

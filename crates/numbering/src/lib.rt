@@ -4,22 +4,12 @@ ghost use mathlib.Core.Path.{_≡_};
 ghost use Prim.Native.Nat.{_+_, _≤_, _<_};
 ghost use lib.ListN.{length};
 ghost use Rattle.model.specs.Task.{tasks};
-ghost use Rattle.model.specs.Calls.{recordOf};
-ghost use Rattle.links.specs.Closed.{key, In, taskAt, number};
-use model::TaskRecord;
+ghost use Rattle.links.specs.Closed.{key, In, number};
 
 pub struct Triple {
     pub k: u8,
     pub i: u8,
     pub j: u8,
-}
-
-// How many tasks there are.
-pub fn task_count(n: usize) -> usize
-    requires { ⌜ n ≤ 16 ⌝ }
-    ensures { λ r. ⌜ r ≡ length (tasks n) ⌝ }
-{
-    n * (n + 1) * (2 * n + 1) / 6
 }
 
 // The triple of task 0.
@@ -53,45 +43,5 @@ pub fn next(n: u8, a: Triple) -> Triple
         k: a.k + 1,
         i: a.k + 1,
         j: a.k + 1,
-    }
-}
-
-// The record of a waiting task.
-pub fn record_of(a: Triple) -> TaskRecord
-    ensures { λ r. ⌜ r ≡ recordOf (taskAt (key (a .k) (a .i) (a .j))) ⌝ }
-{
-    if a.i == a.k {
-        if a.j == a.k {
-            return TaskRecord {
-                kind: 1,
-                k: a.k,
-                i: 0,
-                j: 0,
-                mark: 0,
-            };
-        }
-        return TaskRecord {
-            kind: 2,
-            k: a.k,
-            i: 0,
-            j: a.j,
-            mark: 0,
-        };
-    }
-    if a.j == a.k {
-        return TaskRecord {
-            kind: 3,
-            k: a.k,
-            i: a.i,
-            j: 0,
-            mark: 0,
-        };
-    }
-    TaskRecord {
-        kind: 4,
-        k: a.k,
-        i: a.i,
-        j: a.j,
-        mark: 0,
     }
 }

@@ -1,16 +1,13 @@
-// The tiles' numbers out of the lines of a text that was checked, into the lent matrix, and the outcome.
+// The tiles' numbers out of the lines of a text that was checked, into the lent matrix.
 ghost use mathlib.Core.Path.{_≡_};
 ghost use mathlib.Core.Bool.{true};
 ghost use Prim.Native.Nat.{_*_, _≤_};
 ghost use lib.ListN.{length};
 ghost use lib.Ieee.{binary64, ofBits};
 ghost use Rattle.model.specs.Num.{finite};
-ghost use Rattle.model.specs.Read.{isDigit, digitValue, field, outcomeIn};
+ghost use Rattle.model.specs.Read.{isDigit, digitValue, field};
 ghost use Rattle.digits_read.specs.Digits.{FieldOfDigits};
-ghost use Rattle.lines_read.specs.Line.{LineOfDigits};
 ghost use Rattle.numbers_read.specs.Decoded.{digitValues, numbersOf, TileLine, TileLines, tilesFrom};
-use digits_read::field_at;
-use model::Outcome;
 
 // A digit's value, looked up.
 fn value_of(b: u8, values: &[u8]) -> usize
@@ -100,21 +97,4 @@ pub fn load_tiles(text: &[u8], at: usize, s: usize, count: usize, matrix: &mut [
         load_tile(&text[a..e], &mut matrix[b..d]);
         q += 1;
     }
-}
-
-// The outcome on its line.
-pub fn outcome_at(line: &[u8]) -> Outcome
-    requires { ⌜ LineOfDigits (now line) ⌝ }
-    requires { ⌜ length (now line) ≡ 9 ⌝ }
-    ensures { λ r. ⌜ r ≡ outcomeIn (now (line .entry)) ⌝ }
-{
-    let outcome = field_at(line, 2, 2);
-    if outcome == 0 {
-        return Outcome::Good;
-    }
-    let place = field_at(line, 4, 4) as u16;
-    if outcome == 1 {
-        return Outcome::Overflow(place);
-    }
-    Outcome::Singular(place)
 }

@@ -5,9 +5,9 @@ ghost use Rattle.one_worker.specs.Alone.{Lendable, alone, published};
 use failures::outcome_of;
 use model::Outcome;
 use model::Sizes;
-use numbering::task_count;
 use opening::open;
 use runs::run;
+use task_counts::task_count;
 use worker::Worker;
 
 // Worker slots for an opening.

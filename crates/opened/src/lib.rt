@@ -11,9 +11,9 @@ ghost use Rattle.checks.specs.Checks.{Sized, RecordsFit};
 use model::Sizes;
 use numbering::first;
 use numbering::next;
-use numbering::record_of;
-use numbering::task_count;
 use record_changes::put_record;
+use task_counts::task_count;
+use waiting_records::record_of;
 use worker::Worker;
 
 // Sets the records to the numbering and waiting.

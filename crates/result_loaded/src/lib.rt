@@ -6,7 +6,7 @@ ghost use Rattle.result_loaded.specs.Results.{ResultLines, loadedResult}
 use entries_read::load_lists;
 use model::ReadAnswer;
 use numbers_read::load_tiles;
-use numbers_read::outcome_at;
+use outcome_read::outcome_at;
 
 // The buffers of a result whose text is accepted, and its answer.
 pub fn load_result(

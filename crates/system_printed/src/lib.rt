@@ -7,10 +7,10 @@ ghost use Rattle.model.specs.declared.ReadAnswer.the-variants.{SystemRead};
 ghost use Rattle.system_checked.specs.Files.{checkedSystem};
 ghost use Rattle.system_printed.specs.Print.{LengthsFit, printResult};
 use model::WriteAnswer;
-use numbering::task_count;
 use one_worker::run_alone;
 use result_written::write_result;
 use system_file::read_system;
+use task_counts::task_count;
 
 // Numbers for n up to 48, entries for n up to 48 and N up to 16, and records for N up to 16.
 fn blank_numbers() -> [f64; 2304]

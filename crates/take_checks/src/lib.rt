@@ -5,9 +5,9 @@ ghost use Rattle.records.specs.Records.{lent};
 use answers::accepted;
 use model::Answer;
 use model::Sizes;
-use numbering::task_count;
 use readiness::is_ready;
 use states::state_answer;
+use task_counts::task_count;
 use worker::Worker;
 
 // What the take of task p by worker w answers.

@@ -30,7 +30,7 @@ use Rattle.records.specs.Records.{recordsFrom, marksFrom, lent}
 use Rattle.records.proofs.Laws.{length-records, length-marks, marks-lent}
 use Rattle.checks.specs.Checks.{Sized}
 use Rattle.checks.proofs.Laws.{sized}
-use Rattle.numbering.proofs.Laws.{few-tasks}
+use Rattle.task_counts.proofs.Laws.{few-tasks}
 use Rattle.call_laws.proofs.Undamaged.{worker-lent, recorded}
 use Rattle.cells.proofs.Elements.{map-set}
 use Rattle.cells.proofs.Machine.{count, column-ends}

@@ -6,8 +6,8 @@ ghost use Rattle.model.specs.Plan.{planOf};
 ghost use Rattle.model.specs.Refusal.{badWorker as badWorkerIn};
 ghost use Rattle.checks.specs.Checks.{Sized, RecordsFit, recordsAlone};
 use model::Sizes;
-use numbering::task_count;
 use records::mark_of;
+use task_counts::task_count;
 use worker::Worker;
 
 // Whether a busy worker is at odds with the records: no such task, another mark than 1, or no such column.

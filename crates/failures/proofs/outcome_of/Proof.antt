@@ -2,7 +2,7 @@
 use native.Mathlib.Omega.{arith}
 use borrow.Author.Needs.{needs}
 use Rattle.records.proofs.Laws.{length-marks}
-use Rattle.numbering.proofs.Laws.{few-tasks}
+use Rattle.task_counts.proofs.Laws.{few-tasks}
 use Rattle.checks.proofs.Laws.{small}
 use Rattle.failures.proofs.Laws.{outcome-failed, outcome-zero, outcome-good, zero-below, failed-below}
 use Rattle.failures.proofs.outcome_of.Statement.{statement}

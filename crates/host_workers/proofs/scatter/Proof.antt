@@ -8,10 +8,10 @@ use Rattle.host_workers.proofs.scatter.Statement.{statement}
 use Rattle.host_workers.proofs.scatter.Tie as tie
 
 abbrev Inv-loop : tie.InvT-loop
-Inv-loop workers busy₀ task₀ column₀ v₀ busy task column v = Alike busy task column workers v
+Inv-loop busy task column workers held₀ tasks₀ columns₀ v₀ held tasks columns v = Alike held tasks columns workers v
 
 abbrev μ-loop : tie.MeasureT-loop
-μ-loop workers busy₀ task₀ column₀ v₀ busy task column v = 32 - v
+μ-loop busy task column workers held₀ tasks₀ columns₀ v₀ held tasks columns v = 32 - v
 
 loop-holds : tie.Need-loop-holds Inv-loop μ-loop
 loop-holds c = record {
@@ -29,17 +29,17 @@ mul-h c = omega arith
 array-copy-out-h : tie.Need-array-copy-out-h Inv-loop μ-loop
 array-copy-out-h c = omega arith
 
-array-write-busy : tie.Need-array-write-busy Inv-loop μ-loop
-array-write-busy c = omega arith
+array-write-held : tie.Need-array-write-held Inv-loop μ-loop
+array-write-held c = omega arith
 
-mul-task : tie.Need-mul-task Inv-loop μ-loop
-mul-task c = omega arith
+mul-tasks : tie.Need-mul-tasks Inv-loop μ-loop
+mul-tasks c = omega arith
 
-array-write-task : tie.Need-array-write-task Inv-loop μ-loop
-array-write-task c = omega arith
+array-write-tasks : tie.Need-array-write-tasks Inv-loop μ-loop
+array-write-tasks c = omega arith
 
-array-write-column : tie.Need-array-write-column Inv-loop μ-loop
-array-write-column c = omega arith
+array-write-columns : tie.Need-array-write-columns Inv-loop μ-loop
+array-write-columns c = omega arith
 
 add-v : tie.Need-add-v Inv-loop μ-loop
 add-v c = omega arith
@@ -50,7 +50,7 @@ loop-less c = omega arith
 loop-again : tie.Need-loop-again Inv-loop μ-loop
 loop-again c =
     let d = c .before .before in
-    scattered (d .loop .busy) (d .loop .task) (d .loop .column) (d .before .args .t1) (d .loop .v) (d .loop .inv) (omega arith) _ refl
+    scattered (d .loop .held) (d .loop .tasks) (d .loop .columns) (d .before .args .t1) (d .loop .v) (d .loop .inv) (omega arith) _ refl
 
 returns : tie.Need-returns Inv-loop μ-loop
 returns c = sym (all-alike _ _ _ _ (c .before .loop .v) (c .before .loop .inv) (omega arith))
@@ -64,10 +64,10 @@ scatter-spec =
     loop-holds
     mul-h
     array-copy-out-h
-    array-write-busy
-    mul-task
-    array-write-task
-    array-write-column
+    array-write-held
+    mul-tasks
+    array-write-tasks
+    array-write-columns
     add-v
     loop-less
     loop-again

@@ -4,7 +4,7 @@ use Prim.Native.Nat.{_+_, _*_, _≤_}
 use native.Mathlib.Nat.{mul-le-mul}
 use native.Mathlib.Omega.{arith}
 use mathlib.Core.Path.{_≡_, ap}
-use Rattle.numbering.proofs.Laws.{few-tasks}
+use Rattle.task_counts.proofs.Laws.{few-tasks}
 use lib.ListN.{length}
 use Rattle.one_worker.proofs.Ends.{alone-told, published-told}
 use Rattle.one_worker.proofs.run_alone.Statement.{statement}

@@ -3,7 +3,7 @@ use borrow.Author.Needs.{needs}
 use mathlib.Core.Path.{sym, _∙_}
 use native.Mathlib.Omega.{arith}
 use lib.Seq.{length-take-le}
-use Rattle.numbering.proofs.Laws.{few-tasks}
+use Rattle.task_counts.proofs.Laws.{few-tasks}
 use Rattle.system_printed.proofs.Checked.{checked, small-sizes}
 use Rattle.system_printed.proofs.print_system.Statement.{statement}
 use Rattle.system_printed.proofs.print_system.Tie as tie

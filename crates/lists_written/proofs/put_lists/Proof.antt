@@ -1,12 +1,12 @@
--- `rows_written::put_lists` meets its contract: after i turns the first i rows are written. Assumes nothing.
+-- `lists_written::put_lists` meets its contract: after i turns the first i rows are written. Assumes nothing.
 use Prim.Native.Nat.{_+_, _-_, _*_}
 use native.Mathlib.Nat.{zero-mul}
 use native.Mathlib.Omega.{arith}
 use Rattle.digits_written.proofs.Put.{put-length}
 use Rattle.rows_written.specs.Rows.{listRow, listRows, triangle}
 use Rattle.rows_written.proofs.Turns.{Row, row-none, row-room, row-more, row-all, lists-more, lists-fit, length-list-row}
-use Rattle.rows_written.proofs.put_lists.Statement.{statement}
-use Rattle.rows_written.proofs.put_lists.Tie as tie
+use Rattle.lists_written.proofs.put_lists.Statement.{statement}
+use Rattle.lists_written.proofs.put_lists.Tie as tie
 
 abbrev Inv-loop : tie.InvT-loop
 Inv-loop text₀ at l n t place₀ i₀ text place i = Row (listRow n t l) (λ k. triangle k * (7 + t * 2)) at n text₀ place i text

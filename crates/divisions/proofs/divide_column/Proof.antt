@@ -10,9 +10,9 @@ use lib.Ieee.{Float, nan}
 use Rattle.laws.proofs.Blocks.{row-end}
 use Rattle.model.specs.Num.{quotient}
 use Rattle.laws.proofs.Tests.{lt-or-le}
-use Rattle.multipliers.specs.Divided.{ColumnDivided}
-use Rattle.multipliers.proofs.divide_column.Statement.{statement}
-use Rattle.multipliers.proofs.divide_column.Tie as tie
+use Rattle.divisions.specs.Divided.{ColumnDivided}
+use Rattle.divisions.proofs.divide_column.Statement.{statement}
+use Rattle.divisions.proofs.divide_column.Tie as tie
 
 divided-none : (start stride : ℕ) (p : Float) (m l : List Float) → ColumnDivided start stride 0 p m m l
 divided-none start stride p m l = record { long = refl; quotient-at = λ i h. absurd (omega arith); stored-at = λ i h. absurd (omega arith); other-at = λ x h. refl }

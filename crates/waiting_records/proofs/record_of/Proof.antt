@@ -3,8 +3,8 @@ use mathlib.Core.Path.{sym, ap}
 use Rattle.model.specs.Calls.{recordOf}
 use Rattle.model.specs.Task.{kindOf, kOf, iOf, jOf}
 use Rattle.links.proofs.Numbering.{at-T-1, at-T-2, at-T-3, at-T-4}
-use Rattle.numbering.proofs.record_of.Statement.{statement}
-use Rattle.numbering.proofs.record_of.Tie as tie
+use Rattle.waiting_records.proofs.record_of.Statement.{statement}
+use Rattle.waiting_records.proofs.record_of.Tie as tie
 
 returns : tie.Need-returns
 unfolding recordOf kindOf kOf iOf jOf

@@ -1,9 +1,9 @@
 -- The closed form is the length of the list of tasks, and nothing in it wraps. Assumes nothing.
 use native.Mathlib.Omega.{arith}
 use borrow.Author.Needs.{needs}
-use Rattle.numbering.proofs.Laws.{products-small, length-tasks}
-use Rattle.numbering.proofs.task_count.Statement.{statement}
-use Rattle.numbering.proofs.task_count.Tie as tie
+use Rattle.task_counts.proofs.Laws.{products-small, length-tasks}
+use Rattle.task_counts.proofs.task_count.Statement.{statement}
+use Rattle.task_counts.proofs.task_count.Tie as tie
 
 add-result : tie.Need-add-result
 add-result c = search needs

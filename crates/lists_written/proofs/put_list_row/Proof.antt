@@ -1,14 +1,14 @@
--- `rows_written::put_list_row` meets its contract: after j turns the first j frames are written. Assumes nothing.
+-- `lists_written::put_list_row` meets its contract: after j turns the first j frames are written. Assumes nothing.
 use Prim.Native.Nat.{_+_, _-_, _*_}
 use native.Mathlib.Nat.{zero-mul, mul-le-mul}
 use native.Mathlib.Omega.{arith}
 use lib.ListN.{length}
 use Rattle.digits_written.proofs.Put.{put-length}
 use Rattle.laws.proofs.Blocks.{row-end}
 use Rattle.rows_written.specs.Rows.{listRow}
 use Rattle.rows_written.proofs.Turns.{Row, row-none, row-room, row-more, row-all, one-more, cell, listPiece, length-list}
-use Rattle.rows_written.proofs.put_list_row.Statement.{statement}
-use Rattle.rows_written.proofs.put_list_row.Tie as tie
+use Rattle.lists_written.proofs.put_list_row.Statement.{statement}
+use Rattle.lists_written.proofs.put_list_row.Tie as tie
 
 abbrev Inv-loop : tie.InvT-loop
 Inv-loop text₀ at l n t i place₀ j₀ text place j = Row (listPiece n t l i) (λ k. k * (7 + t * 2)) at (i + 1) text₀ place j text

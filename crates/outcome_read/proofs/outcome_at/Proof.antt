@@ -1,4 +1,4 @@
--- `numbers_read::outcome_at` meets its contract. Assumes nothing.
+-- `outcome_read::outcome_at` meets its contract. Assumes nothing.
 use mathlib.Core.Path.{sym, ap, _∙_}
 use native.Mathlib.Omega.{arith}
 use borrow.Author.Tests.{eq-eqb, ne-eqb}
@@ -6,8 +6,8 @@ use Rattle.model.specs.declared.Outcome.the-variants.{Overflow, Singular}
 use Rattle.model.specs.Read.{outcomeIn}
 use Rattle.digits_read.proofs.Fields.{field-lt}
 use Rattle.lines_read.proofs.Tested.{field-in}
-use Rattle.numbers_read.proofs.outcome_at.Statement.{statement}
-use Rattle.numbers_read.proofs.outcome_at.Tie as tie
+use Rattle.outcome_read.proofs.outcome_at.Statement.{statement}
+use Rattle.outcome_read.proofs.outcome_at.Tie as tie
 
 field-at-requires : tie.Need-field-at-requires
 field-at-requires c κs = field-in _ _ _ (c .before .pre .0) (omega (arith, c .before .pre .1)) (omega arith)
