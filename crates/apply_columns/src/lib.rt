@@ -7,12 +7,12 @@ ghost use Rattle.column_laws.specs.Workable.{Workable};
 use apply_blocks::apply_rows;
 use block_starts::start_block;
 use column_ends::column_end;
-use fills::fill::fill_numbers;
+use fills::fill_numbers;
 use model::ColumnEnd;
 use model::Sizes;
 use multipliers::read_column;
-use places::place::list_start;
-use places::place::tile_start;
+use places::list_start;
+use places::tile_start;
 
 // Works column c of T-2(k,j).
 pub fn apply_column(

@@ -7,8 +7,8 @@ ghost use Rattle.model.specs.Solve.{row as rowOf};
 ghost use Rattle.subtractions.specs.Subtracted.{BackwardFits};
 use model::Row;
 use model::Sizes;
-use numbers::number::is_finite;
-use places::place::tile_start;
+use numbers::is_finite;
+use places::tile_start;
 use subtractions::subtract;
 use subtractions::subtract_tiles;
 

@@ -7,7 +7,7 @@ ghost use Rattle.model.specs.Lists.{part, withPart};
 ghost use Rattle.model.specs.Column.{permuted, applyStart};
 ghost use Rattle.column_laws.specs.Room.{Block};
 use exchanges::exchange;
-use places::place::wide;
+use places::wide;
 
 // Makes all exchanges of the list that starts at p, in order, in the block at a.
 fn permute(m: &mut [f64], lists: &[u8], t: usize, w: usize, a: usize, p: usize)

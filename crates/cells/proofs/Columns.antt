@@ -7,12 +7,12 @@ use lib.Ieee.{Float}
 use lib.ListN.{length, replicate, length-replicate}
 use Rattle.model.specs.Lists.{every}
 use Rattle.model.specs.Num.{plusZero, finite}
-use Rattle.model.specs.Tile.{zeros}
+use Rattle.model.specs.Tile.{zeros, upperFilled}
 use Rattle.model.specs.Column.{factorColumn, factorComputes, applyColumn, applyComputes, coupleColumn, coupleComputes, pairColumn, pairComputes}
 use Rattle.model.specs.Task.{Task, T-1, T-2, T-3, T-4, tasks}
 use Rattle.model.specs.Plan.{Plan, plan}
 use Rattle.model.specs.Links.{task}
-use Rattle.model.specs.Buffer.{Buffers, tileOf, rowsOf, withTile, withRows, factorInput, coupleInput, pairInput, worked, computed, sound, fillTile, fillRows, upperFilled, fillUpper, filled}
+use Rattle.model.specs.Buffer.{Buffers, tileOf, rowsOf, withTile, withRows, factorInput, coupleInput, pairInput, worked, computed, sound, fillTile, fillRows, fillUpper, filled}
 use Rattle.laws.proofs.Blocks.{length-block}
 use Rattle.cells.specs.Cells.{Val, tileAt, listAt, view, putTile, putFactored, putCoupled, putPaired, putZeros, factorIn, coupleIn, pairIn, workedAt, computedAt, soundAt, filledAt, system}
 use Rattle.cells.proofs.Lengths.{factor-size, apply-size, couple-size, pair-size}
@@ -87,8 +87,8 @@ module _ (N t : ℕ) where
   unfolding zeros
   length-zeros = length-replicate (t * t) plusZero
 
-  length-upper : (a : List Float) → length (upperFilled z a) ≡ t * t
-  unfolding upperFilled plan
+  length-upper : (a : List Float) → length (upperFilled t a) ≡ t * t
+  unfolding upperFilled
   length-upper a = length-block t t _
 
   filled-view : (a : Task) → Valid N a → (s : Buffers) → Sized N t s → Same N t (filled z a s) (filledAt N t a (view N t s))
@@ -99,9 +99,9 @@ module _ (N t : ℕ) where
       let s' : Buffers = withTile z m k (zeros (t * t)) (withRows z m k (replicate t 0) s) in
       let σ' : ℕ → Val = putZeros N t m k (view N t s) in
       let w : Same N t s' σ' = put-tile N t _ _ (put-rows N t s (view N t s) (d, refl) m k l h _ (length-replicate t 0)) m k l h _ length-zeros in
-      let q = put-tile N t s' σ' w k k h h (upperFilled z (tileOf z s' k k)) (length-upper _) in
+      let q = put-tile N t s' σ' w k k h h (upperFilled t (tileOf z s' k k)) (length-upper _) in
       let x : tileOf z s' k k ≡ σ' (tileAt N k k) .floats = sym (tile-cell N t s' k k h h) ∙ (λ i. w .1 i (tileAt N k k) .floats) in
-      (q .0, q .1 ∙ (λ i. putTile N t k k (upperFilled z (x i)) σ'))
+      (q .0, q .1 ∙ (λ i. putTile N t k k (upperFilled t (x i)) σ'))
   filled-view (T-4 k m j) (v₄ h l f e g) s d = put-tile N t _ _ (put-tile N t s (view N t s) (d, refl) m j l f _ length-zeros) k j h f _ length-zeros
 
   -- ---- the same by a task's number

@@ -10,8 +10,7 @@ use Rattle.model.specs.Num.{finite}
 use Rattle.model.specs.Column.{factorColumn, factorComputes, applyColumn, applyComputes, coupleColumn, coupleComputes, pairColumn, pairComputes}
 use Rattle.model.specs.Task.{Task, T-1, T-2, T-3, T-4, Place, A, list, tasks, touches, writes, reads}
 use Rattle.model.specs.Links.{task}
-use Rattle.model.specs.Plan.{plan}
-use Rattle.model.specs.Buffer.{upperFilled}
+use Rattle.model.specs.Tile.{upperFilled}
 use Rattle.order_free.specs.Below.{set}
 use Rattle.order_free.specs.System.{Laws}
 use Rattle.laws.proofs.Tests.{never, or-false}
@@ -120,7 +119,7 @@ module _ (N t : ℕ) where
     filled-local (T-2 k j) h r e = λ i. filledAt N t (T-2 k j) (λ q. e i) r
     filled-local (T-3 k m) h r e =
         let a : σ (tileAt N k k) ≡ τ (tileAt N k k) = unfold touches reads in (agree (T-3 k m) h (A k k) first) in
-        λ i. putTile N t k k (upperFilled (plan N t) (putZeros N t m k (λ q. a i) (tileAt N k k) .floats)) (putZeros N t m k (λ q. e i)) r
+        λ i. putTile N t k k (upperFilled t (putZeros N t m k (λ q. a i) (tileAt N k k) .floats)) (putZeros N t m k (λ q. e i)) r
     filled-local (T-4 k m j) h r e = λ i. filledAt N t (T-4 k m j) (λ q. e i) r
 
   pub system-laws : 1 ≤ t → Laws (system N t)

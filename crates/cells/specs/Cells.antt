@@ -9,12 +9,11 @@ use lib.Dec.{eqb, ltb}
 use lib.Ieee.{Float}
 use Rattle.model.specs.Lists.{every, some, part}
 use Rattle.model.specs.Num.{finite}
-use Rattle.model.specs.Tile.{zeros}
+use Rattle.model.specs.Tile.{zeros, upperFilled}
 use Rattle.model.specs.Column.{Factored, Coupled, Paired, factorColumn, factorComputes, applyColumn, applyComputes, coupleColumn, coupleComputes, pairColumn, pairComputes}
 use Rattle.model.specs.Task.{Task, T-1, T-2, T-3, T-4, Place, tasks, touches, writes}
 use Rattle.model.specs.Links.{task}
-use Rattle.model.specs.Plan.{plan}
-use Rattle.model.specs.Buffer.{Buffers, upperFilled}
+use Rattle.model.specs.Buffer.{Buffers}
 use Rattle.order_free.specs.Below.{set}
 use Rattle.order_free.specs.System.{System}
 
@@ -107,7 +106,7 @@ module _ (N t : ℕ) where
   unfoldable pub filledAt : Task → (ℕ → Val) → ℕ → Val
   filledAt (T-1 k) σ = putZeros k k σ
   filledAt (T-2 k j) σ = putTile k j (zeros (t * t)) σ
-  filledAt (T-3 k i) σ = putTile k k (upperFilled (plan N t) (putZeros i k σ (tileAt N k k) .floats)) (putZeros i k σ)
+  filledAt (T-3 k i) σ = putTile k k (upperFilled t (putZeros i k σ (tileAt N k k) .floats)) (putZeros i k σ)
   filledAt (T-4 k i j) σ = putTile k j (zeros (t * t)) (putTile i j (zeros (t * t)) σ)
 
   -- tiles, lists and tasks as order_free has them

@@ -12,13 +12,12 @@ use borrow.Author.Tests.{leb-false}
 use Rattle.model.specs.declared.Pivot.{Pivot}
 use Rattle.model.specs.Lists.{below, every, part, withPart}
 use Rattle.model.specs.Num.{finite, plusZero, isZero, update}
-use Rattle.model.specs.Tile.{at, zeros}
+use Rattle.model.specs.Tile.{at, zeros, upperFilled}
 use Rattle.model.specs.Column.{beyond, applyStart, factorPivot, couplePivot}
 use Rattle.model.specs.Task.{Task, T-1, T-2, T-3, T-4}
 use Rattle.model.specs.Links.{taken, done, failed}
 use Rattle.model.specs.Plan.{Plan, plan}
-use Rattle.model.specs.Buffer.{Buffers, tile, putTile, putRows, tileOf, withTile, withRows, worked, sound, fillTile, fillRows, upperFilled, fillUpper, filled, columnEnds}
-use Rattle.upper_fills.specs.Zeroed.{upperZeroed}
+use Rattle.model.specs.Buffer.{Buffers, tile, putTile, putRows, tileOf, withTile, withRows, worked, sound, fillTile, fillRows, fillUpper, filled, columnEnds}
 use Rattle.laws.specs.Apart.{Apart}
 use Rattle.laws.proofs.Parts.{Fits, length-put, part-put, put-put, length-part}
 use Rattle.laws.proofs.Blocks.{block-cong}
@@ -56,11 +55,11 @@ module _ (N t : ℕ) (m : List Float) (l : List ℕ) where
 
   pub couple-filled : (k i : ℕ) → filled (plan N t) (T-3 k i) (record { matrix = m; lists = l })
       ≡ record {
-        matrix = withPart (tileStart N t k k) (t * t) (upperZeroed t (part (tileStart N t k k) (t * t) (withPart (tileStart N t i k) (t * t) (zeros (t * t)) m)))
+        matrix = withPart (tileStart N t k k) (t * t) (upperFilled t (part (tileStart N t k k) (t * t) (withPart (tileStart N t i k) (t * t) (zeros (t * t)) m)))
             (withPart (tileStart N t i k) (t * t) (zeros (t * t)) m);
         lists = withPart (listStart N t i k) t (replicate t 0) l;
       }
-  unfolding plan filled fillUpper upperFilled fillTile fillRows withTile withRows putTile putRows tileOf tile upperZeroed
+  unfolding plan filled fillUpper fillTile fillRows withTile withRows putTile putRows tileOf tile
   couple-filled k i = refl
 
   pub pair-filled : (k i j : ℕ) → filled (plan N t) (T-4 k i j) (record { matrix = m; lists = l })
@@ -288,7 +287,7 @@ module _ (N t k i c u d b : ℕ) (hu : u ≡ tileStart N t k k) (hd : d ≡ tile
         (ap (λ (x : List Float). record { matrix = x; lists = l′ }) (p .whole h) ∙ sym coupled-is) (sym couple-sound ∙ h) q
 
     pub couple-fails : (half last : List Float) (l″ : List ℕ) → answer ≡ false → half ≡ withPart d (t * t) (zeros (t * t)) after
-        → last ≡ withPart u (t * t) (upperZeroed t (part u (t * t) half)) half → l″ ≡ withPart b t (replicate t 0) l′
+        → last ≡ withPart u (t * t) (upperFilled t (part u (t * t) half)) half → l″ ≡ withPart b t (replicate t 0) l′
         → record { left = record { matrix = last; lists = l″ }; mark = failed } ≡ columnEnds (plan N t) (T-3 k i) c (record { matrix = m; lists = l })
     couple-fails half last l″ h q q′ q″ =
         let n = t * t in
@@ -298,5 +297,5 @@ module _ (N t k i c u d b : ℕ) (hu : u ≡ tileStart N t k k) (hd : d ≡ tile
         let whole = put-lower n u d m apart ru rd x (eliminatedRows t t c (at t x c) (lowerAt t t c c e u d m)) long (length-eliminated t t c _ _) (zeros n) (length-zeros n) in
         ends-failed (plan N t) (T-3 k i) c (record { matrix = m; lists = l }) (record { matrix = last; lists = l″ })
         (rw (coupled-is, couple-filled N t, ← hu, ← hd, ← hb, ← q″, whole)
-        (ap (λ (y : List Float). record { matrix = y; lists = l″ }) (q′ ∙ ap (λ (y : List Float). withPart u n (upperZeroed t (part u n y)) y) (q ∙ stopped))))
+        (ap (λ (y : List Float). record { matrix = y; lists = l″ }) (q′ ∙ ap (λ (y : List Float). withPart u n (upperFilled t (part u n y)) y) (q ∙ stopped))))
         (sym couple-sound ∙ h)

@@ -10,8 +10,8 @@ use couple_tiles::couple_rows;
 use model::ColumnEnd;
 use model::Sizes;
 use pivots::couple_pivot;
-use places::place::list_start;
-use places::place::tile_start;
+use places::list_start;
+use places::tile_start;
 
 // Works column c of T-3(k,i).
 pub fn couple_column(

@@ -6,13 +6,13 @@ ghost use Rattle.model.specs.Buffer.{markAfter, columnEnds};
 ghost use Rattle.column_laws.specs.Workable.{Workable};
 use column_ends::column_end;
 use factor_tiles::factor_rows;
-use fills::fill::fill_entries;
-use fills::fill::fill_numbers;
+use fills::fill_entries;
+use fills::fill_numbers;
 use model::ColumnEnd;
 use model::Sizes;
 use pivots::factor_pivot;
-use places::place::list_start;
-use places::place::tile_start;
+use places::list_start;
+use places::tile_start;
 
 // Works column c of T-1(k).
 pub fn factor_column(

@@ -6,9 +6,9 @@ use lib.Ieee.{Float}
 use lib.ListN.{replicate}
 use Rattle.model.specs.declared.Sizes.{Sizes}
 use Rattle.model.specs.declared.TaskRecord.{TaskRecord}
-use Rattle.model.specs.Tile.{zeros}
+use Rattle.model.specs.Tile.{zeros, upperFilled}
 use Rattle.model.specs.Plan.{plan, planOf}
-use Rattle.model.specs.Buffer.{Buffers, tile, putTile, putRows, tileOf, withTile, withRows, fillTile, fillRows, upperFilled, fillUpper, filled}
+use Rattle.model.specs.Buffer.{Buffers, tile, putTile, putRows, tileOf, withTile, withRows, fillTile, fillRows, fillUpper, filled}
 use Rattle.checks.specs.Checks.{taskFrom}
 use Rattle.call_laws.proofs.Named.{named-1, named-2, named-3, named-4}
 
@@ -36,11 +36,11 @@ module _ (z : Sizes) (m : List Float) (l : List ℕ) (a : TaskRecord) where
   filled-2 e m' p = (λ x. record { matrix = p x; lists = l }) ∙ ap (λ b. filled (planOf z) b old) (sym (named-2 a e))
 
   pub filled-3 : a .kind ≡ 3 → (m' m″ : List Float) (l' : List ℕ) → m' ≡ putTile N t (a .i) (a .k) blank m
-      → m″ ≡ putTile N t (a .k) (a .k) (upperFilled (planOf z) (tile N t m' (a .k) (a .k))) m' → l' ≡ putRows N t (a .i) (a .k) (replicate t 0) l
+      → m″ ≡ putTile N t (a .k) (a .k) (upperFilled t (tile N t m' (a .k) (a .k))) m' → l' ≡ putRows N t (a .i) (a .k) (replicate t 0) l
       → _≡_ {A = Buffers} (record { matrix = m″; lists = l' }) (filled (planOf z) (taskFrom a) old)
   unfolding filled fillTile fillRows fillUpper withTile withRows tileOf plan
   filled-3 e m' m″ l' p u q =
-      let v = u ∙ ap (λ y. putTile N t (a .k) (a .k) (upperFilled (planOf z) (tile N t y (a .k) (a .k))) y) p in
+      let v = u ∙ ap (λ y. putTile N t (a .k) (a .k) (upperFilled t (tile N t y (a .k) (a .k))) y) p in
       (λ x. record { matrix = v x; lists = q x }) ∙ ap (λ b. filled (planOf z) b old) (sym (named-3 a e))
 
   pub filled-4 : (a .kind ≡ 1 → ⊥) → (a .kind ≡ 2 → ⊥) → (a .kind ≡ 3 → ⊥) → (m' m″ : List Float) → m' ≡ putTile N t (a .i) (a .j) blank m

@@ -2,16 +2,16 @@
 ghost use mathlib.Core.Path.{_≡_};
 ghost use Prim.Native.Nat.{_*_, _<_};
 ghost use lib.ListN.{replicate};
-ghost use Rattle.model.specs.Tile.{zeros};
+ghost use Rattle.model.specs.Tile.{zeros, upperFilled};
 ghost use Rattle.model.specs.Plan.{planOf};
-ghost use Rattle.model.specs.Buffer.{tile, putTile, putRows, upperFilled, filled};
+ghost use Rattle.model.specs.Buffer.{tile, putTile, putRows, filled};
 ghost use Rattle.checks.specs.Checks.{Sized, MatrixFits, ListsFit, Inside, taskFrom};
-use fills::fill::fill_entries;
-use fills::fill::fill_numbers;
+use fills::fill_entries;
+use fills::fill_numbers;
 use model::Sizes;
 use model::TaskRecord;
-use places::place::list_start;
-use places::place::tile_start;
+use places::list_start;
+use places::tile_start;
 use upper_fills::fill_upper;
 
 // Fills tile (i,j).
@@ -27,7 +27,7 @@ fn fill_tile(z: Sizes, matrix: &mut [f64], i: usize, j: usize)
 // Fills the diagonal of tile (k,k), and all above it.
 fn fill_upper_part(z: Sizes, matrix: &mut [f64], k: usize)
     requires { ⌜ Sized z × MatrixFits z (now matrix) × (k < z .tiles) ⌝ }
-    ensures { λ _. ⌜ now (matrix .exit) ≡ putTile (z .tiles) (z .side) k k (upperFilled (planOf z) (tile (z .tiles) (z .side) (now (matrix .entry)) k k)) (now (matrix .entry)) ⌝ }
+    ensures { λ _. ⌜ now (matrix .exit) ≡ putTile (z .tiles) (z .side) k k (upperFilled (z .side) (tile (z .tiles) (z .side) (now (matrix .entry)) k k)) (now (matrix .entry)) ⌝ }
 {
     let t = z.side;
     let start = tile_start(z.tiles, t, k, k);

@@ -4,7 +4,7 @@ ghost use mathlib.Core.Bool.{cond};
 ghost use Rattle.model.specs.Tile.{allFinite};
 ghost use Rattle.model.specs.Refusal.{firstNotFinite};
 ghost use Rattle.finite_numbers.specs.declared.Lowest.the-variants.{None, At};
-use numbers::number::is_finite;
+use numbers::is_finite;
 
 // The lowest that a search finds (an offset, a task or a row), or none.
 pub enum Lowest {

@@ -8,7 +8,7 @@ use Rattle.model.specs.declared.RunAnswer.the-variants.{Finished, Spent, RunRef
 use Rattle.model.specs.declared.Outcome.{Outcome}
 use Rattle.model.specs.declared.Outcome.the-variants.{Good, Overflow, Singular}
 use Rattle.model.specs.declared.OutcomeAnswer.{OutcomeAnswer}
-use Rattle.model.specs.declared.OutcomeAnswer.the-variants.{Ended, Unfinished, OutcomeRefused}
+use Rattle.model.specs.declared.OutcomeAnswer.the-variants.{Known, Unfinished, OutcomeRefused}
 use Rattle.model.specs.declared.WriteAnswer.{WriteAnswer}
 use Rattle.model.specs.declared.WriteAnswer.the-variants.{Written, WriteRefused}
 use Rattle.model.specs.declared.ReadAnswer.{ReadAnswer}
@@ -32,13 +32,13 @@ runTold (Spent c) = record { place = 0; count = c; number = 0; kind = 2 }
 runTold (RunRefused n x) = refusedTold n x
 
 -- kind 0 is good, 1 overflow, 2 singular, as in a file, and 3 unfinished
-abbrev pub endedTold : Outcome → Told
-endedTold Good = record { place = 0; count = 0; number = 0; kind = 0 }
-endedTold (Overflow p) = record { place = p; count = 0; number = 0; kind = 1 }
-endedTold (Singular x) = record { place = x; count = 0; number = 0; kind = 2 }
+abbrev pub knownTold : Outcome → Told
+knownTold Good = record { place = 0; count = 0; number = 0; kind = 0 }
+knownTold (Overflow p) = record { place = p; count = 0; number = 0; kind = 1 }
+knownTold (Singular x) = record { place = x; count = 0; number = 0; kind = 2 }
 
 abbrev pub outcomeTold : OutcomeAnswer → Told
-outcomeTold (Ended o) = endedTold o
+outcomeTold (Known o) = knownTold o
 outcomeTold (Unfinished p) = record { place = p; count = 0; number = 0; kind = 3 }
 outcomeTold (OutcomeRefused n x) = refusedTold n x
 

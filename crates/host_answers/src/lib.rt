@@ -1,6 +1,6 @@
 // What the calls tell a host: answers and outcomes as numbers.
 ghost use mathlib.Core.Path.{_≡_};
-ghost use Rattle.host_answers.specs.Answers.{told, runTold, outcomeTold, endedTold, writeTold, resultTold, readTold, outcomeFrom};
+ghost use Rattle.host_answers.specs.Answers.{told, runTold, outcomeTold, knownTold, writeTold, resultTold, readTold, outcomeFrom};
 use model::Answer;
 use model::Outcome;
 use model::OutcomeAnswer;
@@ -75,8 +75,8 @@ pub fn tell_run(answer: RunAnswer) -> Told
 }
 
 // Kind 0: good; 1: overflow at a task; 2: singular at a row.
-fn tell_ended(outcome: Outcome) -> Told
-    ensures { λ r. ⌜ r ≡ endedTold outcome ⌝ }
+fn tell_known(outcome: Outcome) -> Told
+    ensures { λ r. ⌜ r ≡ knownTold outcome ⌝ }
 {
     match outcome {
         Outcome::Good => Told {
@@ -105,7 +105,7 @@ pub fn tell_outcome(answer: OutcomeAnswer) -> Told
     ensures { λ r. ⌜ r ≡ outcomeTold answer ⌝ }
 {
     match answer {
-        OutcomeAnswer::Ended(o) => tell_ended(o),
+        OutcomeAnswer::Known(o) => tell_known(o),
         OutcomeAnswer::Unfinished(p) => Told {
             place: p,
             count: 0,

@@ -4,13 +4,13 @@ use Prim.Native.Nat.{ℕ, suc, _+_, _*_, _/_, _%_}
 use mathlib.Core.Bool.{Bool, true, false, cond, _||_}
 use mathlib.Core.List.{List}
 use lib.ListN.{replicate}
-use lib.Dec.{eqb, leb}
+use lib.Dec.{eqb}
 use lib.Ieee.{Float}
 use Rattle.model.specs.declared.ColumnEnd.{ColumnEnd}
 use Rattle.model.specs.declared.ColumnEnd.the-variants.{GoesOn, Done, Failed}
 use Rattle.model.specs.Lists.{every, part, withPart}
-use Rattle.model.specs.Num.{plusZero, finite}
-use Rattle.model.specs.Tile.{at, block, allFinite, zeros}
+use Rattle.model.specs.Num.{finite}
+use Rattle.model.specs.Tile.{at, allFinite, zeros, upperFilled}
 use Rattle.model.specs.Column.{Factored, Coupled, Paired, factorColumn, factorComputes, applyColumn, applyComputes, coupleColumn, coupleComputes, pairColumn, pairComputes, Column·open}
 use Rattle.model.specs.Task.{Task, T-1, T-2, T-3, T-4, Place, isList, touches}
 use Rattle.model.specs.Links.{taken, done, failed}
@@ -121,12 +121,8 @@ module _ (z : Plan) where
   unfoldable pub fillRows : ℕ → ℕ → Buffers → Buffers
   fillRows i j s = withRows i j (replicate (z .t) 0) s
 
-  -- the tile a with +0 on the diagonal and above
-  unfoldable pub upperFilled : List Float → List Float
-  upperFilled a = block (z .t) (z .t) (λ r q. cond (leb r q) plusZero (at (z .t) a r q))
-
   unfoldable pub fillUpper : ℕ → Buffers → Buffers
-  fillUpper k s = withTile k k (upperFilled (tileOf s k k)) s
+  fillUpper k s = withTile k k (upperFilled (z .t) (tileOf s k k)) s
 
   -- document 01's fill
   unfoldable pub filled : Task → Buffers → Buffers
@@ -144,5 +140,5 @@ module _ (z : Plan) where
   ]
 
 unfoldable pub Buffer·open : Unit {0}
-unfolding Column·open Plan·open tile putTile rows putRows element tileOf rowsOf withTile withRows factorInput coupleInput pairInput worked computed sound finiteIn finiteTiles fillTile fillRows upperFilled fillUpper filled columnEnds
+unfolding Column·open Plan·open tile putTile rows putRows element tileOf rowsOf withTile withRows factorInput coupleInput pairInput worked computed sound finiteIn finiteTiles fillTile fillRows fillUpper filled columnEnds
 Buffer·open = tt

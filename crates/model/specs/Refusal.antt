@@ -12,7 +12,7 @@ use Rattle.model.specs.declared.Answer.{Answer}
 use Rattle.model.specs.declared.Answer.the-variants.{Accepted, Refused}
 use Rattle.model.specs.declared.RunAnswer.the-variants.{RunRefused}
 use Rattle.model.specs.declared.OutcomeAnswer.{OutcomeAnswer}
-use Rattle.model.specs.declared.OutcomeAnswer.the-variants.{Ended as EndedWith, Unfinished, OutcomeRefused}
+use Rattle.model.specs.declared.OutcomeAnswer.the-variants.{Known, Unfinished, OutcomeRefused}
 use Rattle.model.specs.Lists.{below, some, keep, firstOr}
 use Rattle.model.specs.Num.{finite}
 use Rattle.model.specs.Tile.{allFinite}
@@ -173,7 +173,7 @@ module _ (z : Sizes) where
 
   -- What the outcome call answers of a system: its outcome once every task is finished, and before that the lowest unfinished task. It changes nothing
   unfoldable pub outcomeFound : Lent → OutcomeAnswer
-  outcomeFound s = firstOr (unfinished (planOf z) s) Unfinished (EndedWith (outcome (planOf z) (stateOf s)))
+  outcomeFound s = firstOr (unfinished (planOf z) s) Unfinished (Known (outcome (planOf z) (stateOf s)))
 
   unfoldable pub outcomeCall : Lent → OutcomeAnswer
   outcomeCall s = outcomeReplied (

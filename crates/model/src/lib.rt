@@ -54,7 +54,7 @@ pub enum Outcome {
 
 // What the outcome call answers: the outcome, the lowest task that is unfinished, or a refusal's number and place.
 pub enum OutcomeAnswer {
-    Ended(Outcome),
+    Known(Outcome),
     Unfinished(usize),
     OutcomeRefused(u8, usize),
 }

@@ -4,7 +4,7 @@ ghost use lib.ListN.{drop};
 ghost use Rattle.model.specs.Refusal.{openCall};
 ghost use Rattle.records.specs.Records.{lent};
 use answers::accepted;
-use fills::fill::fill_entries;
+use fills::fill_entries;
 use model::CallReply;
 use model::Sizes;
 use open_checks::open_answer;

@@ -8,7 +8,7 @@ use lib.ListN.{length}
 use Rattle.model.specs.declared.Sizes.{Sizes}
 use Rattle.worker.specs.declared.Worker.{Worker}
 use Rattle.model.specs.declared.Outcome.{Outcome}
-use Rattle.model.specs.declared.OutcomeAnswer.the-variants.{Ended, Unfinished, OutcomeRefused}
+use Rattle.model.specs.declared.OutcomeAnswer.the-variants.{Known, Unfinished, OutcomeRefused}
 use Rattle.model.specs.Lists.{below, keep, firstOr}
 use Rattle.model.specs.Plan.{planOf}
 use Rattle.model.specs.Links.{mark, finished}
@@ -53,7 +53,7 @@ module _ (z : Sizes) (m : List Float) (l : List ℕ) (r : List (List ℕ)) (ws :
         unfolding outcomeFound
         answer-3 k i = sym (from-at Unfinished _ (unfinished (planOf z) old) g k (h ∙ ap (λ xs. firstOr xs At None) (unfinished-is z m l r ws (fits .records-fit))) i) ∙ found-then
 
-        pub answer-4 : (o : Outcome) → g ≡ None → o ≡ outcome (planOf z) (record { buffers = record { matrix = m; lists = l }; marks = marksFrom r }) → Ended o ≡ outcomeCall z old
+        pub answer-4 : (o : Outcome) → g ≡ None → o ≡ outcome (planOf z) (record { buffers = record { matrix = m; lists = l }; marks = marksFrom r }) → Known o ≡ outcomeCall z old
         unfolding outcomeFound stateOf marksOf lent marksFrom
         answer-4 o i j =
-            ap Ended j ∙ sym (from-none Unfinished _ (unfinished (planOf z) old) g (h ∙ ap (λ xs. firstOr xs At None) (unfinished-is z m l r ws (fits .records-fit))) i) ∙ found-then
+            ap Known j ∙ sym (from-none Unfinished _ (unfinished (planOf z) old) g (h ∙ ap (λ xs. firstOr xs At None) (unfinished-is z m l r ws (fits .records-fit))) i) ∙ found-then

@@ -2,8 +2,8 @@
 ghost use mathlib.Core.Path.{_≡_};
 ghost use Rattle.model.specs.Refusal.{outcomeCall};
 ghost use Rattle.records.specs.Records.{lent};
-use checks::sizes::bad_lengths;
-use checks::sizes::bad_sizes;
+use checks::bad_lengths;
+use checks::bad_sizes;
 use failures::outcome_of;
 use finite_numbers::Lowest;
 use model::OutcomeAnswer;
@@ -30,6 +30,6 @@ pub fn outcome(
     let task = first_unfinished(records);
     match task {
         Lowest::At(p) => OutcomeAnswer::Unfinished(p),
-        Lowest::None => OutcomeAnswer::Ended(outcome_of(z, matrix, records)),
+        Lowest::None => OutcomeAnswer::Known(outcome_of(z, matrix, records)),
     }
 }

@@ -5,14 +5,14 @@ ghost use Rattle.model.specs.Plan.{planOf};
 ghost use Rattle.model.specs.Buffer.{markAfter, columnEnds};
 ghost use Rattle.column_laws.specs.Workable.{Workable};
 use column_ends::column_end;
-use fills::fill::fill_numbers;
+use fills::fill_numbers;
 use model::ColumnEnd;
 use model::Sizes;
 use multipliers::read_column;
 use pair_blocks::pair_rows;
-use places::place::list_start;
-use places::place::tile_start;
-use places::place::wide;
+use places::list_start;
+use places::tile_start;
+use places::wide;
 
 // Works column c of T-4(k,i,j).
 pub fn pair_column(

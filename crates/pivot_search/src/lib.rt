@@ -5,7 +5,7 @@ ghost use lib.ListN.{length};
 ghost use Rattle.model.specs.Column.{search};
 ghost use Rattle.pivot_search.specs.Candidates.{candidates};
 use model::Pivot;
-use numbers::number::magnitude_of;
+use numbers::magnitude_of;
 
 // The candidate of largest magnitude, the first on a tie, among the number at first and count numbers from rest on, stride apart.
 pub fn search_pivot(m: &[f64], first: usize, rest: usize, stride: usize, count: usize) -> Pivot

@@ -75,7 +75,7 @@ fn end_said(outcome: Outcome) -> Said {
 // 3: a task is unfinished; 4: sizes or lengths do not fit.
 pub fn outcome_said(answer: OutcomeAnswer) -> Said {
     match answer {
-        OutcomeAnswer::Ended(outcome) => end_said(outcome),
+        OutcomeAnswer::Known(outcome) => end_said(outcome),
         OutcomeAnswer::Unfinished(_) => full(0, 0, 3, 0),
         OutcomeAnswer::OutcomeRefused(_, _) => full(0, 0, 4, 0),
     }

@@ -6,9 +6,9 @@ ghost use Rattle.progress.specs.Right.{Solvable, RightSide, ColumnPassed, Passi
 use model::Sizes;
 use multipliers::read_column;
 use pair_blocks::pair_rows;
-use places::place::list_start;
-use places::place::tile_start;
-use places::place::wide;
+use places::list_start;
+use places::tile_start;
+use places::wide;
 use progress::Progress;
 
 // Column c of T-4(k,i) on the right side y. False where a computed number isn't finite.

@@ -9,8 +9,8 @@ use apply_blocks::apply_rows;
 use block_starts::start_block;
 use model::Sizes;
 use multipliers::read_column;
-use places::place::list_start;
-use places::place::tile_start;
+use places::list_start;
+use places::tile_start;
 use progress::Progress;
 use right_pairs::pair;
 

@@ -8,8 +8,8 @@ ghost use lib.Ieee.{nan};
 ghost use Rattle.model.specs.Lists.{part};
 ghost use Rattle.model.specs.Tile.{allFinite};
 ghost use Rattle.row_updates.specs.Updates.{RowsUpdated};
-use numbers::number::is_finite;
-use numbers::number::update;
+use numbers::is_finite;
+use numbers::update;
 
 // Updates columns f to w - 1 of the rows of width w from start on by the multipliers l and the row at top.
 // False where a computed number isn't finite.

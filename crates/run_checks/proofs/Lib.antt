@@ -1,1 +1,1 @@
-pub mod Refused
+mod Laws

@@ -2,12 +2,11 @@
 ghost use mathlib.Core.Path.{_≡_};
 ghost use Rattle.model.specs.Refusal.{runAnswer};
 ghost use Rattle.records.specs.Records.{lent};
-use checks::sizes::bad_lengths;
-use checks::sizes::bad_sizes;
-use damage::damaged;
+use answers::accepted;
 use finite_numbers::all_finite;
 use model::Answer;
 use model::Sizes;
+use states::state_answer;
 use worker::Worker;
 
 // What a run answers before its first call.
@@ -20,14 +19,9 @@ pub fn run_answer(
 ) -> Answer
     ensures { λ r. ⌜ r ≡ runAnswer z (lent (now (matrix .entry)) (now (lists .entry)) (now (records .entry)) workers (z .workers)) ⌝ }
 {
-    if bad_sizes(z) {
-        return Answer::Refused(1, 0);
-    }
-    if bad_lengths(z, matrix, lists, records) {
-        return Answer::Refused(2, 0);
-    }
-    if damaged(z, lists, records, workers) {
-        return Answer::Refused(4, 0);
+    let state = state_answer(z, matrix, lists, records, workers);
+    if !accepted(state) {
+        return state;
     }
     if !all_finite(matrix) {
         return Answer::Refused(4, 0);

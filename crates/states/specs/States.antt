@@ -1,4 +1,4 @@
--- The refusals that a take and a column share, and what is lent where none of them holds. Assumes nothing.
+-- The refusals that a take, a column and a run share, and what is lent where none of them holds. Assumes nothing.
 use Prim.Native.Nat.{ℕ}
 use mathlib.Core.Path.{_≡_}
 use mathlib.Core.Bool.{false}

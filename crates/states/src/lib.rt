@@ -1,9 +1,9 @@
-// Refusals 1, 2 and 4 but for elements: what a take and a column look at first.
+// Refusals 1, 2 and 4 but for elements: what a take, a column and a run look at first.
 ghost use mathlib.Core.Path.{_≡_};
 ghost use Rattle.records.specs.Records.{lent};
 ghost use Rattle.states.specs.States.{stateAnswer};
-use checks::sizes::bad_lengths;
-use checks::sizes::bad_sizes;
+use checks::bad_lengths;
+use checks::bad_sizes;
 use damage::damaged;
 use model::Answer;
 use model::Sizes;

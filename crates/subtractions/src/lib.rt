@@ -10,7 +10,7 @@ ghost use Rattle.model.specs.Plan.{planOf};
 ghost use Rattle.model.specs.Solve.{rowLeft};
 ghost use Rattle.subtractions.specs.Subtracted.{subtracted, BackwardFits};
 use model::Sizes;
-use places::place::tile_start;
+use places::tile_start;
 
 // What is left of d once u·y[p] is subtracted, or d itself where u is a zero. y is read only where u is none: that leaves a branch, which is
 // predicted, and no subtraction waits for a choice.

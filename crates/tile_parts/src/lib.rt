@@ -4,7 +4,7 @@ ghost use Prim.Native.Nat.{_*_, _<_, _≤_};
 ghost use lib.ListN.{length};
 ghost use Rattle.model.specs.Buffer.{tile as tileOf};
 use model::Sizes;
-use places::place::tile_start;
+use places::tile_start;
 
 // The t² numbers of tile (i,j).
 pub fn tile(z: Sizes, matrix: &[f64], i: usize, j: usize) -> &[f64]

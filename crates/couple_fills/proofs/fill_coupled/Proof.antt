@@ -5,13 +5,13 @@ use mathlib.Core.List.{List}
 use Prim.Native.Nat.{ℕ, _*_}
 use lib.Ieee.{Float}
 use Rattle.model.specs.Lists.{part, withPart}
-use Rattle.upper_fills.specs.Zeroed.{upperZeroed}
+use Rattle.model.specs.Tile.{upperFilled}
 use Rattle.couple_fills.proofs.fill_coupled.Statement.{statement}
 use Rattle.couple_fills.proofs.fill_coupled.Tie as tie
 
-upper-after : (t u : ℕ) (x y z : List Float) → y ≡ x → z ≡ withPart u (t * t) (upperZeroed t (part u (t * t) y)) y
-    → z ≡ withPart u (t * t) (upperZeroed t (part u (t * t) x)) x
-upper-after t u x y z e f = f ∙ ap (λ (a : List Float). withPart u (t * t) (upperZeroed t (part u (t * t) a)) a) e
+upper-after : (t u : ℕ) (x y z : List Float) → y ≡ x → z ≡ withPart u (t * t) (upperFilled t (part u (t * t) y)) y
+    → z ≡ withPart u (t * t) (upperFilled t (part u (t * t) x)) x
+upper-after t u x y z e f = f ∙ ap (λ (a : List Float). withPart u (t * t) (upperFilled t (part u (t * t) a)) a) e
 
 mul-fill-numbers : tie.Need-mul-fill-numbers
 mul-fill-numbers c = search needs

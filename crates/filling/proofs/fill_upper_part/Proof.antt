@@ -5,8 +5,8 @@ use native.Mathlib.Omega.{arith}
 use borrow.Author.Needs.{needs}
 use Rattle.model.specs.Lists.{part, withPart}
 use Rattle.model.specs.Plan.{plan}
-use Rattle.model.specs.Buffer.{tile, putTile, upperFilled}
-use Rattle.upper_fills.specs.Zeroed.{upperZeroed}
+use Rattle.model.specs.Buffer.{tile, putTile}
+use Rattle.model.specs.Tile.{upperFilled}
 use Rattle.checks.proofs.Laws.{tile-fits}
 use Rattle.filling.proofs.fill_upper_part.Statement.{statement}
 use Rattle.filling.proofs.fill_upper_part.Tie as tie
@@ -23,12 +23,12 @@ same-length : tie.Need-same-length
 same-length c = search needs
 
 returns : tie.Need-returns
-unfolding putTile tile upperFilled upperZeroed plan
+unfolding putTile tile
 returns c =
     let d = c .before .before .before .before .before .before in
     let n = d .args .z .side * d .args .z .side in
     c .before .before .fill-upper .ensures
-    ∙ ap (λ (s : ℕ). withPart s n (upperZeroed (d .args .z .side) (part s n (d .args .matrix .now))) (d .args .matrix .now)) (c .before .before .before .before .tile-start .ensures)
+    ∙ ap (λ (s : ℕ). withPart s n (upperFilled (d .args .z .side) (part s n (d .args .matrix .now))) (d .args .matrix .now)) (c .before .before .before .before .tile-start .ensures)
 
 pub fill-upper-part-spec : {M : Type 1} → statement M
 fill-upper-part-spec =

@@ -8,8 +8,8 @@ use Rattle.host_answers.proofs.tell_outcome.Tie as tie
 enum-known-answer : tie.Need-enum-known-answer
 enum-known-answer c = search needs
 
-tell-ended-requires : tie.Need-tell-ended-requires
-tell-ended-requires c κs = search needs
+tell-known-requires : tie.Need-tell-known-requires
+tell-known-requires c κs = search needs
 
 enum-known-answer-2 : tie.Need-enum-known-answer-2
 enum-known-answer-2 c = search needs
@@ -18,7 +18,7 @@ enum-known-answer-3 : tie.Need-enum-known-answer-3
 enum-known-answer-3 c = search needs
 
 returns : tie.Need-returns
-returns c = c .tell-ended .ensures ∙ sym (ap outcomeTold (c .before .before .answer .given .1))
+returns c = c .tell-known .ensures ∙ sym (ap outcomeTold (c .before .before .answer .given .1))
 
 returns-2 : tie.Need-returns-2
 returns-2 c = sym (ap outcomeTold (c .before .answer2 .given .1))
@@ -31,7 +31,7 @@ tell-outcome-spec =
     tie.close
     (tie.spec
     enum-known-answer
-    tell-ended-requires
+    tell-known-requires
     enum-known-answer-2
     enum-known-answer-3
     returns

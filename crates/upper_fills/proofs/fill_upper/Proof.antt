@@ -13,11 +13,10 @@ use lib.Ieee.{Float, nan}
 use borrow.Author.Tests.{le-leb, lt-leb}
 use Rattle.model.specs.Lists.{part, withPart}
 use Rattle.model.specs.Num.{plusZero}
-use Rattle.model.specs.Tile.{at, block, zeros}
+use Rattle.model.specs.Tile.{at, block, zeros, upperFilled}
 use Rattle.laws.proofs.Tests.{lt-or-le}
 use Rattle.laws.proofs.Blocks.{getD-table, length-block, row-of, column-of, in-block, row-below, column-below, row-end}
 use Rattle.laws.proofs.Parts.{Fits, length-put, get-in, get-before, get-after, get-part}
-use Rattle.upper_fills.specs.Zeroed.{upperZeroed}
 use Rattle.fills.proofs.Stores.{Stored, stored-none, stored-join, stored-is}
 use Rattle.upper_fills.proofs.fill_upper.Statement.{statement}
 use Rattle.upper_fills.proofs.fill_upper.Tie as tie
@@ -79,12 +78,12 @@ module _ (t start r : ℕ) (first second third : List Float) (h : r < t) (room :
       subst (λ (k : ℕ). Stored nan start k (upper t start first) first third) (sym (ap (λ (z : ℕ). z * t) (add-one r) ∙ suc-mul r t))
       (stored-join nan start (r * t) t (upper t start first) (cell t start second r) first second third s row-stored cell-same)
 
-length-upper : (t : ℕ) (a : List Float) → length (upperZeroed t a) ≡ t * t
-unfolding upperZeroed
+length-upper : (t : ℕ) (a : List Float) → length (upperFilled t a) ≡ t * t
+unfolding upperFilled
 length-upper t a = simp length-block
 
-upper-at : (t start : ℕ) (m : List Float) (j : ℕ) → j < t * t → getD (upperZeroed t (part start (t * t) m)) j nan ≡ upper t start m j
-unfolding upperZeroed upper block at
+upper-at : (t start : ℕ) (m : List Float) (j : ℕ) → j < t * t → getD (upperFilled t (part start (t * t) m)) j nan ≡ upper t start m j
+unfolding upperFilled upper block at
 upper-at t start m j h =
     getD-table (t * t) _ j nan h
     ∙ ap (λ (x : Float). cond (leb (j / t) (j % t)) plusZero x)
@@ -92,9 +91,9 @@ upper-at t start m j h =
     ∙ ap (λ (z : ℕ). getD m z nan) (sym (add-assoc start (j / t * t) (j % t))))
 
 upper-all : (t start r : ℕ) (before after : List Float) → r ≡ t → Stored nan start (r * t) (upper t start before) before after → start + t * t ≤ length before
-    → after ≡ withPart start (t * t) (upperZeroed t (part start (t * t) before)) before
+    → after ≡ withPart start (t * t) (upperFilled t (part start (t * t) before)) before
 upper-all t start r before after e s room =
-    stored-is nan start (t * t) (upper t start before) before after (upperZeroed t (part start (t * t) before)) (rw e at s)
+    stored-is nan start (t * t) (upper t start before) before after (upperFilled t (part start (t * t) before)) (rw e at s)
     (record { whole = length-upper t (part start (t * t) before); room = room })
     (upper-at t start before)
 

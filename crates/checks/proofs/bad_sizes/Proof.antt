@@ -2,8 +2,8 @@
 use borrow.Author.Tests.{not-true, not-false}
 use borrow.Author.Needs.{needs}
 use Rattle.checks.proofs.Laws.{sizes-1, sizes-2, sizes-3}
-use Rattle.checks.proofs.sizes.bad_sizes.Statement.{statement}
-use Rattle.checks.proofs.sizes.bad_sizes.Tie as tie
+use Rattle.checks.proofs.bad_sizes.Statement.{statement}
+use Rattle.checks.proofs.bad_sizes.Tie as tie
 
 inside-requires : tie.Need-inside-requires
 inside-requires c κs = search needs

@@ -1,4 +1,4 @@
--- `fills::fill::fill_numbers` meets its contract: after i turns the first i places are filled. Assumes nothing.
+-- `fills::fill_numbers` meets its contract: after i turns the first i places are filled. Assumes nothing.
 use mathlib.Core.Path.{refl}
 use Prim.Native.Nat.{_≤_, _-_}
 use native.Mathlib.Omega.{arith}
@@ -6,8 +6,8 @@ use lib.Ieee.{nan, ofBits}
 use Rattle.model.specs.Num.{plusZero}
 use Rattle.model.specs.Tile.{zeros}
 use Rattle.fills.proofs.Stores.{Stored, stored-none, stored-more, stored-fill}
-use Rattle.fills.proofs.fill.fill_numbers.Statement.{statement}
-use Rattle.fills.proofs.fill.fill_numbers.Tie as tie
+use Rattle.fills.proofs.fill_numbers.Statement.{statement}
+use Rattle.fills.proofs.fill_numbers.Tie as tie
 
 abbrev Inv-loop : tie.InvT-loop
 Inv-loop m₀ start n i₀ m i = (i ≤ n) × Stored nan start i (λ _. plusZero) m₀ m

@@ -1,9 +1,9 @@
--- `place::list_start` meets its contract: the products are small. Assumes nothing.
+-- `places::list_start` meets its contract: the products are small. Assumes nothing.
 use borrow.Author.Needs.{needs}
 use native.Mathlib.Omega.{arith}
 use Rattle.column_laws.proofs.Places.{place-below, list-start-most}
-use Rattle.places.proofs.place.list_start.Statement.{statement}
-use Rattle.places.proofs.place.list_start.Tie as tie
+use Rattle.places.proofs.list_start.Statement.{statement}
+use Rattle.places.proofs.list_start.Tie as tie
 
 mul-result : tie.Need-mul-result
 mul-result c = omega (arith, place-below _ _ _ (c .pre .0) (c .pre .2) (c .pre .3))

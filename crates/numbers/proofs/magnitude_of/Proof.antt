@@ -1,11 +1,11 @@
--- `numbers::number::magnitude_of` meets its contract: the tests are those of `magnitude-tested`. Assumes nothing.
+-- `numbers::magnitude_of` meets its contract: the tests are those of `magnitude-tested`. Assumes nothing.
 use mathlib.Core.Path.{sym, ap, ap₂, _∙_}
 use mathlib.Core.Bool.{Bool, cond}
 use lib.Ieee.{neg, ofBits}
 use Rattle.model.specs.Num.{plusZero, isZero}
 use Rattle.float_laws.proofs.Tested.{magnitude-tested}
-use Rattle.numbers.proofs.number.magnitude_of.Statement.{statement}
-use Rattle.numbers.proofs.number.magnitude_of.Tie as tie
+use Rattle.numbers.proofs.magnitude_of.Statement.{statement}
+use Rattle.numbers.proofs.magnitude_of.Tie as tie
 
 returns : tie.Need-returns
 unfolding ofBits

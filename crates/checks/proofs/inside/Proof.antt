@@ -1,7 +1,7 @@
 -- Both bounds are tested. Assumes nothing.
 use Rattle.checks.proofs.Laws.{outside-low, inside-high}
-use Rattle.checks.proofs.sizes.inside.Statement.{statement}
-use Rattle.checks.proofs.sizes.inside.Tie as tie
+use Rattle.checks.proofs.inside.Statement.{statement}
+use Rattle.checks.proofs.inside.Tie as tie
 
 returns : tie.Need-returns
 returns c = outside-low _ _ (c .if1 .taken)

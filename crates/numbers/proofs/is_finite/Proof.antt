@@ -1,10 +1,10 @@
--- `numbers::number::is_finite` meets its contract: between the two infinities stand the finite numbers alone. Assumes nothing.
+-- `numbers::is_finite` meets its contract: between the two infinities stand the finite numbers alone. Assumes nothing.
 use mathlib.Core.Path.{sym, ap, _∙_}
 use mathlib.Core.Bool.{Bool, true, false, cond}
 use lib.Ieee.{inf, lt, ofBits, div, neg}
 use Rattle.float_laws.proofs.Tested.{finite-tested}
-use Rattle.numbers.proofs.number.is_finite.Statement.{statement}
-use Rattle.numbers.proofs.number.is_finite.Tie as tie
+use Rattle.numbers.proofs.is_finite.Statement.{statement}
+use Rattle.numbers.proofs.is_finite.Tie as tie
 
 returns : tie.Need-returns
 unfolding ofBits div neg

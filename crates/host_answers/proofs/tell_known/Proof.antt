@@ -1,9 +1,9 @@
 -- Each variant tells. Assumes nothing.
 use mathlib.Core.Path.{sym, ap}
 use borrow.Author.Needs.{needs}
-use Rattle.host_answers.specs.Answers.{endedTold}
-use Rattle.host_answers.proofs.tell_ended.Statement.{statement}
-use Rattle.host_answers.proofs.tell_ended.Tie as tie
+use Rattle.host_answers.specs.Answers.{knownTold}
+use Rattle.host_answers.proofs.tell_known.Statement.{statement}
+use Rattle.host_answers.proofs.tell_known.Tie as tie
 
 enum-told : tie.Need-enum-told
 enum-told c = search needs
@@ -21,16 +21,16 @@ cast-t6 : tie.Need-cast-t6
 cast-t6 c = search needs
 
 returns : tie.Need-returns
-returns c = sym (ap endedTold (c .enum-told .given .1))
+returns c = sym (ap knownTold (c .enum-told .given .1))
 
 returns-2 : tie.Need-returns-2
-returns-2 c = sym (ap endedTold (c .before .outcome .given .1))
+returns-2 c = sym (ap knownTold (c .before .outcome .given .1))
 
 returns-3 : tie.Need-returns-3
-returns-3 c = sym (ap endedTold (c .before .outcome2 .given .1))
+returns-3 c = sym (ap knownTold (c .before .outcome2 .given .1))
 
-pub tell-ended-spec : {M : Type 1} → statement M
-tell-ended-spec =
+pub tell-known-spec : {M : Type 1} → statement M
+tell-known-spec =
     tie.close
     (tie.spec
     enum-told

@@ -2,8 +2,8 @@
 use native.Mathlib.Omega.{arith}
 use borrow.Author.Needs.{needs}
 use Rattle.checks.proofs.Laws.{small, lengths-1, lengths-2, lengths-3}
-use Rattle.checks.proofs.sizes.bad_lengths.Statement.{statement}
-use Rattle.checks.proofs.sizes.bad_lengths.Tie as tie
+use Rattle.checks.proofs.bad_lengths.Statement.{statement}
+use Rattle.checks.proofs.bad_lengths.Tie as tie
 
 mul-if1 : tie.Need-mul-if1
 mul-if1 c = omega (arith, small _ _ (c .before .before .pre .few-tiles) (c .before .before .pre .small-side))

@@ -1,8 +1,8 @@
--- `numbers::number::update` meets its contract: each arm returns what `cond` picks where the test is as the arm found it. Assumes nothing.
+-- `numbers::update` meets its contract: each arm returns what `cond` picks where the test is as the arm found it. Assumes nothing.
 use lib.Ieee.{ofBits}
 use Rattle.model.specs.Num.{isZero, update}
-use Rattle.numbers.proofs.number.update.Statement.{statement}
-use Rattle.numbers.proofs.number.update.Tie as tie
+use Rattle.numbers.proofs.update.Statement.{statement}
+use Rattle.numbers.proofs.update.Tie as tie
 
 returns : tie.Need-returns
 unfolding ofBits update isZero

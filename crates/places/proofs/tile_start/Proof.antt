@@ -1,10 +1,10 @@
--- `place::tile_start` meets its contract: the products are small. Assumes nothing.
+-- `places::tile_start` meets its contract: the products are small. Assumes nothing.
 use borrow.Author.Needs.{needs}
 use native.Mathlib.Omega.{arith}
 use Rattle.column_laws.proofs.Places.{place-below, tile-start-most}
 use Rattle.laws.proofs.Blocks.{square-most}
-use Rattle.places.proofs.place.tile_start.Statement.{statement}
-use Rattle.places.proofs.place.tile_start.Tie as tie
+use Rattle.places.proofs.tile_start.Statement.{statement}
+use Rattle.places.proofs.tile_start.Tie as tie
 
 mul-result : tie.Need-mul-result
 mul-result c = omega (arith, place-below _ _ _ (c .pre .0) (c .pre .2) (c .pre .3))

@@ -1,10 +1,10 @@
--- `fills::fill::fill_entries` meets its contract: after i turns the first i places are filled. Assumes nothing.
+-- `fills::fill_entries` meets its contract: after i turns the first i places are filled. Assumes nothing.
 use mathlib.Core.Path.{refl}
 use Prim.Native.Nat.{_≤_, _-_}
 use native.Mathlib.Omega.{arith}
 use Rattle.fills.proofs.Stores.{Stored, stored-none, stored-more, stored-fill}
-use Rattle.fills.proofs.fill.fill_entries.Statement.{statement}
-use Rattle.fills.proofs.fill.fill_entries.Tie as tie
+use Rattle.fills.proofs.fill_entries.Statement.{statement}
+use Rattle.fills.proofs.fill_entries.Tie as tie
 
 abbrev Inv-loop : tie.InvT-loop
 Inv-loop lists₀ start n i₀ lists i = (i ≤ n) × Stored 0 start i (λ _. 0) lists₀ lists
