@@ -1,4 +1,4 @@
-// How many tasks there are.
+// The count of a system's tasks.
 ghost use mathlib.Core.Path.{_≡_};
 ghost use Prim.Native.Nat.{_+_, _≤_};
 ghost use lib.ListN.{length};
