@@ -11,7 +11,7 @@ import unittest
 from loading import text_of
 
 REFERENCE = os.environ.get("REFERENCE")
-PROGRAMS = ("call_script", "kernel_cases", "damaged_files")
+PROGRAMS = ("call_script", "damaged_files")
 
 
 @unittest.skipUnless(REFERENCE, "REFERENCE names no program")

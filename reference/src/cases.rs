@@ -1,10 +1,53 @@
-//! Makes the cases for single columns: crafted ones first, then random ones of every family.
+//! Makes the cases for single columns: crafted ones first, then random ones of every family. A case is two lines of a script: the state
+//! lent, and the column call.
+
+use std::collections::HashSet;
 
 use crate::families::{numbers, FAMILIES};
-use crate::kernels::Case;
+use crate::lent::{Lent, Worker, DONE, IDLE, SLOTS, TAKEN, WAITING};
 use crate::numbers::{LARGEST as M, SMALLEST as S};
+use crate::oddities::record_of;
 use crate::rng::Rng;
+use crate::script::{call_line, lend_line, COLUMN};
+use crate::tasks::table;
 use crate::tile::Shape;
+
+/// Two tiles a side; the task is T-1(0), T-2(0,1), T-3(0,1) or T-4(0,1,1), by its kind, and stands at a column.
+#[derive(Clone)]
+pub struct Case {
+    pub kind: u8,
+    pub side: usize,
+    pub column: usize,
+    pub matrix: Vec<f64>,
+    pub lists: Vec<u8>,
+}
+
+impl Case {
+    /// The number of the case's task.
+    pub fn task(&self) -> usize {
+        self.kind as usize - 1
+    }
+
+    /// Worker 0 holds the task and stands at the column; earlier tasks are done and later ones wait, so that nothing is spoiled.
+    fn lent(&self) -> Lent {
+        let shape = Shape { tiles: 2, side: self.side };
+        let mut workers = [IDLE; SLOTS];
+        workers[0] = Worker { busy: true, task: self.task() as u16, column: self.column as u8 };
+        let mark = |number| match number {
+            number if number < self.task() => DONE,
+            number if number == self.task() => TAKEN,
+            _ => WAITING,
+        };
+        let records =
+            (0..table(2).tasks.len()).map(|number| record_of(shape, number, mark(number))).collect();
+        Lent { matrix: self.matrix.clone(), lists: self.lists.clone(), records, workers }
+    }
+
+    pub fn script(&self) -> String {
+        let call = call_line(COLUMN, &[2, self.side as u64, 1, 0]);
+        format!("{}\n{}\n", lend_line(&self.lent()), call)
+    }
+}
 
 /// Four tiles in tile order with lists of zeros.
 fn crafted(kind: u8, side: usize, column: usize, tiles: [&[f64]; 4]) -> Case {
@@ -118,6 +161,21 @@ fn overflow_case(rng: &mut Rng, kind: u8) -> Case {
     set_column(rng, side, 0, &mut case.matrix, &[1.0, -1.0]);
     case.column = 0;
     case
+}
+
+/// The cases of one seed, and of the seeds after it those with t up to 3, each once.
+pub fn cases_script(first: u64, seeds: u64) -> String {
+    let mut met = HashSet::new();
+    let mut out = String::new();
+    for seed in first..first + seeds {
+        for case in all_cases(seed) {
+            let script = case.script();
+            if (seed == first || case.side <= 3) && met.insert(script.clone()) {
+                out.push_str(&script);
+            }
+        }
+    }
+    out
 }
 
 pub fn all_cases(seed: u64) -> Vec<Case> {

@@ -52,6 +52,12 @@ impl<'a> Fields<'a> {
         numbers
     }
 
+    /// A count of 8 digits, and that many numbers.
+    pub fn counted_numbers(&mut self) -> Vec<f64> {
+        let count = self.take(8) as usize;
+        self.numbers(count)
+    }
+
     pub fn bytes(&mut self, count: usize) -> Vec<u8> {
         let mut bytes = Vec::new();
         for _ in 0..count {

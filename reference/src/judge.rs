@@ -70,34 +70,38 @@ pub fn judge_line(line: &str) -> String {
     out
 }
 
-fn put_verdict(out: &mut String, refusal: Refusal) {
+/// Buffers of zeros with the lengths that line 1 calls for, and empty ones where it is refused.
+fn buffers(text: &[u8]) -> (Vec<f64>, Vec<u8>) {
+    match read_header(text, NO_LIMIT) {
+        Ok(shape) => (vec![0.0; shape.matrix_length()], vec![0; shape.lists_length()]),
+        Err(_) => (Vec::new(), Vec::new()),
+    }
+}
+
+/// A refusal's number and place, or the outcome read; then the digest of what the buffers hold.
+fn put_verdict(out: &mut String, answer: Result<Outcome, Refusal>, digest: Digest) {
+    let refusal = answer.err().unwrap_or(Refusal { number: 0, place: 0 });
+    let outcome = answer.unwrap_or(Outcome::Good);
     put(out, refusal.number as u64, 2);
     put(out, refusal.place, 16);
+    put(out, outcome.kind() as u64, 2);
+    put(out, outcome.place() as u64, 4);
+    put(out, digest.value, 16);
 }
 
 fn judge_system(out: &mut String, text: &[u8]) {
-    match system_of(text) {
-        Ok((_, matrix)) => {
-            put_verdict(out, Refusal { number: 0, place: 0 });
-            let mut digest = Digest::new();
-            digest.matrix(&matrix);
-            put(out, digest.value, 16);
-        }
-        Err(refusal) => put_verdict(out, refusal),
-    }
+    let (mut matrix, _) = buffers(text);
+    let answer = read_system(text, &mut matrix);
+    let mut digest = Digest::new();
+    digest.matrix(&matrix);
+    put_verdict(out, answer.map(|_| Outcome::Good), digest);
 }
 
 fn judge_result(out: &mut String, text: &[u8]) {
-    match result_of(text) {
-        Ok((_, matrix, lists, outcome)) => {
-            put_verdict(out, Refusal { number: 0, place: 0 });
-            let mut digest = Digest::new();
-            digest.matrix(&matrix);
-            digest.lists(&lists);
-            put(out, digest.value, 16);
-            put(out, outcome.kind() as u64, 2);
-            put(out, outcome.place() as u64, 4);
-        }
-        Err(refusal) => put_verdict(out, refusal),
-    }
+    let (mut matrix, mut lists) = buffers(text);
+    let answer = read_result(text, &mut matrix, &mut lists);
+    let mut digest = Digest::new();
+    digest.matrix(&matrix);
+    digest.lists(&lists);
+    put_verdict(out, answer.map(|(_, outcome)| outcome), digest);
 }

@@ -78,8 +78,7 @@ impl Lent {
     }
 
     pub fn get(fields: &mut Fields) -> Lent {
-        let count = fields.take(8) as usize;
-        let matrix = fields.numbers(count);
+        let matrix = fields.counted_numbers();
         let count = fields.take(8) as usize;
         let lists = fields.bytes(count);
         let count = fields.take(8) as usize;

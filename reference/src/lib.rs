@@ -10,7 +10,6 @@ pub mod families;
 pub mod frames;
 pub mod hex;
 pub mod judge;
-pub mod kernels;
 pub mod lent;
 pub mod loops;
 pub mod numbers;

@@ -2,9 +2,8 @@
 
 use std::io::{Read, Write};
 
-use reference::cases::all_cases;
+use reference::cases::cases_script;
 use reference::judge::{judge_line, result_again, system_again};
-use reference::kernels::kernel_line;
 use reference::script::Player;
 use reference::texts::all_texts;
 use reference::vectors::script;
@@ -18,10 +17,9 @@ fn main() {
         Some("program") => program_text(&input()),
         Some("read-system") => system_again(&input()),
         Some("read-result") => result_again(&input()),
-        Some("kernels") => each_line(kernel_line),
         Some("judge") => each_line(judge_line),
         Some("play") => play(arguments.contains(&"--state".to_string())),
-        Some("cases") => lines(all_cases(seed(&arguments)).iter().map(|case| case.line())),
+        Some("cases") => cases_script(seed(&arguments), option(&arguments, "--seeds", 1) as u64),
         Some("files") => lines(all_texts(seed(&arguments)).into_iter()),
         Some("vectors") => script(Options {
             seed: seed(&arguments),

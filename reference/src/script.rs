@@ -1,10 +1,9 @@
 //! Plays a script of calls, one a line of digits, and answers each with one line of digits.
 
-use crate::calls::{all_finished, column, opening, run, take, Run};
-use crate::checks::{accept_shape, lengths_fit};
+use crate::calls::{column, opening, run, take, Run};
 use crate::hex::{put, put_numbers, Fields};
 use crate::lent::{Lent, Refusal, Sizes};
-use crate::solve::{marks, outcome, solve};
+use crate::solve::{ending, solve, Ending};
 
 pub const LEND: u64 = 0x10;
 pub const OPENING: u64 = 0x11;
@@ -26,14 +25,50 @@ fn sizes(fields: &mut Fields) -> Sizes {
     Sizes { tiles, side, workers }
 }
 
-fn put_answer(out: &mut String, answer: Result<(), Refusal>) {
-    match answer {
-        Ok(()) => put(out, 0, 18),
-        Err(refusal) => {
-            put(out, refusal.number as u64, 2);
-            put(out, refusal.place, 16);
-        }
+/// What an answer says: a refusal's number and place; how a run or a system ended, the task or row it ended at, and a run's count.
+#[derive(Clone, Copy, Default)]
+struct Said {
+    number: u8,
+    place: u64,
+    kind: u8,
+    count: u64,
+}
+
+impl Said {
+    fn of(answer: Result<Said, Refusal>) -> Said {
+        answer.unwrap_or_else(|refusal| Said {
+            number: refusal.number,
+            place: refusal.place,
+            ..Said::default()
+        })
     }
+
+    fn put(self, out: &mut String) {
+        put(out, self.number as u64, 2);
+        put(out, self.place, 16);
+        put(out, self.kind as u64, 2);
+        put(out, self.count, 16);
+    }
+}
+
+fn said(answer: Result<(), Refusal>) -> Said {
+    Said::of(answer.map(|_| Said::default()))
+}
+
+fn run_said(answer: Result<Run, Refusal>) -> Said {
+    Said::of(answer.map(|end| match end {
+        Run::Finished(count) => Said { kind: 1, count, ..Said::default() },
+        Run::Spent(count) => Said { kind: 2, count, ..Said::default() },
+    }))
+}
+
+fn ending_said(answer: Result<Ending, Refusal>) -> Said {
+    Said::of(answer.map(|end| match end {
+        Ending::Unfinished(task) => Said { kind: 3, place: task as u64, ..Said::default() },
+        Ending::Ended(outcome) => {
+            Said { kind: outcome.kind(), place: outcome.place() as u64, ..Said::default() }
+        }
+    }))
 }
 
 impl Player {
@@ -44,76 +79,42 @@ impl Player {
     /// Makes the call of one line; the answer ends with the digest of everything lent.
     pub fn play(&mut self, line: &str) -> String {
         let mut fields = Fields::new(line);
-        let mut out = String::new();
-        match fields.take(2) {
-            LEND => {
-                self.lent = Lent::get(&mut fields);
-                put_answer(&mut out, Ok(()));
-            }
-            OPENING => put_answer(&mut out, opening(sizes(&mut fields), &mut self.lent)),
-            TAKE => {
-                let told = sizes(&mut fields);
-                let worker = fields.take(16);
-                let task = fields.take(16);
-                put_answer(&mut out, take(told, &mut self.lent, worker, task));
-            }
-            COLUMN => {
-                let told = sizes(&mut fields);
-                let worker = fields.take(16);
-                put_answer(&mut out, column(told, &mut self.lent, worker));
-            }
-            RUN => self.play_run(&mut fields, &mut out),
-            SOLVE => self.play_solve(&mut fields, &mut out),
-            OUTCOME => self.play_outcome(&mut fields, &mut out),
-            _ => panic!("a line of the script has no known command"),
-        }
+        let command = fields.take(2);
+        let mut answers = Vec::new();
+        let answer = if command == LEND {
+            self.lent = Lent::get(&mut fields);
+            Said::default()
+        } else {
+            let told = sizes(&mut fields);
+            self.call(command, told, &mut fields, &mut answers)
+        };
         fields.end();
+        let mut out = String::new();
+        answer.put(&mut out);
+        put_numbers(&mut out, &answers);
         put(&mut out, self.lent.digest(), 16);
         out
     }
 
-    fn play_run(&mut self, fields: &mut Fields, out: &mut String) {
-        let told = sizes(fields);
-        let budget = fields.take(16);
-        let answer = run(told, &mut self.lent, budget);
-        put_answer(out, answer.map(|_| ()));
-        let (ended, count) = match answer {
-            Err(_) => (0, 0),
-            Ok(Run::Finished(count)) => (1, count),
-            Ok(Run::Spent(count)) => (2, count),
-        };
-        put(out, ended, 2);
-        put(out, count, 16);
-    }
-
-    fn play_solve(&mut self, fields: &mut Fields, out: &mut String) {
-        let told = sizes(fields);
-        let count = fields.take(8) as usize;
-        let right = fields.numbers(count);
-        let count = fields.take(8) as usize;
-        let mut answers = fields.numbers(count);
-        put_answer(out, solve(told, &self.lent, &right, &mut answers));
-        put_numbers(out, &answers);
-    }
-
-    /// Kind 0 good, 1 overflow, 2 singular, 3 not all finished, 4 sizes or lengths do not fit.
-    fn play_outcome(&mut self, fields: &mut Fields, out: &mut String) {
-        let tiles = fields.take(16);
-        let side = fields.take(16);
-        let (mut kind, mut place) = (4, 0);
-        if let Ok(shape) = accept_shape(tiles, side) {
-            if lengths_fit(shape, &self.lent) {
-                kind = 3;
-                if all_finished(&self.lent.records) {
-                    let told = outcome(shape, &self.lent.matrix, &marks(&self.lent));
-                    kind = told.kind() as u64;
-                    place = told.place() as u64;
-                }
+    /// The call of a command; a solve leaves its answers.
+    fn call(&mut self, command: u64, told: Sizes, fields: &mut Fields, answers: &mut Vec<f64>) -> Said {
+        let lent = &mut self.lent;
+        match command {
+            OPENING => said(opening(told, lent)),
+            TAKE => {
+                let worker = fields.take(16);
+                said(take(told, lent, worker, fields.take(16)))
             }
+            COLUMN => said(column(told, lent, fields.take(16))),
+            RUN => run_said(run(told, lent, fields.take(16))),
+            SOLVE => {
+                let right = fields.counted_numbers();
+                *answers = fields.counted_numbers();
+                said(solve(told, lent, &right, answers))
+            }
+            OUTCOME => ending_said(ending(told, lent)),
+            _ => panic!("a line of the script has no known command"),
         }
-        put_answer(out, Ok(()));
-        put(out, kind, 2);
-        put(out, place, 16);
     }
 
     /// The lend line of the present state.

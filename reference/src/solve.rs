@@ -57,6 +57,28 @@ pub fn marks(lent: &Lent) -> Vec<u8> {
     marks
 }
 
+/// The lowest task that is neither done nor failed nor spoiled.
+fn lowest_unfinished(lent: &Lent) -> Option<usize> {
+    lent.records.iter().position(|record| !is_finished(record.mark))
+}
+
+/// What the outcome call tells: the outcome, or the lowest unfinished task.
+#[derive(Clone, Copy, Debug, PartialEq, Eq)]
+pub enum Ending {
+    Unfinished(usize),
+    Ended(Outcome),
+}
+
+/// The outcome call.
+pub fn ending(sizes: Sizes, lent: &Lent) -> Result<Ending, Refusal> {
+    let (shape, _) = accept_sizes(sizes)?;
+    accept_lengths(shape, lent)?;
+    Ok(match lowest_unfinished(lent) {
+        Some(number) => Ending::Unfinished(number),
+        None => Ending::Ended(outcome(shape, &lent.matrix, &marks(lent))),
+    })
+}
+
 /// Solves for one right side; the answers are written only when nothing is refused.
 pub fn solve(sizes: Sizes, lent: &Lent, right: &[f64], answers: &mut [f64]) -> Result<(), Refusal> {
     let (shape, workers) = accept_sizes(sizes)?;
@@ -66,10 +88,8 @@ pub fn solve(sizes: Sizes, lent: &Lent, right: &[f64], answers: &mut [f64]) -> R
     }
     accept_state(shape, workers, lent)?;
     accept_elements(lent)?;
-    for number in 0..lent.records.len() {
-        if !is_finished(lent.records[number].mark) {
-            return refuse(8, number as u64);
-        }
+    if let Some(number) = lowest_unfinished(lent) {
+        return refuse(8, number as u64);
     }
     match outcome(shape, &lent.matrix, &marks(lent)) {
         Outcome::Overflow(task) => return refuse(9, task as u64),

@@ -108,9 +108,8 @@ impl Writer {
         self.say(solve_line(self.told(), right, &answers))
     }
 
-    pub fn outcome(&mut self) {
-        let told = self.told();
-        self.say(call_line(OUTCOME, &[told.tiles, told.side]));
+    pub fn outcome(&mut self) -> bool {
+        self.say_with(OUTCOME, self.told(), &[])
     }
 
     pub fn start(&mut self, shape: Shape, workers: usize) {
@@ -188,7 +187,7 @@ impl Writer {
             }
             6 => self.random_solves(1),
             7 => self.wrong_sizes(),
-            8 => self.outcome(),
+            8 => drop(self.outcome()),
             _ => drop(self.step()),
         }
     }
@@ -269,7 +268,7 @@ impl Writer {
                 let answers = vec![7.0; self.shape.rows()];
                 self.say(solve_line(told, &right, &answers));
             }
-            _ => drop(self.say(call_line(OUTCOME, &[told.tiles, told.side]))),
+            _ => drop(self.say_with(OUTCOME, told, &[])),
         }
     }
 }

@@ -1,5 +1,5 @@
 // Plays a script of calls from standard input and prints the answers: the script in stdin and the answers in stdout come from the
-// reference program.
+// reference program. Right side and answers of a solve have at most 300 numbers.
 ghost use mathlib.Core.Path.{_≡_};
 ghost use lib.ListN.{length};
 
@@ -23,6 +23,12 @@ fn record_room() -> [[u8; 5]; 1500]
     [[0; 5]; 1500]
 }
 
+fn side_room() -> [f64; 300]
+    ensures { λ r. ⌜ 300 ≡ length r ⌝ }
+{
+    [0.0; 300]
+}
+
 fn answer_room() -> [u8; 8192]
     ensures { λ r. ⌜ 8192 ≡ length r ⌝ }
 {
@@ -35,16 +41,26 @@ fn play_script(text: &mut [u8]) {
     let mut matrix = matrix_room();
     let mut lists = list_room();
     let mut records = record_room();
+    let mut right = side_room();
+    let mut answers = side_room();
     let mut out = answer_room();
-    play::play(&text[..n], &mut matrix, &mut lists, &mut records, &mut out);
+    play::play(
+        &text[..n],
+        &mut matrix,
+        &mut lists,
+        &mut records,
+        &mut right,
+        &mut answers,
+        &mut out,
+    );
 }
 
 // The same with a room of fixed length.
-fn play_in(text: &mut [u8; 1600000]) {
+fn play_in(text: &mut [u8; 2400000]) {
     play_script(text);
 }
 
 fn main() {
-    let mut text = [0u8; 1600000];
+    let mut text = [0u8; 2400000];
     play_in(&mut text);
 }

@@ -3,8 +3,8 @@ ghost use Prim.Native.Nat.{_≤_};
 ghost use lib.ListN.{length};
 use header_read::Header;
 use header_read::check_header;
-use model::Outcome;
-use model::ReadAnswer;
+use host_answers::ReadTold;
+use host_answers::tell_read;
 use result_file::read_result;
 use script::mixed_bytes;
 use script::mixed_numbers;
@@ -48,12 +48,15 @@ pub fn decode(digits: &[u8], text: &mut [u8]) {
     }
 }
 
-// A refusal's number and place, and the line's end.
-fn put_refusal(out: &mut [u8], n: u8, x: usize) -> usize {
-    put(out, 0, 2, wide(n));
-    put(out, 2, 16, x as u64);
-    set_byte(out, 18, 0, 10);
-    19
+// Writes what a reading tells and the digest of what it left; the length of that.
+fn put_read(out: &mut [u8], told: ReadTold, digest: u64) -> usize {
+    put(out, 0, 2, wide(told.number));
+    put(out, 2, 16, told.place as u64);
+    put(out, 18, 2, wide(told.kind));
+    put(out, 20, 4, told.at as u64);
+    put(out, 24, 16, digest);
+    set_byte(out, 40, 0, 10);
+    41
 }
 
 // The line for a text that is read as a system.
@@ -61,31 +64,8 @@ pub fn judge_system(text: &[u8], numbers: &mut [f64], out: &mut [u8]) -> usize
     requires { ⌜ 65536 ≤ length (now numbers) ⌝ }
 {
     let due = lengths_due(text).numbers;
-    match read_system(text, &mut numbers[..due]) {
-        ReadAnswer::ReadRefused(n, x) => put_refusal(out, n, x),
-        _ => {
-            put(out, 0, 18, 0);
-            put(out, 18, 16, mixed_numbers(1, &numbers[..due]));
-            set_byte(out, 34, 0, 10);
-            35
-        }
-    }
-}
-
-// An outcome's number and place, as a number of six digits.
-fn outcome_number(outcome: Outcome) -> u64 {
-    match outcome {
-        Outcome::Good => 0,
-        Outcome::Overflow(p) => 65536 + p as u64 % 65536,
-        Outcome::Singular(x) => 131072 + x as u64 % 65536,
-    }
-}
-
-// An outcome at the end of a result's line.
-fn put_outcome(out: &mut [u8], outcome: Outcome) -> usize {
-    put(out, 34, 6, outcome_number(outcome));
-    set_byte(out, 40, 0, 10);
-    41
+    let told = tell_read(read_system(text, &mut numbers[..due]));
+    put_read(out, told, mixed_numbers(1, &numbers[..due]))
 }
 
 // The line for a text that is read as a result.
@@ -95,14 +75,7 @@ pub fn judge_result(text: &[u8], numbers: &mut [f64], entries: &mut [u8], out: &
     let lengths = lengths_due(text);
     let due = lengths.numbers;
     let listed = lengths.entries;
-    match read_result(text, &mut numbers[..due], &mut entries[..listed]) {
-        ReadAnswer::ReadRefused(n, x) => put_refusal(out, n, x),
-        ReadAnswer::SystemRead(_, _) => 0,
-        ReadAnswer::ResultRead(_, _, outcome) => {
-            let h = mixed_numbers(1, &numbers[..due]);
-            put(out, 0, 18, 0);
-            put(out, 18, 16, mixed_bytes(h, &entries[..listed]));
-            put_outcome(out, outcome)
-        }
-    }
+    let told = tell_read(read_result(text, &mut numbers[..due], &mut entries[..listed]));
+    let h = mixed_numbers(1, &numbers[..due]);
+    put_read(out, told, mixed_bytes(h, &entries[..listed]))
 }

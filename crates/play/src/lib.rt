@@ -1,36 +1,63 @@
 // For test programs: plays a script of calls, one a line, and answers each with a line (reference/README.md has the format). The buffers
 // lent are the fronts of the slices given; what a line lends beyond them is dropped.
+mod calls;
+mod solves;
+
+use calls::answer_line;
 use play_answers::print;
+use play_fields::at_most;
 use play_fields::line_end;
 use play_fields::two;
 use play_lends::Lent;
 use play_lends::lend;
-use play_lines::play_lent;
-use play_solves::solve_lent;
+use solves::solve_line;
 use worker::Worker;
-
-const LEND: u8 = 16;
 
 const SOLVE: u8 = 21;
 
-// Plays one line: what it lends counts at once.
+// Plays a line on all that is given; a solve has its right side and answers in the rooms.
+fn play_fronts(
+    line: &[u8],
+    matrix: &mut [f64],
+    lists: &mut [u8],
+    records: &mut [[u8; 5]],
+    workers: [Worker; 32],
+    right: &mut [f64],
+    answers: &mut [f64],
+    out: &mut [u8],
+) -> Lent {
+    if two(line, 0) == SOLVE {
+        return solve_line(line, matrix, lists, records, workers, right, answers, out);
+    }
+    answer_line(line, matrix, lists, records, workers, out)
+}
+
+// Plays a line on the fronts of the buffers that are lent; what it lends counts at once.
 fn play_line(
     line: &[u8],
     matrix: &mut [f64],
     lists: &mut [u8],
     records: &mut [[u8; 5]],
-    lent: Lent,
+    before: Lent,
+    right: &mut [f64],
+    answers: &mut [f64],
     out: &mut [u8],
 ) -> Lent {
-    let kind = two(line, 0);
-    if kind == LEND {
-        let new = lend(line, matrix, lists, records);
-        return play_lent(line, matrix, lists, records, new, out);
-    }
-    if kind == SOLVE {
-        return solve_lent(line, matrix, lists, records, lent, out);
-    }
-    play_lent(line, matrix, lists, records, lent, out)
+    let lent = lend(line, matrix, lists, records, before);
+    let a = at_most(lent.matrix as u64, matrix.len());
+    let b = at_most(lent.lists as u64, lists.len());
+    let c = at_most(lent.records as u64, records.len());
+    let workers = lent.workers;
+    play_fronts(
+        line,
+        &mut matrix[..a],
+        &mut lists[..b],
+        &mut records[..c],
+        workers,
+        right,
+        answers,
+        out,
+    )
 }
 
 // Plays every line of a text, and prints the answers.
@@ -39,6 +66,8 @@ pub fn play(
     matrix: &mut [f64],
     lists: &mut [u8],
     records: &mut [[u8; 5]],
+    right: &mut [f64],
+    answers: &mut [f64],
     out: &mut [u8],
 ) {
     let mut lent = Lent {
@@ -51,8 +80,18 @@ pub fn play(
     let mut at = 0;
     while at < text.len() {
         let e = line_end(text, at);
-        lent = play_line(&text[at..e], matrix, lists, records, lent, out);
+        let next = e + 1;
+        lent = play_line(
+            &text[at..e],
+            matrix,
+            lists,
+            records,
+            lent,
+            right,
+            answers,
+            out,
+        );
         print(out, lent.answered);
-        at = e + 1;
+        at = next;
     }
 }

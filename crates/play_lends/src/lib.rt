@@ -6,8 +6,11 @@ use play_fields::read_bytes;
 use play_fields::read_numbers;
 use play_fields::read_records;
 use play_fields::read_workers;
+use play_fields::two;
 use script::number;
 use worker::Worker;
+
+const LEND: u8 = 16;
 
 // How much of each buffer is lent, the workers, and the length of the last answer.
 pub struct Lent {
@@ -58,8 +61,17 @@ fn lend_records(line: &[u8], at: usize, records: &mut [[u8; 5]]) -> usize
     n
 }
 
-// What a line of kind 10 lends.
-pub fn lend(line: &[u8], matrix: &mut [f64], lists: &mut [u8], records: &mut [[u8; 5]]) -> Lent {
+// What is lent after a line: a lend line lends anew, and any other changes nothing.
+pub fn lend(
+    line: &[u8],
+    matrix: &mut [f64],
+    lists: &mut [u8],
+    records: &mut [[u8; 5]],
+    lent: Lent,
+) -> Lent {
+    if two(line, 0) != LEND {
+        return lent;
+    }
     let a = lend_numbers(line, 2, matrix);
     let p = 10 + a * 16;
     let b = lend_bytes(line, p, lists);

@@ -1,7 +1,6 @@
 //! The library beside the reference program: the same calls and the same texts for both, and every bit compared.
 
-use reference::calls::{all_finished, is_finished};
-use reference::checks::{accept_shape, lengths_fit};
+use reference::cases::cases_script;
 use reference::hex::Fields;
 use reference::judge::{PROGRAM, RESULT, SYSTEM};
 use reference::numbers::bits;
@@ -135,10 +134,8 @@ impl Players {
             }
             SOLVE => {
                 let (ours, theirs) = Players::sizes(&mut fields);
-                let count = fields.take(8) as usize;
-                let right = fields.numbers(count);
-                let count = fields.take(8) as usize;
-                let mut answers = fields.numbers(count);
+                let right = fields.counted_numbers();
+                let mut answers = fields.counted_numbers();
                 let mut their_answers = answers.clone();
                 let expected = reference::solve::solve(theirs, &self.theirs.lent, &right, &mut their_answers)
                     .map_err(refusal_of);
@@ -147,36 +144,28 @@ impl Players {
                 assert!(same, "answers differ after {line:.100}");
             }
             OUTCOME => {
-                let (tiles, side) = (fields.take(16), fields.take(16));
-                let sizes = Sizes { tiles: tiles as usize, side: side as usize, workers: 1 };
-                assert_eq!(self.ours.outcome(sizes), self.expected_outcome(tiles, side), "outcome {sizes:?}");
+                let (ours, theirs) = Players::sizes(&mut fields);
+                let expected = match reference::solve::ending(theirs, &self.theirs.lent) {
+                    Ok(reference::solve::Ending::Unfinished(task)) => Ok(Ending::Unfinished(task)),
+                    Ok(reference::solve::Ending::Ended(outcome)) => Ok(Ending::Ended(outcome_of(outcome))),
+                    Err(refusal) => Err(refusal_of(refusal)),
+                };
+                assert_eq!(self.ours.outcome(ours), expected, "outcome {ours:?}");
             }
             _ => panic!("a line of the script has no known command"),
         }
         self.calls += 1;
         assert!(same_state(&self.ours, &self.theirs.lent), "what is lent differs after {line:.100}");
     }
-
-    fn expected_outcome(&self, tiles: u64, side: u64) -> Result<Ending, Refusal> {
-        let lent = &self.theirs.lent;
-        let shape = accept_shape(tiles, side).map_err(refusal_of)?;
-        if !lengths_fit(shape, lent) {
-            return Err(Refusal { number: 2, place: 0 });
-        }
-        if !all_finished(&lent.records) {
-            let lowest = lent.records.iter().position(|record| !is_finished(record.mark));
-            return Ok(Ending::Unfinished(lowest.unwrap()));
-        }
-        let marks = reference::solve::marks(lent);
-        Ok(Ending::Ended(outcome_of(reference::solve::outcome(shape, &lent.matrix, &marks))))
-    }
 }
 
-/// Plays the script of a seed, and tells how many calls were compared.
+/// Plays the scripts of a seed, walks and single columns, and tells how many calls were compared.
 pub fn calls_of(seed: u64, calls: usize) -> usize {
     let mut players = Players::new();
-    for line in script(Options { seed, calls, max_bytes: 1_500_000 }).lines() {
-        players.play(line);
+    for made in [script(Options { seed, calls, max_bytes: 1_500_000 }), cases_script(seed, 1)] {
+        for line in made.lines() {
+            players.play(line);
+        }
     }
     players.calls
 }

@@ -1,11 +1,11 @@
--- `play_solves::solve_in` meets its contract. Assumes nothing.
+-- `play::solves::solve_line` meets its contract. Assumes nothing.
 use mathlib.Core.Path.{sym}
 use native.Mathlib.Omega.{arith}
 use lib.ListN.{length-take}
 use lib.Seq.{length-take-le}
 use borrow.Author.Needs.{needs}
-use Rattle.play_solves.proofs.solve_in.Statement.{statement}
-use Rattle.play_solves.proofs.solve_in.Tie as tie
+use Rattle.play.proofs.solves.solve_line.Statement.{statement}
+use Rattle.play.proofs.solves.solve_line.Tie as tie
 
 call-of-requires : tie.Need-call-of-requires
 call-of-requires c κs = search needs
@@ -52,8 +52,8 @@ same-length-3 c = search needs
 returns : tie.Need-returns
 returns c = search needs
 
-pub solve-in-spec : {M : Type 1} → statement M
-solve-in-spec =
+pub solve-line-spec : {M : Type 1} → statement M
+solve-line-spec =
     tie.close
     (tie.spec
     call-of-requires
