@@ -35,7 +35,7 @@ class Links(unittest.TestCase):
         self.assertEqual([len(links_by_definition(n)) for n in (1, 2, 3)], [0, 4, 19])
 
     def test_listed_links_are_the_definitions(self):
-        self.assertEqual(sorted(graph.read_links(text_of("crates", "task_links", "stdout"), 14)), sorted(links_by_definition(3)))
+        self.assertEqual(sorted(graph.read_links(text_of("docs", "graph.links"), 14)), sorted(links_by_definition(3)))
 
     def test_bad_links(self):
         for text in ("1\n", "1 2 3\n", "2 1\n", "3 14\n", "a b\n"):
@@ -45,7 +45,7 @@ class Links(unittest.TestCase):
 
 class Picture(unittest.TestCase):
     def test_is_drawn_from_the_listed_links(self):
-        self.assertEqual(graph.picture(3, graph.read_links(text_of("crates", "task_links", "stdout"), 14)), text_of("docs", "graph.svg"))
+        self.assertEqual(graph.picture(3, graph.read_links(text_of("docs", "graph.links"), 14)), text_of("docs", "graph.svg"))
 
     def test_shows_every_task_and_link(self):
         for tiles in (1, 2, 3, 4):
