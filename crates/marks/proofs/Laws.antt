@@ -5,10 +5,8 @@ use mathlib.Core.List.{List}
 use mathlib.Core.Path.{_≡_, sym, ap, _∙_}
 use native.Mathlib.Nat.{mul-le-mul}
 use native.Mathlib.Omega.{arith}
-use lib.Dec.{eqb}
-use borrow.Author.Tests.{eq-eqb, ne-eqb}
 use Rattle.model.specs.Task.{taskCount}
-use Rattle.model.specs.Links.{mark, finished, broken}
+use Rattle.model.specs.Links.{mark}
 use Rattle.laws.proofs.Blocks.{in-block}
 use Rattle.links.specs.Closed.{Key, In, number, markAt}
 use Rattle.links.proofs.Order.{offset-squares, six-squares, number-of}
@@ -46,24 +44,6 @@ module _ (n : ℕ) (b : Key) (t : KeyFits n b) where
 pub mark-is : (n p m : ℕ) (b : Key) (ms : List ℕ) → Numbered n p b → m ≡ mark ms p → m ≡ markAt n ms b
 unfolding markAt
 mark-is n p m b ms h e = e ∙ ap (mark ms) (number-of n p (h .below) b (h .task-is))
-
--- ---- marks
-
-pub finished-2 : (m : ℕ) → m ≡ 2 → true ≡ finished m
-unfolding finished
-finished-2 m e = rw (eq-eqb m 2 e)
-
-pub finished-not-2 : (m : ℕ) → (m ≡ 2 → ⊥) → broken m ≡ finished m
-unfolding finished broken
-finished-not-2 m d = rw (ne-eqb m 2 d)
-
-pub broken-3 : (m : ℕ) → m ≡ 3 → true ≡ broken m
-unfolding broken
-broken-3 m e = rw (eq-eqb m 3 e)
-
-pub broken-not-3 : (m : ℕ) → (m ≡ 3 → ⊥) → eqb m 4 ≡ broken m
-unfolding broken
-broken-not-3 m d = rw (ne-eqb m 3 d)
 
 -- what a test of a mark that was read says of the mark
 module _ (test : ℕ → Bool) {s : Bool} {x m : ℕ} (e : s ≡ test x) (f : x ≡ m) where

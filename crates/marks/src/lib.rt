@@ -21,20 +21,14 @@ pub fn number(n: usize, k: usize, i: usize, j: usize) -> usize
 pub fn is_finished(mark: u8) -> bool
     ensures { λ r. ⌜ r ≡ finished mark ⌝ }
 {
-    if mark == 2 {
-        return true;
-    }
-    is_broken(mark)
+    (mark == 2) | (mark == 3) | (mark == 4)
 }
 
 // Failed or spoiled.
 pub fn is_broken(mark: u8) -> bool
     ensures { λ r. ⌜ r ≡ broken mark ⌝ }
 {
-    if mark == 3 {
-        return true;
-    }
-    mark == 4
+    (mark == 3) | (mark == 4)
 }
 
 // The mark of the task (k,i,j).

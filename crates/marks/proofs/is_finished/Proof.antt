@@ -1,18 +1,12 @@
--- Done, or else broken. Assumes nothing.
-use mathlib.Core.Path.{_∙_}
-use borrow.Author.Needs.{needs}
-use Rattle.marks.proofs.Laws.{finished-2, finished-not-2}
+-- The definition makes the same tests. Assumes nothing.
+use mathlib.Core.Path.{refl}
+use Rattle.model.specs.Links.{finished}
 use Rattle.marks.proofs.is_finished.Statement.{statement}
 use Rattle.marks.proofs.is_finished.Tie as tie
 
 returns : tie.Need-returns
-returns c = finished-2 _ (c .if1 .taken)
-
-is-broken-requires : tie.Need-is-broken-requires
-is-broken-requires c κs = search needs
-
-returns-2 : tie.Need-returns-2
-returns-2 c = c .is-broken .ensures ∙ finished-not-2 _ (c .before .if1 .left)
+unfolding finished
+returns c = refl
 
 pub is-finished-spec : {M : Type 1} → statement M
-is-finished-spec = tie.close (tie.spec returns is-broken-requires returns-2)
+is-finished-spec = tie.close (tie.spec returns)
