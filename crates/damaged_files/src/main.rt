@@ -1,16 +1,11 @@
-// Judges texts from standard input, damaged ones among them, as systems, as results and as the program's input. The lines and their answers
-// are as the reference has them: what a text is read as (2 digits), its count of bytes (8 digits), then its bytes (2 digits each).
+// Judges texts from standard input, damaged ones among them, as systems and as results. The lines and their answers are as the reference has
+// them: what a text is read as (2 digits), its count of bytes (8 digits), then its bytes (2 digits each).
 ghost use mathlib.Core.Path.{_≡_};
 ghost use lib.ListN.{length};
 use judge::decode;
 use judge::judge_result;
 use judge::judge_system;
-use model::WriteAnswer;
-use printing::print_result;
 use script::number;
-use script::put;
-use script::set_byte;
-use script::wide;
 
 fn blank_numbers() -> [f64; 65536]
     ensures { λ r. ⌜ 65536 ≡ length r ⌝ }
@@ -30,39 +25,8 @@ fn blank_digits() -> [u8; 131072]
     [0; 131072]
 }
 
-// The digits of bytes.
-fn encode(bytes: &[u8], out: &mut [u8]) {
-    let mut k = 0;
-    while k < bytes.len() {
-        put(out, k % 1048576 * 2, 2, wide(bytes[k]));
-        k += 1;
-    }
-}
-
-// The line for a text that is the program's input: the digits of what is printed.
-fn judge_program(text: &[u8], printed: &mut [u8], out: &mut [u8]) -> usize {
-    match print_result(text, printed) {
-        WriteAnswer::WriteRefused(_, _) => 0,
-        WriteAnswer::Written(k) => {
-            if printed.len() < k {
-                return 0;
-            }
-            if 1048576 <= k {
-                return 0;
-            }
-            encode(&printed[..k], out);
-            set_byte(out, k * 2, 0, 10);
-            k * 2 + 1
-        }
-    }
-}
-
 // The answer's line for one text, and its length.
 fn answer(what: u64, text: &[u8], out: &mut [u8]) -> usize {
-    if what == 2 {
-        let mut printed = io::large_buffer();
-        return judge_program(text, &mut printed, out);
-    }
     let mut numbers = blank_numbers();
     if what == 0 {
         return judge_system(text, &mut numbers, out);
