@@ -1,4 +1,5 @@
-// The calls that the lines of a script ask for, but for solves, and their answers.
+// The calls that the lines of a script ask for, and their answers.
+use crate::solves::solve_line;
 use host_answers::Told;
 use host_answers::tell;
 use host_answers::tell_outcome;
@@ -10,6 +11,7 @@ use play_answers::put_digest;
 use play_answers::put_told;
 use play_fields::Call;
 use play_fields::call_of;
+use play_fields::two;
 use play_lends::Lent;
 use worker::Worker;
 
@@ -20,6 +22,8 @@ const TAKE: u8 = 18;
 const COLUMN: u8 = 19;
 
 const RUN: u8 = 20;
+
+const SOLVE: u8 = 21;
 
 const OUTCOME: u8 = 22;
 
@@ -84,15 +88,20 @@ fn play_call(
     }
 }
 
-// Plays the call of a line, with its answer at the front of out.
+// Plays the call of a line, with its answer at the front of out. A solve has its right side and answers in the rooms.
 pub fn answer_line(
     line: &[u8],
     matrix: &mut [f64],
     lists: &mut [u8],
     records: &mut [[u8; 5]],
     workers: [Worker; 32],
+    right: &mut [f64],
+    answers: &mut [f64],
     out: &mut [u8],
 ) -> Lent {
+    if two(line, 0) == SOLVE {
+        return solve_line(line, matrix, lists, records, workers, right, answers, out);
+    }
     let r = play_call(call_of(line), matrix, lists, records, workers);
     let left = r.workers;
     let told = r.told;

@@ -7,30 +7,9 @@ use calls::answer_line;
 use play_answers::print;
 use play_fields::at_most;
 use play_fields::line_end;
-use play_fields::two;
 use play_lends::Lent;
 use play_lends::lend;
-use solves::solve_line;
 use worker::Worker;
-
-const SOLVE: u8 = 21;
-
-// Plays a line on all that is given; a solve has its right side and answers in the rooms.
-fn play_fronts(
-    line: &[u8],
-    matrix: &mut [f64],
-    lists: &mut [u8],
-    records: &mut [[u8; 5]],
-    workers: [Worker; 32],
-    right: &mut [f64],
-    answers: &mut [f64],
-    out: &mut [u8],
-) -> Lent {
-    if two(line, 0) == SOLVE {
-        return solve_line(line, matrix, lists, records, workers, right, answers, out);
-    }
-    answer_line(line, matrix, lists, records, workers, out)
-}
 
 // Plays a line on the fronts of the buffers that are lent; what it lends counts at once.
 fn play_line(
@@ -48,7 +27,7 @@ fn play_line(
     let b = at_most(lent.lists as u64, lists.len());
     let c = at_most(lent.records as u64, records.len());
     let workers = lent.workers;
-    play_fronts(
+    answer_line(
         line,
         &mut matrix[..a],
         &mut lists[..b],

@@ -18,26 +18,26 @@ at-most-requires-2 c κs = search needs
 at-most-requires-3 : tie.Need-at-most-requires-3
 at-most-requires-3 c κs = search needs
 
-slice-relend-prefix-play-fronts : tie.Need-slice-relend-prefix-play-fronts
-slice-relend-prefix-play-fronts c = search needs
+slice-relend-prefix-answer-line : tie.Need-slice-relend-prefix-answer-line
+slice-relend-prefix-answer-line c = search needs
 
-slice-aggregate-play-fronts : tie.Need-slice-aggregate-play-fronts
-slice-aggregate-play-fronts c = sym (length-take-le _ _ (omega arith))
+slice-aggregate-answer-line : tie.Need-slice-aggregate-answer-line
+slice-aggregate-answer-line c = sym (length-take-le _ _ (omega arith))
 
-slice-relend-prefix-play-fronts-2 : tie.Need-slice-relend-prefix-play-fronts-2
-slice-relend-prefix-play-fronts-2 c = search needs
+slice-relend-prefix-answer-line-2 : tie.Need-slice-relend-prefix-answer-line-2
+slice-relend-prefix-answer-line-2 c = search needs
 
-slice-aggregate-play-fronts-2 : tie.Need-slice-aggregate-play-fronts-2
-slice-aggregate-play-fronts-2 c = sym (length-take-le _ _ (omega arith))
+slice-aggregate-answer-line-2 : tie.Need-slice-aggregate-answer-line-2
+slice-aggregate-answer-line-2 c = sym (length-take-le _ _ (omega arith))
 
-slice-relend-prefix-play-fronts-3 : tie.Need-slice-relend-prefix-play-fronts-3
-slice-relend-prefix-play-fronts-3 c = search needs
+slice-relend-prefix-answer-line-3 : tie.Need-slice-relend-prefix-answer-line-3
+slice-relend-prefix-answer-line-3 c = search needs
 
-slice-aggregate-play-fronts-3 : tie.Need-slice-aggregate-play-fronts-3
-slice-aggregate-play-fronts-3 c = sym (length-take-le _ _ (omega arith))
+slice-aggregate-answer-line-3 : tie.Need-slice-aggregate-answer-line-3
+slice-aggregate-answer-line-3 c = sym (length-take-le _ _ (omega arith))
 
-play-fronts-requires : tie.Need-play-fronts-requires
-play-fronts-requires c κs = search needs
+answer-line-requires : tie.Need-answer-line-requires
+answer-line-requires c κs = search needs
 
 same-length : tie.Need-same-length
 same-length c = search needs
@@ -68,13 +68,13 @@ play-line-spec =
     at-most-requires
     at-most-requires-2
     at-most-requires-3
-    slice-relend-prefix-play-fronts
-    slice-aggregate-play-fronts
-    slice-relend-prefix-play-fronts-2
-    slice-aggregate-play-fronts-2
-    slice-relend-prefix-play-fronts-3
-    slice-aggregate-play-fronts-3
-    play-fronts-requires
+    slice-relend-prefix-answer-line
+    slice-aggregate-answer-line
+    slice-relend-prefix-answer-line-2
+    slice-aggregate-answer-line-2
+    slice-relend-prefix-answer-line-3
+    slice-aggregate-answer-line-3
+    answer-line-requires
     same-length
     same-length-2
     same-length-3
