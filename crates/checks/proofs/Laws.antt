@@ -1,6 +1,6 @@
 -- What the sizes and the lengths say, in the form that the code tests them, and where a tile ends. Assumes nothing.
 use Prim.Native.Nat.{ℕ, _+_, _*_, _≤_, _<_}
-use mathlib.Core.Path.{_≡_, refl, sym, _∙_}
+use mathlib.Core.Path.{_≡_, refl}
 use mathlib.Core.Bool.{Bool, true, false, not, _&&_}
 use mathlib.Core.List.{List}
 use native.Mathlib.Nat.{mul-le-mul, mul-le-mul-right}
@@ -9,7 +9,7 @@ use lib.Dec.{eqb, leb}
 use lib.Ieee.{Float}
 use lib.ListN.{length, take}
 use lib.Seq.{length-take-le}
-use borrow.Author.Tests.{eqb-true, leb-true, lt-leb, le-leb, eq-eqb, ne-eqb, not-false}
+use borrow.Author.Tests.{eqb-true, leb-true, eq-eqb, not-false}
 use Rattle.model.specs.declared.Sizes.{Sizes}
 use Rattle.worker.specs.declared.Worker.{Worker}
 use Rattle.model.specs.Task.{tasks}
@@ -23,28 +23,7 @@ use Rattle.checks.specs.Checks.{Sized, MatrixFits, ListsFit, RecordsFit}
 
 -- ---- sizes
 
-pub outside-low : (top x : ℕ) → x < 1 → false ≡ inside top x
-unfolding inside
-outside-low top x h = rw (lt-leb 1 x h)
-
-pub inside-high : (top x : ℕ) → 1 ≤ x → leb x top ≡ inside top x
-unfolding inside
-inside-high top x h = rw (le-leb 1 x h)
-
 module _ (z : Sizes) where
-  pub sizes-1 : (b : Bool) → b ≡ inside 16 (z .tiles) → b ≡ false → true ≡ badSizes z
-  unfolding badSizes
-  sizes-1 b e q = rw (sym e ∙ q)
-
-  module _ (b : Bool) (e : b ≡ inside 16 (z .tiles)) (q : b ≡ true) where
-    pub sizes-2 : (c : Bool) → c ≡ inside 16 (z .side) → c ≡ false → true ≡ badSizes z
-    unfolding badSizes
-    sizes-2 c f r = rw (sym e ∙ q, sym f ∙ r)
-
-    pub sizes-3 : (c d : Bool) → c ≡ inside 16 (z .side) → c ≡ true → d ≡ inside 32 (z .workers) → not d ≡ badSizes z
-    unfolding badSizes
-    sizes-3 c d f r g = rw (sym e ∙ q, sym f ∙ r, ← g)
-
   from-inside : (top x : ℕ) → inside top x ≡ true → (1 ≤ x) × (x ≤ top)
   unfolding inside
   from-inside top x e = (leb-true 1 x (and-left (leb 1 x) (leb x top) e), leb-true x top (and-right (leb 1 x) (leb x top) e))
@@ -76,27 +55,18 @@ module _ (z : Sizes) (m : List Float) (l : List ℕ) (r : List (List ℕ)) (s : 
   t = z .side
 
   -- of 32 slots as many are lent as the sizes say
-  lengths-are : badLengths (planOf z) (z .workers) (lent m l r slots (z .workers))
-      ≡ not (eqb (length m) (N * t * (N * t)) && eqb (length l) (N * N * t) && eqb (length r) (length (tasks N)))
+  pub lengths-are : {k : ℕ} → k ≡ length (tasks N) → not (eqb (length m) (N * t * (N * t)) && eqb (length l) (N * (N * t)) && eqb (length r) k)
+      ≡ badLengths (planOf z) (z .workers) (lent m l r slots (z .workers))
   unfolding badLengths lent plan order
-  lengths-are =
+  lengths-are f =
       let w : length (take (z .workers) slots) ≡ z .workers = length-take-le (z .workers) slots (omega (arith, s)) in
-      rw (length-records r, eq-eqb (length (take (z .workers) slots)) (z .workers) w)
+      let v : N * (N * t) ≡ N * N * t = omega arith in
+      rw (f, v, length-records r, eq-eqb (length (take (z .workers) slots)) (z .workers) w)
       (last (eqb (length m) (N * t * (N * t)) && eqb (length l) (N * N * t) && eqb (length r) (length (tasks N))))
     where
-      last : (b : Bool) → not (b && true) ≡ not b
+      last : (b : Bool) → not b ≡ not (b && true)
       last true = refl
       last false = refl
-
-  pub lengths-1 : (length m ≡ N * t * (N * t) → ⊥) → true ≡ badLengths (planOf z) (z .workers) (lent m l r slots (z .workers))
-  lengths-1 d = sym (lengths-are ∙ rw (ne-eqb (length m) (N * t * (N * t)) d))
-
-  module _ (a : length m ≡ N * t * (N * t)) where
-    pub lengths-2 : (length l ≡ N * N * t → ⊥) → true ≡ badLengths (planOf z) (z .workers) (lent m l r slots (z .workers))
-    lengths-2 d = sym (lengths-are ∙ rw (eq-eqb (length m) (N * t * (N * t)) a, ne-eqb (length l) (N * N * t) d))
-
-    pub lengths-3 : (c : ℕ) → length l ≡ N * N * t → c ≡ length (tasks N) → not (eqb (length r) c) ≡ badLengths (planOf z) (z .workers) (lent m l r slots (z .workers))
-    lengths-3 c b f = sym (lengths-are ∙ rw (eq-eqb (length m) (N * t * (N * t)) a, eq-eqb (length l) (N * N * t) b, f))
 
 -- slices that refusal 2 lets pass have the lengths stated
 module _ (z : Sizes) (m : List Float) (l : List ℕ) (r : List (List ℕ)) (slots : List Worker) where

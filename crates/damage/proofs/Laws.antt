@@ -1,14 +1,12 @@
 -- A record against the one due, and refusal 4 as its four tests. Assumes nothing.
 use Prim.Native.Nat.{ℕ, _-_, _*_, _<_}
 use mathlib.Core.Path.{_≡_, refl, sym, ap, _∙_}
-use mathlib.Core.Logic.{_⊎_, inl, inr}
 use mathlib.Core.Bool.{Bool, true, false, not, _&&_, _||_}
 use mathlib.Core.List.{List}
 use native.Mathlib.Omega.{arith}
-use lib.Dec.{eqb, leb, ltb}
+use lib.Dec.{eqb, leb}
 use lib.Ieee.{Float}
 use lib.ListN.{length, getD, take}
-use borrow.Author.Tests.{ltb-true, ltb-false, le-leb, lt-leb, eq-eqb, ne-eqb}
 use Rattle.model.specs.declared.Sizes.{Sizes}
 use Rattle.model.specs.declared.TaskRecord.{TaskRecord}
 use Rattle.worker.specs.declared.Worker.{Worker}
@@ -19,7 +17,6 @@ use Rattle.model.specs.Links.{task}
 use Rattle.model.specs.Calls.{recordOf, marksOf}
 use Rattle.model.specs.Refusal.{badRecord, badHold, badWorker, badEntry, damaged}
 use Rattle.laws.proofs.Every.{getD-any}
-use Rattle.laws.proofs.Tests.{true-or-false}
 use Rattle.records.specs.Records.{recordsFrom, blank, lent}
 use Rattle.records.proofs.Laws.{length-records}
 use Rattle.links.specs.Closed.{key, In, taskAt, offset, number}
@@ -28,36 +25,10 @@ use Rattle.checks.specs.Checks.{recordsAlone, listsAlone, held}
 
 -- ---- records
 
-lt-as-le : (a b : ℕ) → ltb a b ≡ not (leb b a)
-lt-as-le a b = go (true-or-false (ltb a b))
-  where
-    go : (ltb a b ≡ true) ⊎ (ltb a b ≡ false) → ltb a b ≡ not (leb b a)
-    go (inl e) = rw (e, lt-leb b a (ltb-true a b e))
-    go (inr e) = rw (e, le-leb b a (ltb-false a b e))
-
 -- the record found is not the one due, or its mark exceeds 4
 abbrev pub apart : TaskRecord → TaskRecord → Bool
 apart found due =
     not (eqb (found .kind) (due .kind) && eqb (found .k) (due .k) && eqb (found .i) (due .i) && eqb (found .j) (due .j) && leb (found .mark) 4)
-
-module _ (f d : TaskRecord) where
-  pub apart-1 : (f .kind ≡ d .kind → ⊥) → true ≡ apart f d
-  apart-1 h = rw (ne-eqb (f .kind) (d .kind) h)
-
-  module _ (a : f .kind ≡ d .kind) where
-    pub apart-2 : (f .k ≡ d .k → ⊥) → true ≡ apart f d
-    apart-2 h = rw (eq-eqb (f .kind) (d .kind) a, ne-eqb (f .k) (d .k) h)
-
-    module _ (b : f .k ≡ d .k) where
-      pub apart-3 : (f .i ≡ d .i → ⊥) → true ≡ apart f d
-      apart-3 h = rw (eq-eqb (f .kind) (d .kind) a, eq-eqb (f .k) (d .k) b, ne-eqb (f .i) (d .i) h)
-
-      module _ (c : f .i ≡ d .i) where
-        pub apart-4 : (f .j ≡ d .j → ⊥) → true ≡ apart f d
-        apart-4 h = rw (eq-eqb (f .kind) (d .kind) a, eq-eqb (f .k) (d .k) b, eq-eqb (f .i) (d .i) c, ne-eqb (f .j) (d .j) h)
-
-        pub apart-5 : f .j ≡ d .j → ltb 4 (f .mark) ≡ apart f d
-        apart-5 h = rw (eq-eqb (f .kind) (d .kind) a, eq-eqb (f .k) (d .k) b, eq-eqb (f .i) (d .i) c, eq-eqb (f .j) (d .j) h) (lt-as-le 4 (f .mark))
 
 -- the task with the number p is that of its triple, so the record due is that triple's
 pub record-bad : (z : Sizes) (r : List (List ℕ)) (p k i j : ℕ) → p < length r → In (z .tiles) (key k i j) → number (z .tiles) (key k i j) ≡ p

@@ -27,19 +27,11 @@ use workers::bad_workers;
 fn differs(found: TaskRecord, due: TaskRecord) -> bool
     ensures { λ r. ⌜ r ≡ not (eqb (found .kind) (due .kind) && eqb (found .k) (due .k) && eqb (found .i) (due .i) && eqb (found .j) (due .j) && leb (found .mark) 4) ⌝ }
 {
-    if found.kind != due.kind {
-        return true;
-    }
-    if found.k != due.k {
-        return true;
-    }
-    if found.i != due.i {
-        return true;
-    }
-    if found.j != due.j {
-        return true;
-    }
-    4 < found.mark
+    let same_task = (found.kind == due.kind)
+        & (found.k == due.k)
+        & (found.i == due.i)
+        & (found.j == due.j);
+    !(same_task & (found.mark <= 4))
 }
 
 // Whether a record's task differs from the numbering, or a mark exceeds 4.

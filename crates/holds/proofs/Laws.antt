@@ -3,7 +3,6 @@ use Prim.Native.Nat.{ℕ}
 use mathlib.Core.Path.{_≡_, sym, _∙_}
 use mathlib.Core.Bool.{true, false}
 use mathlib.Core.List.{List}
-use lib.Dec.{eqb}
 use lib.ListN.{length, take}
 use borrow.Author.Tests.{eq-eqb, ne-eqb}
 use Rattle.model.specs.declared.Sizes.{Sizes}
@@ -29,12 +28,3 @@ module _ (z : Sizes) (r : List (List ℕ)) (h : List Worker) (W p m : ℕ) (e : 
     pub hold-good : n ≡ 1 → badHold (planOf z) (held r h W) p ≡ false
     unfolding badHold lent marksOf marksFrom
     hold-good a = rw (eq-eqb (mark (marksFrom r) p) 1 (sym e ∙ q), eq-eqb (length (keep (holds p) (take W h))) 1 (sym c ∙ a))
-
-module _ (p : ℕ) (h : Worker) where
-  pub holds-not : h .busy ≡ false → false ≡ holds p h
-  unfolding holds
-  holds-not e = rw e
-
-  pub holds-this : h .busy ≡ true → eqb (h .task) p ≡ holds p h
-  unfolding holds
-  holds-this e = rw e

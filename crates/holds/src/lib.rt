@@ -5,32 +5,23 @@ ghost use lib.ListN.{length, take};
 ghost use Rattle.model.specs.Lists.{below, some, keep};
 ghost use Rattle.model.specs.Task.{tasks};
 ghost use Rattle.model.specs.Plan.{planOf};
-ghost use Rattle.model.specs.Refusal.{holds as holdsTask, badHold};
+ghost use Rattle.model.specs.Refusal.{holds, badHold};
 ghost use Rattle.checks.specs.Checks.{Sized, RecordsFit, held};
 use model::Sizes;
 use records::mark_of;
 use task_counts::task_count;
 use worker::Worker;
 
-// Whether the worker holds task p.
-fn holds(h: Worker, p: usize) -> bool
-    ensures { λ r. ⌜ r ≡ holdsTask p h ⌝ }
-{
-    if !h.busy {
-        return false;
-    }
-    h.task as usize == p
-}
-
 // How many of the first `count` workers hold task p.
 fn holders(workers: [Worker; 32], count: usize, p: usize) -> usize
     requires { ⌜ count ≤ 32 ⌝ }
-    ensures { λ r. ⌜ r ≡ length (keep (holdsTask p) (take count workers)) ⌝ }
+    ensures { λ r. ⌜ r ≡ length (keep (holds p) (take count workers)) ⌝ }
 {
     let mut n = 0;
     let mut v = 0;
     while v < count {
-        if holds(workers[v], p) {
+        let h = workers[v];
+        if h.busy & (h.task as usize == p) {
             n += 1;
         }
         v += 1;

@@ -4,7 +4,6 @@ use mathlib.Core.Logic.{⊎-elim}
 use mathlib.Core.Path.{_≡_, sym, _∙_}
 use native.Mathlib.Omega.{arith}
 use lib.ListN.{length, getD}
-use borrow.Author.Needs.{needs}
 use Rattle.model.specs.Refusal.{holds}
 use Rattle.worker.specs.Holding.{idle}
 use Rattle.model.specs.Lists.{run, below, keep}
@@ -23,14 +22,14 @@ abbrev μ-loop : tie.MeasureT-loop
 loop-holds : tie.Need-loop-holds Inv-loop μ-loop
 loop-holds c = (omega arith, omega arith, keep-begins _ _)
 
-mul-holds : tie.Need-mul-holds Inv-loop μ-loop
-mul-holds c = omega arith
+mul-h : tie.Need-mul-h Inv-loop μ-loop
+mul-h c = omega arith
 
-array-copy-out-holds : tie.Need-array-copy-out-holds Inv-loop μ-loop
-array-copy-out-holds c = omega arith
+array-copy-out-h : tie.Need-array-copy-out-h Inv-loop μ-loop
+array-copy-out-h c = omega arith
 
-holds-requires : tie.Need-holds-requires Inv-loop μ-loop
-holds-requires c κs = search needs
+cast-if1 : tie.Need-cast-if1 Inv-loop μ-loop
+cast-if1 c = omega arith
 
 add-n : tie.Need-add-n Inv-loop μ-loop
 add-n c = omega arith
@@ -42,9 +41,10 @@ loop-less : tie.Need-loop-less Inv-loop μ-loop
 loop-less c = omega arith
 
 loop-again : tie.Need-loop-again Inv-loop μ-loop
+unfolding holds
 loop-again c = ⊎-elim
-    (λ u. (omega arith, omega arith, keep-counts _ _ _ _ _ _ (c .before .before .before .loop-test .taken) (c .before .before .before .before .loop .inv .2) (sym (c .before .holds .ensures) ∙ u .0 .taken) (u .1)))
-    (λ u. (omega arith, omega arith, keep-passes _ _ _ _ _ _ (c .before .before .before .loop-test .taken) (c .before .before .before .before .loop .inv .2) (sym (c .before .holds .ensures) ∙ u .0 .left) (u .1)))
+    (λ u. (omega arith, omega arith, keep-counts _ _ _ _ _ _ (c .before .before .before .before .loop-test .taken) (c .before .before .before .before .before .loop .inv .2) (u .0 .taken) (u .1)))
+    (λ u. (omega arith, omega arith, keep-passes _ _ _ _ _ _ (c .before .before .before .before .loop-test .taken) (c .before .before .before .before .before .loop .inv .2) (u .0 .left) (u .1)))
     (c .if1 .came)
 
 returns : tie.Need-returns Inv-loop μ-loop
@@ -58,9 +58,9 @@ holders-spec =
     Inv-loop
     μ-loop
     loop-holds
-    mul-holds
-    array-copy-out-holds
-    holds-requires
+    mul-h
+    array-copy-out-h
+    cast-if1
     add-n
     add-v
     loop-less
