@@ -1,5 +1,5 @@
 -- Which triples are linked: they clash, and no triple between clashes with both. Arithmetic alone. Assumes nothing.
-use Prim.Native.Nat.{ℕ, suc, _<_}
+use Prim.Native.Nat.{ℕ, suc, _+_, _≤_, _<_}
 use mathlib.Core.Path.{_≡_, refl}
 use mathlib.Core.Logic.{_⊎_, inl, inr, _≢_}
 use native.Mathlib.Omega.{arith}
@@ -33,6 +33,22 @@ from-clash a b f (down e h q) = f .3 e h q
 from-clash a b f (across e g p h) = f .4 e g p h
 from-clash a b f (corner e g h p) = f .5 e g h p
 
+-- ---- what a clash says of stages, rows and columns
+
+module _ (N : ℕ) (a b : Key) (v : In N a) (w : In N b) where
+  clash-onward : Clash a b → (a .k ≤ b .k) × (a .i ≤ b .i)
+  clash-onward = from-clash a b (omega arith)
+
+  -- the sum grows, but for a corner
+  clash-sum : Clash a b → b .i + a .k ≤ a .i + a .i → a .k + a .i + a .j < b .k + b .i + b .j
+  clash-sum = from-clash a b (omega arith)
+
+  clash-in-row : Clash a b → a .k ≡ b .k → a .i ≡ b .i → (a .j ≡ a .k) × (a .j < b .j)
+  clash-in-row = from-clash a b (omega arith)
+
+  clash-below : Clash a b → a .k ≡ b .k → a .k < a .j → a .i < b .i
+  clash-below = from-clash a b (omega arith)
+
 module _ (N : ℕ) (a b : Key) (v : In N a) (w : In N b) where
   -- ---- what is linked clashes, and no triple between clashes with both
 
@@ -43,10 +59,15 @@ module _ (N : ℕ) (a b : Key) (v : In N a) (w : In N b) where
   linked-clash (each-T-2 e f p q h) = corner e (omega arith) (omega arith) q
 
   pub linked-alone : Linked a b → (r : Key) → In N r → Clash a r → Clash r b → ⊥
-  linked-alone (stage-back e p q) r u c d = from-clash r b (from-clash a r (omega arith, omega arith, omega arith, omega arith, omega arith, omega arith) c) d
-  linked-alone (row-first e f p h) r u c d = from-clash r b (from-clash a r (omega arith, omega arith, omega arith, omega arith, omega arith, omega arith) c) d
-  linked-alone (row-above e f p h) r u c d = from-clash r b (from-clash a r (omega arith, omega arith, omega arith, omega arith, omega arith, omega arith) c) d
-  linked-alone (each-T-2 e f p q h) r u c d = from-clash r b (from-clash a r (omega arith, omega arith, omega arith, omega arith, omega arith, omega arith) c) d
+  linked-alone l r u c d = go (clash-onward N a r v u c) (clash-onward N r b u w d) l
+    where
+      go : (a .k ≤ r .k) × (a .i ≤ r .i) → (r .k ≤ b .k) × (r .i ≤ b .i) → Linked a b → ⊥
+      go x y (stage-back e p q) = omega (arith, clash-sum N a r v u c (omega arith), clash-sum N r b u w d (omega arith))
+      go x y (row-first e f p h) = omega (arith, clash-in-row N a r v u c (omega arith) (omega arith), clash-in-row N r b u w d (omega arith) (omega arith))
+      go x y (row-above e f p h) = omega (arith, clash-sum N a r v u c (omega arith), clash-sum N r b u w d (omega arith))
+      go x y (each-T-2 e f p q h) =
+          let z : a .i < r .i = clash-below N a r v u c (omega arith) (omega arith) in
+          omega (arith, clash-in-row N r b u w d (omega arith) (omega arith))
 
   -- ---- what clashes, with nothing between, is linked: any other clash has a triple between
 

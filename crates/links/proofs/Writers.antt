@@ -1,5 +1,5 @@
 -- The latest writer of what a task touches. Assumes nothing.
-use Prim.Native.Nat.{ℕ, _-_, _<_}
+use Prim.Native.Nat.{ℕ, _-_, _≤_, _<_}
 use mathlib.Core.Bool.{true}
 use mathlib.Core.Path.{_≡_, refl}
 use mathlib.Core.Logic.{_⊎_, inl, inr, _≢_}
@@ -20,6 +20,19 @@ from-before : {P : Type 0} (a b : Key) → FromBefore a b P → Before a b → P
 from-before a b f (by-stage h) = f .0 h
 from-before a b f (by-row e h) = f .1 e h
 from-before a b f (by-column e g h) = f .2 e g h
+
+module _ (a b : Key) where
+  before-stage : Before a b → a .k ≤ b .k
+  before-stage = from-before a b (omega arith)
+
+  before-row : Before a b → a .k ≡ b .k → a .i ≤ b .i
+  before-row = from-before a b (omega arith)
+
+  before-below : Before a b → a .k ≡ b .k → a .j ≡ b .j → a .i < b .i
+  before-below = from-before a b (omega arith)
+
+  before-at-tile : Before a b → a .i ≡ b .i → a .j ≡ b .j → a .k < b .k
+  before-at-tile = from-before a b (omega arith)
 
 -- ---- the closed form's writer writes x before b, b touches x, and no task between writes x
 
@@ -44,13 +57,34 @@ module _ (N : ℕ) (a b : Key) (v : In N a) (w : In N b) (x : Place) where
 
   -- no task between writes x
   pub last-alone : Last a b x → (r : Key) → In N r → Writes r x → Before a r → Before r b → ⊥
-  last-alone l r u c d d' = from-before r b (from-before a r (from-writes r x (go l) c) d) d'
+  last-alone l r u c d d' = from-writes r x (go (before-stage a r d) (before-stage r b d') l) c
     where
-      go : Last a b x → FromWrites r x (FromBefore a r (FromBefore r b ⊥))
-      go (last-own p e f g) = let s = sort-of p in let y = row-of p in let z = column-of p in (omega arith, omega arith, omega arith)
-      go (last-upper p e f g) = let s = sort-of p in let y = row-of p in let z = column-of p in (omega arith, omega arith, omega arith)
-      go (last-left p e f g h) = let s = sort-of p in let y = row-of p in let z = column-of p in (omega arith, omega arith, omega arith)
-      go (last-list p e f g h) = let s = sort-of p in let y = row-of p in let z = column-of p in (omega arith, omega arith, omega arith)
+      go : a .k ≤ r .k → r .k ≤ b .k → Last a b x → FromWrites r x ⊥
+      go m n (last-own p e f g) =
+          let y = row-of p in
+          let z = column-of p in (
+            λ s o q. omega (arith, before-at-tile a r d (omega arith) (omega arith), before-at-tile r b d' (omega arith) (omega arith)),
+            λ s o q. omega (arith, before-below r b d' (omega arith) (omega arith)),
+            omega (arith, sort-of p),
+          )
+      go m n (last-upper p e f g) =
+          let y = row-of p in
+          let z = column-of p in (
+            λ s o q. omega (arith, before-below a r d (omega arith) (omega arith)),
+            λ s o q. omega (arith, before-below a r d (omega arith) (omega arith), before-below r b d' (omega arith) (omega arith)),
+            omega (arith, sort-of p),
+          )
+      go m n (last-left p e f g h) =
+          let y = row-of p in
+          let z = column-of p in (
+            λ s o q. omega (arith, before-at-tile a r d (omega arith) (omega arith)),
+            λ s o q. omega (arith, before-below a r d (omega arith) (omega arith), before-row r b d' (omega arith)),
+            omega (arith, sort-of p),
+          )
+      go m n (last-list p e f g h) =
+          let y = row-of p in
+          let z = column-of p in
+          (omega (arith, sort-of p), omega (arith, sort-of p), λ i s o q. omega (arith, before-at-tile a r d (omega arith) (omega arith)))
 
 -- ---- what a task touches has the closed form's latest writer, or none
 

@@ -1,6 +1,6 @@
 -- `apply_column` meets its contract: the two ways by whether every number computed is finite. Assumes nothing.
 use mathlib.Core.Path.{_≡_, _∙_}
-use Prim.Native.Nat.{suc, _+_, _-_, _*_, _<_}
+use Prim.Native.Nat.{ℕ, suc, _+_, _-_, _*_, _≤_, _<_}
 use native.Mathlib.Omega.{arith}
 use denote.Ref.{now}
 use Rattle.column_laws.specs.Steps.{tileStart}
@@ -9,6 +9,17 @@ use Rattle.column_laws.proofs.Ends.{below-read, apply-ends, apply-fails}
 use Rattle.column_laws.proofs.Ready.{apply-ready}
 use Rattle.apply_columns.proofs.apply_column.Statement.{statement}
 use Rattle.apply_columns.proofs.apply_column.Tie as tie
+
+-- the rows below row c, and where their numbers of column c stand in the tile at d, from the first to the last
+
+rows-below : {c t : ℕ} → c < t → suc c + (t - (c + 1)) ≡ t
+rows-below h = omega arith
+
+first-below : {s d : ℕ} (c t : ℕ) → s ≡ d → s + ((c + 1) * t + c) ≡ d + (suc c * t + c)
+first-below c t e = omega arith
+
+below-fits : {c t s d n : ℕ} → c < t → t ≤ 16 → s ≡ d → d + t * t ≤ n → n ≤ 65536 → (s + ((c + 1) * t + c) ≤ 65536 + 16) × (s + ((c + 1) * t + c) + (t - (c + 1)) * t < n + t)
+below-fits {c} {t} h most e room few = let split : (suc c + (t - (c + 1))) * t ≡ t * t = rw (rows-below h) in omega arith
 
 tile-start-requires : tie.Need-tile-start-requires
 tile-start-requires c κs = let w = c .before .before .pre in (w .tiles-most, w .side-most, omega (arith, w .placed .0, w .placed .1), w .placed .1)
@@ -23,13 +34,13 @@ add-read-column : tie.Need-add-read-column
 add-read-column c = let r = apply-ready (c .before .before .before .before .before .before .pre) in omega (arith, r .column, r .side-most)
 
 mul-read-column : tie.Need-mul-read-column
-mul-read-column c = let r = apply-ready (c .before .before .before .before .before .before .pre) in omega (arith, r .row, r .square)
+mul-read-column c = let r = apply-ready (c .before .before .before .before .before .before .pre) in omega (arith, below-fits (r .column) (r .side-most) (c .before .before .tile-start2 .ensures) (r .mult-room) (r .few) .0)
 
 add-read-column-2 : tie.Need-add-read-column-2
-add-read-column-2 c = let r = apply-ready (c .before .before .before .before .before .before .pre) in omega (arith, r .row, r .square, r .column)
+add-read-column-2 c = let r = apply-ready (c .before .before .before .before .before .before .pre) in omega (arith, below-fits (r .column) (r .side-most) (c .before .before .tile-start2 .ensures) (r .mult-room) (r .few) .0)
 
 add-read-column-3 : tie.Need-add-read-column-3
-add-read-column-3 c = let r = apply-ready (c .before .before .before .before .before .before .pre) in omega (arith, r .row, r .column, r .mult-room, r .few, c .before .before .tile-start2 .ensures)
+add-read-column-3 c = let r = apply-ready (c .before .before .before .before .before .before .pre) in omega (arith, below-fits (r .column) (r .side-most) (c .before .before .tile-start2 .ensures) (r .mult-room) (r .few) .0)
 
 add-read-column-4 : tie.Need-add-read-column-4
 add-read-column-4 c = let r = apply-ready (c .before .before .before .before .before .before .pre) in omega (arith, r .column, r .side-most)
@@ -39,12 +50,8 @@ sub-read-column c = let r = apply-ready (c .before .before .before .before .befo
 
 read-column-requires : tie.Need-read-column-requires
 read-column-requires c κs =
-    let a = c .before .before .before .before .before .before .args in
     let r = apply-ready (c .before .before .before .before .before .before .pre) in
-    let t = a .z .side in
-    let ends : suc (a .c) + (t - (a .c + 1)) ≡ t = omega (arith, r .column) in
-    let split : (suc (a .c) + (t - (a .c + 1))) * t ≡ t * t = rw ends in
-    omega (arith, r .side-most, r .column, r .mult-room, r .few, split, c .before .before .tile-start2 .ensures)
+    (r .side-most, omega (arith, r .side-most), omega (arith, below-fits (r .column) (r .side-most) (c .before .before .tile-start2 .ensures) (r .mult-room) (r .few) .1), r .few)
 
 start-block-requires : tie.Need-start-block-requires
 start-block-requires c κs =
@@ -81,7 +88,7 @@ returns c =
     let k = a .k in
     apply-ends n t k (a .j) (a .c) _ _ (now (a .matrix)) (now (a .lists)) (c .before .before .before .before .before .before .before .before .before .before .before .before .before .before .tile-start .ensures) (c .before .before .before .before .before .before .before .before .before .before .before .before .list-start .ensures) (rw (c .before .before .before .before .before .before .before .before .before .before .before .before .before .before .tile-start .ensures) (r .room)) _ (c .before .before .before .before .before .before .before .before .before .before .read-column .result) _ _
     (c .before .before .before .before .before .before .before .before .start-block .ensures)
-    (below-read t (a .c) _ (tileStart n t k k) (t - (a .c + 1)) (now (a .matrix)) (c .before .before .before .before .before .before .before .before .before .before .read-column .result) (omega (arith, r .column)) (omega (arith, c .before .before .before .before .before .before .before .before .before .before .before .before .before .tile-start2 .ensures)) (r .mult-room) (c .before .before .before .before .before .before .before .before .before .before .read-column .ensures))
+    (below-read t (a .c) _ (tileStart n t k k) (t - (a .c + 1)) (now (a .matrix)) (c .before .before .before .before .before .before .before .before .before .before .read-column .result) (rows-below (r .column)) (omega (arith, first-below {d = tileStart n t k k} (a .c) t (c .before .before .before .before .before .before .before .before .before .before .before .before .before .tile-start2 .ensures))) (r .mult-room) (c .before .before .before .before .before .before .before .before .before .before .read-column .ensures))
     (c .before .before .before .before .apply-rows .ensures) _ (c .before .if1 .taken) (c .column-end .ensures)
 
 mul-fill-numbers : tie.Need-mul-fill-numbers
@@ -104,7 +111,7 @@ returns-2 c =
     let k = a .k in
     apply-fails n t k (a .j) (a .c) _ _ (now (a .matrix)) (now (a .lists)) (c .before .before .before .before .before .before .before .before .before .before .before .before .before .before .before .before .before .tile-start .ensures) (c .before .before .before .before .before .before .before .before .before .before .before .before .before .before .before .list-start .ensures) (rw (c .before .before .before .before .before .before .before .before .before .before .before .before .before .before .before .before .before .tile-start .ensures) (r .room)) _ (c .before .before .before .before .before .before .before .before .before .before .before .before .before .read-column .result) _ _
     (c .before .before .before .before .before .before .before .before .before .before .before .start-block .ensures)
-    (below-read t (a .c) _ (tileStart n t k k) (t - (a .c + 1)) (now (a .matrix)) (c .before .before .before .before .before .before .before .before .before .before .before .before .before .read-column .result) (omega (arith, r .column)) (omega (arith, c .before .before .before .before .before .before .before .before .before .before .before .before .before .before .before .before .tile-start2 .ensures)) (r .mult-room) (c .before .before .before .before .before .before .before .before .before .before .before .before .before .read-column .ensures))
+    (below-read t (a .c) _ (tileStart n t k k) (t - (a .c + 1)) (now (a .matrix)) (c .before .before .before .before .before .before .before .before .before .before .before .before .before .read-column .result) (rows-below (r .column)) (omega (arith, first-below {d = tileStart n t k k} (a .c) t (c .before .before .before .before .before .before .before .before .before .before .before .before .before .before .before .before .tile-start2 .ensures))) (r .mult-room) (c .before .before .before .before .before .before .before .before .before .before .before .before .before .read-column .ensures))
     (c .before .before .before .before .before .before .before .apply-rows .ensures) _ (c .before .before .before .before .before .before .before .apply-rows .kept .0) (c .before .before .before .before .if1 .left) (c .before .before .fill-numbers .ensures)
 
 pub apply-column-spec : {M : Type 1} → statement M

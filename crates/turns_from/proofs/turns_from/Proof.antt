@@ -38,23 +38,23 @@ array-set-from-left : tie.Need-array-set-from-left Inv-loop μ-loop
 array-set-from-left c = let i = c .before .before .before .before .before .before .before .before .before .before .before .before .loop .inv in omega (arith, i .turn-of, sizes i .few-workers)
 
 cast-search-start : tie.Need-cast-search-start Inv-loop μ-loop
-cast-search-start c = search needs
+cast-search-start c = omega (arith, c .struct-known .given)
 
 search-start-requires : tie.Need-search-start-requires Inv-loop μ-loop
-search-start-requires c κs = search needs
+search-start-requires c κs = omega (arith, c .struct-known .given)
 
 add-n : tie.Need-add-n Inv-loop μ-loop
-add-n c = omega arith
+add-n c = omega (arith, c .before .before .before .before .before .before .before .before .before .before .before .before .before .loop-test .taken, c .before .before .before .before .before .before .before .before .before .before .before .before .before .before .before .before .before .fits .budget)
 
 worker-after-requires : tie.Need-worker-after-requires Inv-loop μ-loop
 worker-after-requires c κs = c .before .before .before .before .before .before .before .before .before .before .before .before .before .before .loop .inv .turn-of
 
 loop-less : tie.Need-loop-less Inv-loop μ-loop
-loop-less c = call-less _ _ _ _ _ _ (omega arith)
+loop-less c = call-less _ _ _ _ _ _ (omega (arith, c .before .before .before .before .before .before .before .before .before .before .before .before .before .before .loop-test .taken))
 
 loop-again : tie.Need-loop-again Inv-loop μ-loop
 loop-again c =
-    work-goes (c .before .before .before .before .before .before .before .before .before .before .before .before .before .before .before .loop .inv) (c .before .before .before .before .before .before .before .before .before .before .before .before .if1 .taken) (c .before .before .before .before .before .before .before .before .advance .ensures) (omega arith)
+    work-goes (c .before .before .before .before .before .before .before .before .before .before .before .before .before .before .before .loop .inv) (c .before .before .before .before .before .before .before .before .before .before .before .before .if1 .taken) (c .before .before .before .before .before .before .before .before .advance .ensures) (omega (arith, c .before .before .before .before .before .before .before .before .before .before .before .before .before .before .loop-test .taken))
     _ (c .before .search-start .ensures) _ (c .worker-after .ensures)
 
 -- ---- a take
@@ -63,7 +63,7 @@ lowest-ready-requires : tie.Need-lowest-ready-requires Inv-loop μ-loop
 lowest-ready-requires c κs = searched (c .before .before .before .before .loop .inv)
 
 take-task-requires : tie.Need-take-task-requires Inv-loop μ-loop
-take-task-requires c κs = (omega arith, omega (arith, few-records (c .before .before .before .before .before .before .before .loop .inv)))
+take-task-requires c κs = (c .before .if2 .taken, omega (arith, c .before .if2 .taken, few-records (c .before .before .before .before .before .before .before .loop .inv)))
 
 mul-left-2 : tie.Need-mul-left-2 Inv-loop μ-loop
 mul-left-2 c = let i = c .before .before .before .before .before .before .before .before .before .loop .inv in omega (arith, i .turn-of, sizes i .few-workers)
@@ -72,21 +72,21 @@ array-set-from-left-2 : tie.Need-array-set-from-left-2 Inv-loop μ-loop
 array-set-from-left-2 c = let i = c .before .before .before .before .before .before .before .before .before .loop .inv in omega (arith, i .turn-of, sizes i .few-workers)
 
 add-from : tie.Need-add-from Inv-loop μ-loop
-add-from c = omega (arith, few-records (c .before .before .before .before .before .before .before .before .before .loop .inv))
+add-from c = omega (arith, c .before .before .before .if2 .taken, few-records (c .before .before .before .before .before .before .before .before .before .loop .inv))
 
 add-n-2 : tie.Need-add-n-2 Inv-loop μ-loop
-add-n-2 c = omega arith
+add-n-2 c = omega (arith, c .before .before .before .before .before .before .before .before .loop-test .taken, c .before .before .before .before .before .before .before .before .before .before .before .before .fits .budget)
 
 worker-after-requires-2 : tie.Need-worker-after-requires-2 Inv-loop μ-loop
 worker-after-requires-2 c κs = c .before .before .before .before .before .before .before .before .before .loop .inv .turn-of
 
 loop-less-2 : tie.Need-loop-less-2 Inv-loop μ-loop
-loop-less-2 c = call-less _ _ _ _ _ _ (omega arith)
+loop-less-2 c = call-less _ _ _ _ _ _ (omega (arith, c .before .before .before .before .before .before .before .before .before .loop-test .taken))
 
 loop-again-2 : tie.Need-loop-again-2 Inv-loop μ-loop
 loop-again-2 c =
     let t = c .before .before .take-task .ensures in
-    take-goes (c .before .before .before .before .before .before .before .before .before .before .loop .inv) _ (c .before .before .before .before .before .lowest-ready .ensures) (c .before .before .before .before .before .before .before .if1 .left) (omega arith) (omega arith)
+    take-goes (c .before .before .before .before .before .before .before .before .before .before .loop .inv) _ (c .before .before .before .before .before .lowest-ready .ensures) (c .before .before .before .before .before .before .before .if1 .left) (c .before .before .before .before .if2 .taken) (omega (arith, c .before .before .before .before .before .before .before .before .before .loop-test .taken))
     _ (t .0) _ (t .1 .0) (t .1 .1) _ (c .worker-after2 .ensures)
 
 -- ---- neither
@@ -106,21 +106,21 @@ same-length-3 c = records-kept _ _ _ (c .before .before .before .before .before 
 returns : tie.Need-returns Inv-loop μ-loop
 returns c =
     let i = c .before .before .before .before .before .before .before .before .before .loop .inv in
-    (run-over i _ (c .before .before .before .before .lowest-ready .ensures) (c .before .before .before .before .before .before .if1 .left) (omega arith) _ (c .before .before .next-busy .ensures) (omega arith), i .others)
+    (run-over i _ (c .before .before .before .before .lowest-ready .ensures) (c .before .before .before .before .before .before .if1 .left) (c .before .before .before .if2 .left) _ (c .before .before .next-busy .ensures) (c .if3 .taken), i .others)
 
 loop-less-3 : tie.Need-loop-less-3 Inv-loop μ-loop
 loop-less-3 c =
     pass-less _ _ _ _ _ (c .before .before .before .before .before .before .if1 .left)
-    (pass-busy (c .before .before .before .before .before .before .before .before .before .loop .inv) _ (c .before .before .before .before .lowest-ready .ensures) (c .before .before .before .before .before .before .if1 .left) (omega arith) _ (c .before .before .next-busy .ensures) (λ e. omega arith))
+    (pass-busy (c .before .before .before .before .before .before .before .before .before .loop .inv) _ (c .before .before .before .before .lowest-ready .ensures) (c .before .before .before .before .before .before .if1 .left) (c .before .before .before .if2 .left) _ (c .before .before .next-busy .ensures) (c .if3 .left))
 
 loop-again-3 : tie.Need-loop-again-3 Inv-loop μ-loop
 loop-again-3 c =
-    pass-goes (c .before .before .before .before .before .before .before .before .before .loop .inv) _ (c .before .before .before .before .lowest-ready .ensures) (c .before .before .before .before .before .before .if1 .left) (omega arith) _ (c .before .before .next-busy .ensures) (λ e. omega arith)
+    pass-goes (c .before .before .before .before .before .before .before .before .before .loop .inv) _ (c .before .before .before .before .lowest-ready .ensures) (c .before .before .before .before .before .before .if1 .left) (c .before .before .before .if2 .left) _ (c .before .before .next-busy .ensures) (c .if3 .left)
 
 -- ---- the budget is spent
 
 answer-after-requires : tie.Need-answer-after-requires Inv-loop μ-loop
-answer-after-requires c κs = search needs
+answer-after-requires c κs = tt
 
 same-length-4 : tie.Need-same-length-4 Inv-loop μ-loop
 same-length-4 c = matrix-kept _ _ _ (c .before .before .before .before .before .before .args .workers) (c .before .before .before .before .before .before .pre .accepted) (c .before .before .before .loop .inv)
@@ -132,7 +132,7 @@ same-length-6 : tie.Need-same-length-6 Inv-loop μ-loop
 same-length-6 c = records-kept _ _ _ (c .before .before .before .before .before .before .args .workers) (c .before .before .before .before .before .before .pre .accepted) (c .before .before .before .loop .inv)
 
 returns-2 : tie.Need-returns-2 Inv-loop μ-loop
-returns-2 c = let i = c .before .before .before .loop .inv in (run-ends i (omega arith) _ (c .answer-after .ensures), i .others)
+returns-2 c = let i = c .before .before .before .loop .inv in (run-ends i (omega (arith, c .before .before .loop-test .left)) _ (c .answer-after .ensures), i .others)
 
 pub turns-from-spec : {M : Type 1} → statement M
 turns-from-spec =
