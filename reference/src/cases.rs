@@ -1,5 +1,5 @@
-//! Makes the cases for single columns: crafted ones first, then random ones of every family. A case is two lines of a script: the state
-//! lent, and the column call.
+//! Makes the cases for single columns: crafted ones first, then random ones of every family. A case is
+//! two lines of a script: the state lent, and the column call.
 
 use std::collections::HashSet;
 
@@ -12,7 +12,8 @@ use crate::script::{call_line, lend_line, COLUMN};
 use crate::tasks::table;
 use crate::tile::Shape;
 
-/// Two tiles a side; the task is T-1(0), T-2(0,1), T-3(0,1) or T-4(0,1,1), by its kind, and stands at a column.
+/// Two tiles a side; the task is T-1(0), T-2(0,1), T-3(0,1) or T-4(0,1,1), by its kind, and stands at a
+/// column.
 #[derive(Clone)]
 pub struct Case {
     pub kind: u8,
@@ -28,7 +29,8 @@ impl Case {
         self.kind as usize - 1
     }
 
-    /// Worker 0 holds the task and stands at the column; earlier tasks are done and later ones wait, so that nothing is spoiled.
+    /// Worker 0 holds the task and stands at the column; earlier tasks are done and later ones wait, so
+    /// that nothing is spoiled.
     fn lent(&self) -> Lent {
         let shape = Shape { tiles: 2, side: self.side };
         let mut workers = [IDLE; SLOTS];

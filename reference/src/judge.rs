@@ -11,20 +11,25 @@ pub const SYSTEM: u64 = 0;
 pub const RESULT: u64 = 1;
 pub const PROGRAM: u64 = 2;
 
+/// Buffers of zeros with the lengths that line 1 calls for, and empty ones where it is refused.
+fn buffers(text: &[u8]) -> (Vec<f64>, Vec<u8>) {
+    match read_header(text, NO_LIMIT) {
+        Ok(shape) => (vec![0.0; shape.matrix_length()], vec![0; shape.lists_length()]),
+        Err(_) => (Vec::new(), Vec::new()),
+    }
+}
+
 /// A system read into buffers of the right lengths.
 fn system_of(text: &[u8]) -> Result<(Shape, Vec<f64>), Refusal> {
-    let shape = read_header(text, NO_LIMIT)?;
-    let mut matrix = vec![0.0; shape.matrix_length()];
-    read_system(text, &mut matrix)?;
+    let (mut matrix, _) = buffers(text);
+    let shape = read_system(text, &mut matrix)?;
     Ok((shape, matrix))
 }
 
 /// A result read into buffers of the right lengths.
 fn result_of(text: &[u8]) -> Result<(Shape, Vec<f64>, Vec<u8>, Outcome), Refusal> {
-    let shape = read_header(text, NO_LIMIT)?;
-    let mut matrix = vec![0.0; shape.matrix_length()];
-    let mut lists = vec![0; shape.lists_length()];
-    let (_, outcome) = read_result(text, &mut matrix, &mut lists)?;
+    let (mut matrix, mut lists) = buffers(text);
+    let (shape, outcome) = read_result(text, &mut matrix, &mut lists)?;
     Ok((shape, matrix, lists, outcome))
 }
 
@@ -53,13 +58,19 @@ pub fn text_line(what: u64, text: &[u8]) -> String {
     line
 }
 
-/// The verdict on one such line.
-pub fn judge_line(line: &str) -> String {
+/// What the text of such a line is read as, and the text.
+pub fn text_in(line: &str) -> (u64, Vec<u8>) {
     let mut fields = Fields::new(line);
     let what = fields.take(2);
     let count = fields.take(8) as usize;
     let text = fields.bytes(count);
     fields.end();
+    (what, text)
+}
+
+/// The verdict on one such line.
+pub fn judge_line(line: &str) -> String {
+    let (what, text) = text_in(line);
     let mut out = String::new();
     match what {
         SYSTEM => judge_system(&mut out, &text),
@@ -68,14 +79,6 @@ pub fn judge_line(line: &str) -> String {
         _ => panic!("a text is a system, a result or the program's input"),
     }
     out
-}
-
-/// Buffers of zeros with the lengths that line 1 calls for, and empty ones where it is refused.
-fn buffers(text: &[u8]) -> (Vec<f64>, Vec<u8>) {
-    match read_header(text, NO_LIMIT) {
-        Ok(shape) => (vec![0.0; shape.matrix_length()], vec![0; shape.lists_length()]),
-        Err(_) => (Vec::new(), Vec::new()),
-    }
 }
 
 /// A refusal's number and place, or the outcome read; then the digest of what the buffers hold.

@@ -25,7 +25,8 @@ fn sizes(fields: &mut Fields) -> Sizes {
     Sizes { tiles, side, workers }
 }
 
-/// What an answer says: a refusal's number and place; how a run or a system ended, the task or row it ended at, and a run's count.
+/// What an answer says: a refusal's number and place; how a run or a system ended, the task or row it
+/// ended at, and a run's count.
 #[derive(Clone, Copy, Default)]
 struct Said {
     number: u8,

@@ -3,8 +3,7 @@
 use std::io::Write;
 use std::process::{Command, Stdio};
 
-use reference::hex::Fields;
-use reference::judge::PROGRAM;
+use reference::judge::{text_in, PROGRAM};
 use reference::texts::all_texts;
 use reference::write::program_text;
 
@@ -26,10 +25,8 @@ fn printed(text: &[u8]) -> String {
 fn same_prints() {
     let mut count = 0;
     for line in all_texts(1) {
-        let mut fields = Fields::new(&line);
-        if fields.take(2) == PROGRAM {
-            let length = fields.take(8) as usize;
-            let text = fields.bytes(length);
+        let (what, text) = text_in(&line);
+        if what == PROGRAM {
             assert_eq!(printed(&text), program_text(&text), "{}", String::from_utf8_lossy(&text));
             count += 1;
         }

@@ -1,4 +1,5 @@
-//! Library and reference program on random call lists and texts: at least 20,000 calls, in a few seconds. Then specimens, and a NaN written.
+//! Library and reference program on random call lists, single columns and texts: at least 20,000 calls, in a few seconds. Then specimens, and a
+//! NaN written.
 
 mod compare;
 
@@ -10,6 +11,12 @@ fn same_answers_and_states() {
         calls += compare::calls_of(seed, 2800);
         seed += 1;
     }
+}
+
+#[test]
+fn same_columns() {
+    let columns: usize = (1..=6).map(compare::columns_of).sum();
+    assert!(columns > 1000, "only {columns} columns");
 }
 
 #[test]

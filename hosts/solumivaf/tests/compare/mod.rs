@@ -2,7 +2,7 @@
 
 use reference::cases::cases_script;
 use reference::hex::Fields;
-use reference::judge::{PROGRAM, RESULT, SYSTEM};
+use reference::judge::{text_in, PROGRAM, RESULT, SYSTEM};
 use reference::numbers::bits;
 use reference::read::{read_header, NO_LIMIT};
 use reference::script::{Player, COLUMN, LEND, OPENING, OUTCOME, RUN, SOLVE, TAKE};
@@ -159,15 +159,23 @@ impl Players {
     }
 }
 
-/// Plays the scripts of a seed, walks and single columns, and tells how many calls were compared.
-pub fn calls_of(seed: u64, calls: usize) -> usize {
+/// Plays a script, and tells how many calls were compared.
+fn calls_in(script: &str) -> usize {
     let mut players = Players::new();
-    for made in [script(Options { seed, calls, max_bytes: 1_500_000 }), cases_script(seed, 1)] {
-        for line in made.lines() {
-            players.play(line);
-        }
+    for line in script.lines() {
+        players.play(line);
     }
     players.calls
+}
+
+/// Plays the script of a seed.
+pub fn calls_of(seed: u64, calls: usize) -> usize {
+    calls_in(&script(Options { seed, calls, max_bytes: 1_500_000 }))
+}
+
+/// Plays the single columns of a seed.
+pub fn columns_of(seed: u64) -> usize {
+    calls_in(&cases_script(seed, 1))
 }
 
 // ---- texts
@@ -176,10 +184,7 @@ pub fn calls_of(seed: u64, calls: usize) -> usize {
 pub fn texts_of(seed: u64) -> usize {
     let mut count = 0;
     for line in all_texts(seed) {
-        let mut fields = Fields::new(&line);
-        let what = fields.take(2);
-        let length = fields.take(8) as usize;
-        let text = fields.bytes(length);
+        let (what, text) = text_in(&line);
         match what {
             SYSTEM | PROGRAM => system_text(&text),
             RESULT => result_text(&text),
