@@ -8,17 +8,17 @@ graph = load("graph")
 
 
 def touched(task):
-    """What a task writes, and all that it reads or writes: ("tile" or "list", I, J)."""
+    """What a task writes, and all that it reads or writes: ("tile" or "list", I, J), and of a diagonal tile ("lower" or "rest", I)."""
     kind, k = task[0], task[1]
-    tile, rows = (lambda i, j: ("tile", i, j)), (lambda i, j: ("list", i, j))
+    tile, rows = (lambda i, j: {("tile", i, j)} if i != j else {("lower", i), ("rest", i)}), (lambda i, j: {("list", i, j)})
     if kind == 1:
-        writes, reads = {tile(k, k), rows(k, k)}, set()
+        writes, reads = tile(k, k) | rows(k, k), set()
     elif kind == 2:
-        writes, reads = {tile(k, task[2])}, {tile(k, k), rows(k, k)}
+        writes, reads = tile(k, task[2]), {("lower", k)} | rows(k, k)
     elif kind == 3:
-        writes, reads = {tile(k, k), tile(task[2], k), rows(task[2], k)}, set()
+        writes, reads = {("rest", k)} | tile(task[2], k) | rows(task[2], k), set()
     else:
-        writes, reads = {tile(k, task[3]), tile(task[2], task[3])}, {tile(task[2], k), rows(task[2], k)}
+        writes, reads = tile(k, task[3]) | tile(task[2], task[3]), tile(task[2], k) | rows(task[2], k)
     return writes, writes | reads
 
 
@@ -32,7 +32,7 @@ def links_by_definition(tiles):
 class Links(unittest.TestCase):
     def test_counts(self):
         self.assertEqual([len(graph.tasks(n)) for n in (1, 2, 3, 16)], [1, 5, 14, 1496])
-        self.assertEqual([len(links_by_definition(n)) for n in (1, 2, 3)], [0, 4, 19])
+        self.assertEqual([len(links_by_definition(n)) for n in (1, 2, 3)], [0, 5, 21])
 
     def test_listed_links_are_the_definitions(self):
         self.assertEqual(sorted(graph.read_links(text_of("docs", "graph.links"), 14)), sorted(links_by_definition(3)))

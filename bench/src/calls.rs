@@ -1,5 +1,5 @@
 //! A take and a column call in Rust, with the checks of refusals 1, 2, 4, 5, 6 and 7. Each answers the refusal's number, or 0.
-use crate::loops::{column, fill, number, spoiled, task_count, triple, Record, DONE, FAILED, SPOILED, TAKEN};
+use crate::loops::{column, fill, spoiled, task_count, triple, Record, DONE, FAILED, SPOILED, TAKEN};
 use crate::plain::Shape;
 
 #[derive(Clone, Copy)]
@@ -98,29 +98,15 @@ fn state(s: &Shape, matrix: &[f64], lists: &[u8], records: &[Record], workers: &
     refusal
 }
 
+/// A neighbour's number follows from the task's own.
 fn ready(n: usize, records: &[Record], p: usize) -> bool {
     let finished = |p: usize| records[p][4] >= DONE;
     if records[p][4] != 0 {
         return false;
     }
     let (k, i, j) = triple(records[p]);
-    if k > 0 && !finished(number(n, k - 1, i, j)) {
-        return false;
-    }
-    if j > k && !finished(number(n, k, i, k)) {
-        return false;
-    }
-    if i > k + 1 && !finished(number(n, k, i - 1, j)) {
-        return false;
-    }
-    if i == k + 1 && j == k {
-        for x in k + 1..n {
-            if !finished(number(n, k, k, x)) {
-                return false;
-            }
-        }
-    }
-    true
+    let m = n - k;
+    (k == 0 || finished(p + 1 + i - (n + m * m))) && (i == k || finished(p - m)) && (j == k || finished(p - (j - k)))
 }
 
 pub fn take(s: &Shape, matrix: &[f64], lists: &[u8], records: &mut [Record], workers: &mut [Worker], w: usize, p: usize) -> u8 {

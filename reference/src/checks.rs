@@ -111,9 +111,9 @@ fn entries_fit(shape: Shape, lent: &Lent) -> bool {
     true
 }
 
-/// Refusal 4 for the elements of the tiles a task touches.
+/// Refusal 4 for the elements of the tiles a task touches, each of them whole.
 pub fn accept_touched(shape: Shape, lent: &Lent, task: Task) -> Result<(), Refusal> {
-    for thing in task.touches() {
+    for thing in task.whole_uses().touched() {
         if let Thing::Tile(i, j) = thing {
             let start = shape.element(i, j, 0, 0);
             let part = &lent.matrix[start..start + shape.side * shape.side];

@@ -46,7 +46,7 @@ fn specimens() -> Vec<Crafted> {
 }
 
 /// A number that leaves the finite range in each kind of task, at k = 0 and later.
-fn overflows() -> Vec<Crafted> {
+pub fn overflows() -> Vec<Crafted> {
     let third = [1.0, 1.0, 1.0];
     vec![
         made(1, 2, &[1.0, M, -1.0, M], &[&[1.0, 1.0]]),
@@ -59,6 +59,41 @@ fn overflows() -> Vec<Crafted> {
         made(3, 1, &[1.0, 0.0, 0.0, 0.0, 1.0, M, 0.0, -1.0, M], &[&third]),
         made(3, 1, &[4.0, M, 1.0, -4.0, M, 1.0, -4.0, 1.0, M], &[&third]),
         made(2, 1, &[1.0, M, 2.0, -M], &[&[1.0, 1.0]]),
+    ]
+}
+
+/// T-3 fails or is spoiled beside a T-2 that is done or fails by itself; no multiplier that T-2 reads is zero.
+pub fn couple_overflows() -> Vec<Crafted> {
+    vec![
+        made(2, 2, &[4.0, M, 2.0, 4.0, 2.0, M, 3.0, 5.0, -4.0, M, 1.0, 0.0, 0.0, 1.0, 0.0, 1.0], &[]),
+        made(2, 2, &[4.0, M, -M, 4.0, 2.0, M, M, 5.0, -4.0, M, 1.0, 0.0, 0.0, 1.0, 0.0, 1.0], &[]),
+        made(
+            2,
+            3,
+            &[
+                4.0, 0.0, 0.0, 1.0, 2.0, 3.0, //
+                2.0, 4.0, M, 4.0, 5.0, 6.0, //
+                1.0, 2.0, M, 7.0, 8.0, 10.0, //
+                0.0, 0.0, 0.0, 1.0, 0.0, 0.0, //
+                2.0, -4.0, M, 0.0, 1.0, 0.0, //
+                0.0, 0.0, 1.0, 0.0, 0.0, 1.0,
+            ],
+            &[],
+        ),
+        made(3, 1, &[1.0, M, 1.0, 0.5, 1.0, 1.0, -1.0, M, 1.0], &[]),
+        made(
+            3,
+            2,
+            &[
+                4.0, M, 2.0, 4.0, 1.0, 0.0, //
+                2.0, M, 3.0, 5.0, 2.0, 1.0, //
+                -4.0, M, 1.0, 0.0, 0.0, 0.0, //
+                0.0, 1.0, 0.0, 1.0, 0.0, 0.0, //
+                1.0, 0.0, 0.0, 0.0, 1.0, 0.0, //
+                0.0, 1.0, 0.0, 0.0, 0.0, 1.0,
+            ],
+            &[],
+        ),
     ]
 }
 
@@ -126,6 +161,7 @@ fn numerics() -> Vec<Crafted> {
 pub fn all_crafted() -> Vec<Crafted> {
     let mut all = specimens();
     all.extend(overflows());
+    all.extend(couple_overflows());
     all.extend(singulars());
     all.extend(numerics());
     all

@@ -1,5 +1,5 @@
-//! A second program for document 01, written from the papers alone, to check another one against.
-//! Straight loops in the order of the document; nothing here is made to be fast.
+//! A second program for document 01 and K2 of document 02, written from the papers alone, to check another
+//! one against. Straight loops in the order of the document; nothing here is made to be fast.
 
 pub mod calls;
 pub mod cases;
@@ -14,6 +14,7 @@ pub mod lent;
 pub mod loops;
 pub mod numbers;
 pub mod oddities;
+pub mod parts;
 pub mod read;
 pub mod rng;
 pub mod script;

@@ -1,8 +1,9 @@
-//! The published loops: all tasks in number order, without calls, workers or readiness.
+//! The published loops: all tasks in number order, without calls, workers or readiness. The old loops are
+//! those in which the diagonal tile is one thing.
 
 use crate::lent::{DONE, FAILED, SPOILED, WAITING};
 use crate::solve::{outcome, Outcome};
-use crate::tasks::table;
+use crate::tasks::{old_table, table, Table};
 use crate::tile::{fill, work_column, Shape};
 
 /// What the loops leave behind.
@@ -14,7 +15,15 @@ pub struct Final {
 }
 
 pub fn published_loops(shape: Shape, system: &[f64]) -> Final {
-    let table = table(shape.tiles);
+    loops(table(shape.tiles), shape, system)
+}
+
+pub fn old_loops(shape: Shape, system: &[f64]) -> Final {
+    loops(old_table(shape.tiles), shape, system)
+}
+
+/// The table says which marks make a task spoiled.
+fn loops(table: &Table, shape: Shape, system: &[f64]) -> Final {
     let mut matrix = system.to_vec();
     let mut lists = vec![0; shape.lists_length()];
     let mut marks = vec![WAITING; table.tasks.len()];

@@ -23,8 +23,8 @@ fn main() {
         Some("files") => lines(all_texts(seed(&arguments)).into_iter()),
         Some("vectors") => script(Options {
             seed: seed(&arguments),
-            calls: option(&arguments, "--calls", 2800),
-            max_bytes: option(&arguments, "--max-bytes", 1_500_000),
+            calls: option(&arguments, "--calls", 3200),
+            max_bytes: option(&arguments, "--max-bytes", 1_600_000),
         }),
         _ => {
             eprintln!("reference: see README.md for the subcommands");

@@ -154,7 +154,7 @@ fn spoil_element(rng: &mut Rng, shape: Shape, workers: usize, lent: &mut Lent) {
     if let Some(worker) = busy_worker(workers, lent) {
         let held = lent.workers[worker].task as usize;
         if held < lent.records.len() && rng.percent(70) {
-            let touched = table(shape.tiles).tasks[held].touches();
+            let touched = table(shape.tiles).tasks[held].whole_uses().touched();
             if let Thing::Tile(i, j) = rng.pick(&touched) {
                 place = shape.element(i, j, rng.below(shape.side), rng.below(shape.side));
             }

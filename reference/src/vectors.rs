@@ -1,5 +1,5 @@
-//! Writes scripts for the player by playing them: walks through random and crafted systems, odd and
-//! damaged states, wrong sizes and lengths.
+//! Writes scripts for the player by playing them: walks through random and crafted systems, the parts of
+//! the diagonal tile, odd and damaged states, wrong sizes and lengths.
 
 use crate::crafted::{all_crafted, Crafted};
 use crate::families::{not_finite, numbers, FAMILIES};
@@ -21,6 +21,7 @@ pub fn script(options: Options) -> String {
     writer.nothing_lent();
     writer.large_systems();
     writer.crafted_systems();
+    writer.diagonal_parts();
     writer.damaged_systems();
     while !writer.is_full() {
         match writer.rng.below(10) {

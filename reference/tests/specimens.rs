@@ -1,6 +1,6 @@
-//! The specimens of document 01, by calls and by the published loops.
+//! The specimens of document 01, with K2's links, by calls and by the published loops.
 
-use reference::calls::{opening, run, take, Run};
+use reference::calls::{column, opening, run, take, Run};
 use reference::crafted::tile_order;
 use reference::lent::{Lent, Record, Refusal, Sizes, IDLE, SLOTS};
 use reference::loops::published_loops;
@@ -108,8 +108,8 @@ fn p7_sizes_out_of_range() {
 fn p8_links() {
     let count = |tiles: usize| table(tiles).links.iter().map(Vec::len).sum::<usize>();
     assert_eq!(count(1), 0);
-    assert_eq!(count(2), 4);
-    assert_eq!(count(3), 19);
+    assert_eq!(count(2), 5);
+    assert_eq!(count(3), 21);
 }
 
 #[test]
@@ -122,4 +122,20 @@ fn task_1_first_is_not_ready() {
 fn budget_0_is_spent() {
     let (told, mut lent) = opened(2, 1, &[1.0, 2.0, 4.0, 4.0]);
     assert_eq!(run(told, &mut lent, 0), Ok(Run::Spent(0)));
+}
+
+/// T-3 waits for T-1 alone, T-4 for T-2 and T-3.
+#[test]
+fn task_2_right_after_task_0() {
+    let (told, mut lent) = opened(2, 1, &[1.0, 2.0, 4.0, 4.0]);
+    assert_eq!(take(told, &mut lent, 0, 2), Err(Refusal { number: 7, place: 2 }));
+    for task in [0, 2] {
+        take(told, &mut lent, 0, task).expect("a ready task");
+        column(told, &mut lent, 0).expect("a column");
+    }
+    assert_eq!(reference::solve::marks(&lent), [2, 0, 2, 0, 0]);
+    assert_eq!(take(told, &mut lent, 0, 3), Err(Refusal { number: 7, place: 3 }));
+    assert_eq!(run(told, &mut lent, u64::MAX), Ok(Run::Finished(6)));
+    assert_eq!(lent.matrix, [4.0, 4.0, 0.25, 1.0]);
+    assert_eq!(lent.lists, [0, 0, 1, 0]);
 }

@@ -3,19 +3,22 @@
 use Prim.Native.Nat.{ℕ, _+_, _*_, _≤_, _<_}
 use mathlib.Core.Bool.{Bool, true, false, cond}
 use mathlib.Core.Path.{_≡_, refl, ap, _∙_, subst}
-use mathlib.Core.List.{List, _∷_}
+use mathlib.Core.List.{List, [], _∷_}
 use lib.Dec.{eqb}
+use lib.Ieee.{Float}
 use Rattle.model.specs.Lists.{some, every}
 use Rattle.model.specs.Num.{finite}
 use Rattle.model.specs.Column.{factorColumn, factorComputes, applyColumn, applyComputes, coupleColumn, coupleComputes, pairColumn, pairComputes}
-use Rattle.model.specs.Task.{Task, T-1, T-2, T-3, T-4, Place, A, list, tasks, touches, writes, reads}
+use Rattle.model.specs.Task.{Task, T-1, T-2, T-3, T-4, Place, A, low, list, lowOf, touches, writes, reads}
 use Rattle.model.specs.Links.{task}
 use Rattle.model.specs.Tile.{upperFilled}
 use Rattle.order_free.specs.Below.{set}
 use Rattle.order_free.specs.System.{Laws}
 use Rattle.laws.proofs.Tests.{never, or-false}
-use Rattle.cells.specs.Cells.{Val, tileAt, listAt, cellOf, atCell, putTile, putFactored, putCoupled, putPaired, putZeros, factorIn, coupleIn, pairIn, workedAt, computedAt, soundAt, filledAt, system}
+use Rattle.laws.proofs.Each.{Each}
+use Rattle.cells.specs.Cells.{Val, tileAt, lowAt, listAt, cellOf, atCell, putTile, putLow, putLowOf, putFactored, putCoupled, putPaired, putZeros, factorIn, coupleIn, pairIn, workedAt, computedAt, soundAt, filledAt, system}
 use Rattle.cells.proofs.Members.{Member, first, later}
+use Rattle.cells.proofs.Valid.{Valid}
 use Rattle.cells.proofs.Places.{touched-proper, proper-in, at-member, member-at, writes-touch}
 
 module _ (N t : ℕ) where
@@ -33,27 +36,40 @@ module _ (N t : ℕ) where
   unfolding atCell some
   rest x xs r e = or-false (eqb (cellOf N x) r) (some (λ y. eqb (cellOf N y) r) xs) e .1
 
+  -- a cell that is not the strictly lower part's stays
+  low-skip : (i j : ℕ) (a : List Float) (σ : ℕ → Val) (r : ℕ) → atCell N (lowOf i j) r ≡ false → putLowOf N t i j a σ r ≡ σ r
+  unfolding lowOf
+  low-skip i j a σ r = go (eqb i j)
+    where
+      go : (b : Bool) → atCell N (cond b (low i ∷ []) []) r ≡ false → cond b (putLow N t i a σ r) (σ r) ≡ σ r
+      go true e = skip σ (lowAt N i) r _ (apart _ _ _ e)
+      go false e = refl
+
   worked-frame : (a : Task) (c : ℕ) (σ : ℕ → Val) (r : ℕ) → atCell N (writes a) r ≡ false → workedAt N t a c σ r ≡ σ r
   unfolding workedAt writes
   worked-frame (T-1 k) c σ r e =
-      skip _ (tileAt N k k) r _ (apart _ _ _ e) ∙ skip _ (listAt N k k) r _ (apart _ _ _ (rest _ _ _ e))
+      skip _ (tileAt N k k) r _ (apart _ _ _ e) ∙ skip _ (lowAt N k) r _ (apart _ _ _ (rest _ _ _ e))
+      ∙ skip _ (listAt N k k) r _ (apart _ _ _ (rest _ _ _ (rest _ _ _ e)))
   worked-frame (T-2 k j) c σ r e = skip _ (tileAt N k j) r _ (apart _ _ _ e)
   worked-frame (T-3 k i) c σ r e =
       skip _ (tileAt N k k) r _ (apart _ _ _ e) ∙ skip _ (tileAt N i k) r _ (apart _ _ _ (rest _ _ _ e))
       ∙ skip _ (listAt N i k) r _ (apart _ _ _ (rest _ _ _ (rest _ _ _ e)))
   worked-frame (T-4 k i j) c σ r e =
       skip _ (tileAt N k j) r _ (apart _ _ _ e) ∙ skip _ (tileAt N i j) r _ (apart _ _ _ (rest _ _ _ e))
+      ∙ low-skip i j _ σ r (rest _ _ _ (rest _ _ _ e))
 
   filled-frame : (a : Task) (σ : ℕ → Val) (r : ℕ) → atCell N (writes a) r ≡ false → filledAt N t a σ r ≡ σ r
   unfolding filledAt writes
   filled-frame (T-1 k) σ r e =
-      skip _ (tileAt N k k) r _ (apart _ _ _ e) ∙ skip _ (listAt N k k) r _ (apart _ _ _ (rest _ _ _ e))
+      skip _ (tileAt N k k) r _ (apart _ _ _ e) ∙ skip _ (lowAt N k) r _ (apart _ _ _ (rest _ _ _ e))
+      ∙ skip _ (listAt N k k) r _ (apart _ _ _ (rest _ _ _ (rest _ _ _ e)))
   filled-frame (T-2 k j) σ r e = skip _ (tileAt N k j) r _ (apart _ _ _ e)
   filled-frame (T-3 k i) σ r e =
       skip _ (tileAt N k k) r _ (apart _ _ _ e) ∙ skip _ (tileAt N i k) r _ (apart _ _ _ (rest _ _ _ e))
       ∙ skip _ (listAt N i k) r _ (apart _ _ _ (rest _ _ _ (rest _ _ _ e)))
   filled-frame (T-4 k i j) σ r e =
       skip _ (tileAt N k j) r _ (apart _ _ _ e) ∙ skip _ (tileAt N i j) r _ (apart _ _ _ (rest _ _ _ e))
+      ∙ low-skip i j _ σ r (rest _ _ _ (rest _ _ _ e))
 
   -- ---- locality: the cells that a task reads are the same, so all that it does with them is
 
@@ -68,13 +84,13 @@ module _ (N t : ℕ) where
     unfolding touches reads
     same-factor k h =
         let a : σ (tileAt N k k) ≡ τ (tileAt N k k) = agree (T-1 k) h (A k k) first in
-        let p : σ (listAt N k k) ≡ τ (listAt N k k) = agree (T-1 k) h (list k k) (later first) in
+        let p : σ (listAt N k k) ≡ τ (listAt N k k) = agree (T-1 k) h (list k k) (later (later first)) in
         λ i. record { tile = a i .floats; rows = p i .bytes }
 
     same-apply : (k j : ℕ) → Agrees (T-2 k j) σ τ
-        → (σ (tileAt N k k) ≡ τ (tileAt N k k)) × (σ (listAt N k k) ≡ τ (listAt N k k)) × (σ (tileAt N k j) ≡ τ (tileAt N k j))
+        → (σ (lowAt N k) ≡ τ (lowAt N k)) × (σ (listAt N k k) ≡ τ (listAt N k k)) × (σ (tileAt N k j) ≡ τ (tileAt N k j))
     unfolding touches reads
-    same-apply k j h = (agree (T-2 k j) h (A k k) first, agree (T-2 k j) h (list k k) (later first), agree (T-2 k j) h (A k j) (later (later first)))
+    same-apply k j h = (agree (T-2 k j) h (low k) first, agree (T-2 k j) h (list k k) (later first), agree (T-2 k j) h (A k j) (later (later first)))
 
     same-couple : (k i : ℕ) → Agrees (T-3 k i) σ τ → coupleIn N t k i σ ≡ coupleIn N t k i τ
     unfolding touches reads
@@ -122,16 +138,16 @@ module _ (N t : ℕ) where
         λ i. putTile N t k k (upperFilled t (putZeros N t m k (λ q. a i) (tileAt N k k) .floats)) (putZeros N t m k (λ q. e i)) r
     filled-local (T-4 k m j) h r e = λ i. filledAt N t (T-4 k m j) (λ q. e i) r
 
-  pub system-laws : 1 ≤ t → Laws (system N t)
-  system-laws ht = record {
-    in-range = λ p r h e. let (x, m, q) = at-member N (touches (task (tasks N) p)) r e in subst (λ (y : ℕ). y < N * N + N * N) q
-        (proper-in N x (touched-proper N p h x m));
-    writes-touches = λ p r h e. writes-touch N (task (tasks N) p) r e;
+  pub system-laws : (ts : List Task) → Each (Valid N) ts → 1 ≤ t → Laws (system N t ts)
+  system-laws ts va ht = record {
+    in-range = λ p r h e. let (x, m, q) = at-member N (touches (task ts p)) r e in subst (λ (y : ℕ). y < N * N + N + N * N) q
+        (proper-in N x (touched-proper N ts va p h x m));
+    writes-touches = λ p r h e. writes-touch N (task ts p) r e;
     has-column = λ p h. ht;
     omitted-touches = λ p r h e. never e refl;
-    frame-col = λ p c σ r h l e. worked-frame (task (tasks N) p) c σ r e;
-    frame-fill = λ p σ r h e. filled-frame (task (tasks N) p) σ r e;
-    local-ok = λ p c σ τ h l a. sound-local σ τ (task (tasks N) p) c a;
-    local-col = λ p c σ τ h l a r e. worked-local σ τ (task (tasks N) p) c a r (a r (writes-touch N (task (tasks N) p) r e));
-    local-fill = λ p σ τ h a r e. filled-local σ τ (task (tasks N) p) a r (a r (writes-touch N (task (tasks N) p) r e));
+    frame-col = λ p c σ r h l e. worked-frame (task ts p) c σ r e;
+    frame-fill = λ p σ r h e. filled-frame (task ts p) σ r e;
+    local-ok = λ p c σ τ h l a. sound-local σ τ (task ts p) c a;
+    local-col = λ p c σ τ h l a r e. worked-local σ τ (task ts p) c a r (a r (writes-touch N (task ts p) r e));
+    local-fill = λ p σ τ h a r e. filled-local σ τ (task ts p) a r (a r (writes-touch N (task ts p) r e));
   }

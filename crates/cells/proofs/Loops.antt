@@ -9,7 +9,7 @@ use native.Mathlib.Omega.{arith}
 use lib.Ieee.{Float}
 use lib.ListN.{length, length-set, length-replicate}
 use Rattle.model.specs.Lists.{run, below, inTurn}
-use Rattle.model.specs.Task.{Task, tasks}
+use Rattle.model.specs.Task.{Task}
 use Rattle.model.specs.Plan.{Plan, plan}
 use Rattle.model.specs.Links.{task, mark}
 use Rattle.model.specs.Links as ML
@@ -22,8 +22,10 @@ use Rattle.order_free.specs.Graph.{Mark, spoils}
 use Rattle.order_free.specs.Graph as G
 use Rattle.order_free.specs.Loops.{TaskEnd, Swept, loops}
 use Rattle.order_free.specs.Loops as OL
-use Rattle.cells.specs.Cells.{Val, view, system}
+use Rattle.laws.proofs.Each.{Each}
+use Rattle.cells.specs.Cells.{Val, view, planFor, system}
 use Rattle.cells.proofs.Elements.{getD-same}
+use Rattle.cells.proofs.Valid.{Valid}
 use Rattle.cells.proofs.View.{Same}
 use Rattle.cells.proofs.Columns.{worked-same, filled-same, sound-same}
 use Rattle.cells.proofs.Marks.{toMark, marks-set}
@@ -35,22 +37,31 @@ unfolding inTurn run
 in-turn-last f a zero s = ap (λ (k : ℕ). f k s) (sym (add-zero a))
 in-turn-last f a (suc n) s = in-turn-last f (suc a) n (f a s) ∙ ap (λ (k : ℕ). f k (inTurn f (run (suc a) n) (f a s))) (suc-add a n ∙ sym (add-suc a n))
 
-module _ (N t : ℕ) where
+module _ (N t : ℕ) (m : List Float) where
+  -- the cells that the loops start from
+  unfoldable pub σ₀ : ℕ → Val
+  σ₀ = view N t (start (plan N t) m .buffers)
+
+  pub start-same : length m ≡ N * N * (t * t) → Same N t (start (plan N t) m .buffers) σ₀
+  unfolding start plan σ₀
+  start-same hm = (record { matrix = hm; lists = length-replicate (N * N * t) 0 }, refl)
+
+module _ (N t : ℕ) (ts : List Task) where
   abbrev S : System
-  S = system N t
+  S = system N t ts
 
   abbrev z : Plan
-  z = plan N t
+  z = planFor N t ts
 
   abbrev count : ℕ
-  count = length (tasks N)
+  count = length ts
 
   abbrev tk : ℕ → Task
-  tk p = task (tasks N) p
+  tk p = task ts p
 
-  -- ---- a task
+  -- ---- what is left in the model, and in the system
 
-  -- what a task or a column left in the model, and in the system
+  -- by a task or a column
   pub record Ends (e : Ended) (o : TaskEnd S) : Type 0 where
     pub left : Same N t (e .left) (o .cells)
     pub mark : toMark (e .mark) ≡ o .mark
@@ -62,64 +73,62 @@ module _ (N t : ℕ) where
   either-ends true b' e x y u v p q = subst (λ (c : Bool). Ends x (cond c u v)) e p
   either-ends false b' e x y u v p q = subst (λ (c : Bool). Ends y (cond c u v)) e q
 
-  columns-run : (n c p : ℕ) → p < count → (s : Buffers) (σ : ℕ → Val) → Same N t s σ → Ends (columns z n c (tk p) s) (OL.run S p c n σ)
-  unfolding columns OL.run
-  columns-run zero c p h s σ w = record { left = w; mark = refl; begun = omega arith; most = omega arith }
-  columns-run (suc n) c p h s σ w =
-      let w' : Same N t (worked z (tk p) c s) (S .col p c σ) = worked-same N t p h s σ w c in
-      either-ends (sound z (tk p) c s) (S .ok p c σ) (sound-same N t p h s σ w c) _ _ (OL.run S p (suc c) n (S .col p c σ))
-      (record { cells = S .fill p (S .col p c σ); mark = G.failed })
-      (columns-run n (suc c) p h (worked z (tk p) c s) (S .col p c σ) w')
-      (record { left = filled-same N t p h _ _ w'; mark = refl; begun = omega arith; most = omega arith })
-
-  -- ---- the loops
-
+  -- by the loops so far
   pub record Matches (s : State) (x : Swept S) : Type 0 where
     pub cells : Same N t (s .buffers) (x .cells)
     pub marks : (λ (p : ℕ). toMark (mark (s .marks) p)) ≡ x .marks
     pub long : length (s .marks) ≡ count
 
-  ended-task : (p : ℕ) → p < count → (s : State) (x : Swept S) → Matches s x → Ends (ended z s p) (OL.task S p (x .marks) (x .cells))
-  unfolding ended OL.task plan
-  ended-task p h s x m =
-      either-ends (ML.spoils (tasks N) (s .marks) p) (spoils S (x .marks) p)
-      (sym (spoils-is N t (s .marks) p h) ∙ ap (λ (f : ℕ → Mark). spoils S f p) (m .marks))
-      _ _ (record { cells = S .fill p (x .cells); mark = G.spoiled }) (OL.run S p zero t (x .cells))
-      (record { left = filled-same N t p h _ _ (m .cells); mark = refl; begun = omega arith; most = omega arith })
-      (columns-run t 0 p h (s .buffers) (x .cells) (m .cells))
+  module _ (va : Each (Valid N) ts) where
+    -- ---- a task
 
-  performed-step : (p : ℕ) → p < count → (s : State) (x : Swept S) → Matches s x
-      → Matches (performed z p s) (record { cells = OL.task S p (x .marks) (x .cells) .cells; marks = set (x .marks) p (OL.task S p (x .marks) (x .cells) .mark) })
-  unfolding performed
-  performed-step p h s x m =
-      let e : Ends (ended z s p) (OL.task S p (x .marks) (x .cells)) = ended-task p h s x m in
-      record {
-        cells = e .left;
-        marks = marks-set (s .marks) p (ended z s p .mark) (subst (λ (k : ℕ). p < k) (sym (m .long)) h) ∙ (λ i. set (m .marks i) p (e .mark i));
-        long = length-set (s .marks) p (ended z s p .mark) ∙ m .long;
-      }
+    columns-run : (n c p : ℕ) → p < count → (s : Buffers) (σ : ℕ → Val) → Same N t s σ → Ends (columns z n c (tk p) s) (OL.run S p c n σ)
+    unfolding columns OL.run
+    columns-run zero c p h s σ w = record { left = w; mark = refl; begun = omega arith; most = omega arith }
+    columns-run (suc n) c p h s σ w =
+        let w' : Same N t (worked z (tk p) c s) (S .col p c σ) = worked-same N t ts va p h s σ w c in
+        either-ends (sound z (tk p) c s) (S .ok p c σ) (sound-same N t ts va p h s σ w c) _ _ (OL.run S p (suc c) n (S .col p c σ))
+        (record { cells = S .fill p (S .col p c σ); mark = G.failed })
+        (columns-run n (suc c) p h (worked z (tk p) c s) (S .col p c σ) w')
+        (record { left = filled-same N t ts va p h _ _ w'; mark = refl; begun = omega arith; most = omega arith })
 
-  module _ (m : List Float) (hm : length m ≡ N * N * (t * t)) where
-    -- the cells that the loops start from
-    unfoldable pub σ₀ : ℕ → Val
-    σ₀ = view N t (start z m .buffers)
+    ended-task : (p : ℕ) → p < count → (s : State) (x : Swept S) → Matches s x → Ends (ended z s p) (OL.task S p (x .marks) (x .cells))
+    unfolding ended OL.task
+    ended-task p h s x m =
+        either-ends (ML.spoils ts (s .marks) p) (spoils S (x .marks) p)
+        (sym (spoils-is N t ts va (s .marks) p h) ∙ ap (λ (f : ℕ → Mark). spoils S f p) (m .marks))
+        _ _ (record { cells = S .fill p (x .cells); mark = G.spoiled }) (OL.run S p zero t (x .cells))
+        (record { left = filled-same N t ts va p h _ _ (m .cells); mark = refl; begun = omega arith; most = omega arith })
+        (columns-run t 0 p h (s .buffers) (x .cells) (m .cells))
 
-    pub start-same : Same N t (start z m .buffers) σ₀
-    unfolding start plan σ₀
-    start-same = (record { matrix = hm; lists = length-replicate (N * N * t) 0 }, refl)
+    -- ---- the loops
 
-    begin : Matches (inTurn (performed z) (run 0 0) (start z m)) (record { cells = σ₀; marks = λ p. G.waiting })
-    unfolding inTurn run start plan mark
-    begin = record { cells = start-same; marks = λ i p. toMark (getD-same count p 0 i); long = length-replicate count 0 }
+    performed-step : (p : ℕ) → p < count → (s : State) (x : Swept S) → Matches s x
+        → Matches (performed z p s)
+        (record { cells = OL.task S p (x .marks) (x .cells) .cells; marks = set (x .marks) p (OL.task S p (x .marks) (x .cells) .mark) })
+    unfolding performed
+    performed-step p h s x m =
+        let e : Ends (ended z s p) (OL.task S p (x .marks) (x .cells)) = ended-task p h s x m in
+        record {
+          cells = e .left;
+          marks = marks-set (s .marks) p (ended z s p .mark) (subst (λ (k : ℕ). p < k) (sym (m .long)) h) ∙ (λ i. set (m .marks i) p (e .mark i));
+          long = length-set (s .marks) p (ended z s p .mark) ∙ m .long;
+        }
 
-    sweep : (k : ℕ) → k ≤ count → Matches (inTurn (performed z) (run 0 k) (start z m)) (loops S k σ₀)
-    unfolding loops
-    sweep zero h = begin
-    sweep (suc k) h =
-        let s : State = inTurn (performed z) (run 0 k) (start z m) in
-        subst (λ (y : State). Matches y (loops S (suc k) σ₀)) (sym (in-turn-last (performed z) 0 k (start z m) ∙ ap (λ (q : ℕ). performed z q s) (zero-add k)))
-        (performed-step k h s (loops S k σ₀) (sweep k (omega arith)))
+    module _ (m : List Float) (hm : length m ≡ N * N * (t * t)) where
+      begin : Matches (inTurn (performed z) (run 0 0) (start z m)) (record { cells = σ₀ N t m; marks = λ p. G.waiting })
+      unfolding inTurn run start plan mark
+      begin = record { cells = start-same N t m hm; marks = λ i p. toMark (getD-same count p 0 i); long = length-replicate count 0 }
 
-    pub loops-match : Matches (M.loops z m) (loops S count σ₀)
-    unfolding M.loops below plan
-    loops-match = sweep count (omega arith)
+      sweep : (k : ℕ) → k ≤ count → Matches (inTurn (performed z) (run 0 k) (start z m)) (loops S k (σ₀ N t m))
+      unfolding loops
+      sweep zero h = begin
+      sweep (suc k) h =
+          let s : State = inTurn (performed z) (run 0 k) (start z m) in
+          subst (λ (y : State). Matches y (loops S (suc k) (σ₀ N t m)))
+          (sym (in-turn-last (performed z) 0 k (start z m) ∙ ap (λ (q : ℕ). performed z q s) (zero-add k)))
+          (performed-step k h s (loops S k (σ₀ N t m)) (sweep k (omega arith)))
+
+      pub loops-match : Matches (M.loops z m) (loops S count (σ₀ N t m))
+      unfolding M.loops below
+      loops-match = sweep count (omega arith)

@@ -32,6 +32,7 @@ use Rattle.order_free.proofs.Tests.{set-here, set-there}
 use Rattle.laws.proofs.Tests.{same-or-not}
 use Rattle.cells.specs.Cells.{Val, view, system}
 use Rattle.cells.proofs.Elements.{map-set, getD-same}
+use Rattle.cells.proofs.Valid.{tasks-valid}
 use Rattle.cells.proofs.View.{Sized, Same}
 use Rattle.cells.proofs.Columns.{worked-same, filled-same, sound-same}
 use Rattle.cells.proofs.Marks.{toMark, big, marks-set, opened-marks}
@@ -40,8 +41,9 @@ use Rattle.cells.proofs.Loops.{Ends, either-ends, σ₀, start-same}
 
 -- ---- what is lent, as the machine's state
 
+-- the system of all tasks, and how many they are
 abbrev pub S : Sizes → System
-S z = system (z .tiles) (z .side)
+S z = system (z .tiles) (z .side) (tasks (z .tiles))
 
 abbrev pub count : Sizes → ℕ
 count z = length (tasks (z .tiles))
@@ -114,23 +116,26 @@ module _ (z : Sizes) where
   goes-on false = (refl, omega arith, omega arith)
 
   pub column-ends : (s : Lent) → Stated z s → (p c : ℕ) → p < count z
-      → Ends (z .tiles) (z .side) (columnOf (planOf z) s p c) (perform (S z) p c (marksFn s) (view (z .tiles) (z .side) (s .buffers)))
+      → Ends (z .tiles) (z .side) (tasks (z .tiles)) (columnOf (planOf z) s p c)
+      (perform (S z) p c (marksFn s) (view (z .tiles) (z .side) (s .buffers)))
   unfolding columnOf columnEnds perform plan
   column-ends s g p c h =
       let N = z .tiles in
       let t = z .side in
+      let ts = tasks N in
+      let va = tasks-valid N in
       let σ : ℕ → Val = view N t (s .buffers) in
       let w : Same N t (s .buffers) σ = (g .sized, refl) in
-      let w' = worked-same N t p h (s .buffers) σ w c in
+      let w' = worked-same N t ts va p h (s .buffers) σ w c in
       let on = goes-on (eqb (suc c) t) in
-      either-ends N t (eqb c 0 && ML.spoils (tasks N) (marksOf s) p) (eqb c 0 && spoils (S z) (marksFn s) p)
-      (ap (λ (b : Bool). eqb c 0 && b) (sym (spoils-is N t (marksOf s) p h)))
+      either-ends N t ts (eqb c 0 && ML.spoils ts (marksOf s) p) (eqb c 0 && spoils (S z) (marksFn s) p)
+      (ap (λ (b : Bool). eqb c 0 && b) (sym (spoils-is N t ts va (marksOf s) p h)))
       _ _ (record { cells = S z .fill p σ; mark = G.spoiled }) _
-      (record { left = filled-same N t p h _ _ w; mark = refl; begun = omega arith; most = omega arith })
-      (either-ends N t (sound (plan N t) (task (tasks N) p) c (s .buffers)) (S z .ok p c σ) (sound-same N t p h (s .buffers) σ w c)
+      (record { left = filled-same N t ts va p h _ _ w; mark = refl; begun = omega arith; most = omega arith })
+      (either-ends N t ts (sound (plan N t) (task ts p) c (s .buffers)) (S z .ok p c σ) (sound-same N t ts va p h (s .buffers) σ w c)
       _ _ (record { cells = S z .col p c σ; mark = cond (eqb (suc c) t) G.done G.taken }) (record { cells = S z .fill p (S z .col p c σ); mark = G.failed })
       (record { left = w'; mark = on .0; begun = on .1; most = on .2 })
-      (record { left = filled-same N t p h _ _ w'; mark = refl; begun = omega arith; most = omega arith }))
+      (record { left = filled-same N t ts va p h _ _ w'; mark = refl; begun = omega arith; most = omega arith }))
 
   -- the worker stays with its task or is freed alike
   worker-next : (m p c : ℕ) → 1 ≤ m → workerOf (cond (ML.finished m) MH.idle (holding p (suc c))) ≡ next (toMark m) p c
@@ -178,7 +183,7 @@ module _ (z : Sizes) where
           (z .workers) MH.idle;
     }
 
-    pub opened-is : abs z (opened (planOf z) (z .workers) m) ≡ OM.start (S z) (σ₀ (z .tiles) (z .side) m hm)
+    pub opened-is : abs z (opened (planOf z) (z .workers) m) ≡ OM.start (S z) (σ₀ (z .tiles) (z .side) m)
     unfolding abs opened plan OM.start σ₀ marksOf worker
     opened-is = λ i. record {
       cells = view (z .tiles) (z .side) (start (planOf z) m .buffers);

@@ -6,7 +6,7 @@ use Prim.Native.Nat.{ℕ, _*_}
 use lib.Ieee.{Float}
 use Rattle.model.specs.Lists.{every, part}
 use Rattle.model.specs.Tile.{allFinite}
-use Rattle.model.specs.Task.{T-1, T-2, T-3, T-4, Place, A, list, isList, reads, writes, touches}
+use Rattle.model.specs.Task.{T-1, T-2, T-3, T-4, Place, A, low, list, isList, reads, writes, touches}
 use Rattle.model.specs.Plan.{plan}
 use Rattle.model.specs.Buffer.{tile, tileOf, finiteIn, finiteTiles}
 use Rattle.laws.proofs.Tests.{and-left, and-right}
@@ -32,6 +32,10 @@ module _ (N t : ℕ) (m : List Float) (l : List ℕ) where
   unfolding fine plan finiteIn isList tileOf tile
   tile-fine i j h = h
 
+  low-fine : (k : ℕ) → fine (low k) ≡ true → FiniteAt k k
+  unfolding fine plan finiteIn isList tileOf tile
+  low-fine k h = h
+
   pub factor-touched : (k : ℕ) → finiteTiles (plan N t) (T-1 k) (record { matrix = m; lists = l }) ≡ true → FiniteAt k k
   unfolding finiteTiles touches reads writes fine
   factor-touched k h = tile-fine k k (first fine (A k k) _ h)
@@ -39,8 +43,8 @@ module _ (N t : ℕ) (m : List Float) (l : List ℕ) where
   pub apply-touched : (k j : ℕ) → finiteTiles (plan N t) (T-2 k j) (record { matrix = m; lists = l }) ≡ true → FiniteAt k k × FiniteAt k j
   unfolding finiteTiles touches reads writes fine
   apply-touched k j h =
-      let p = rest fine (list k k) _ (rest fine (A k k) _ h) in
-      (tile-fine k k (first fine (A k k) _ h), tile-fine k j (first fine (A k j) _ p))
+      let p = rest fine (list k k) _ (rest fine (low k) _ h) in
+      (low-fine k (first fine (low k) _ h), tile-fine k j (first fine (A k j) _ p))
 
   pub couple-touched : (k i : ℕ) → finiteTiles (plan N t) (T-3 k i) (record { matrix = m; lists = l }) ≡ true → FiniteAt k k × FiniteAt i k
   unfolding finiteTiles touches reads writes fine

@@ -18,6 +18,7 @@ use Rattle.order_free.specs.Graph.{is-waiting}
 use Rattle.order_free.specs.Machine.{Worker, is-idle, State, Call, take, column, start, effect, accepts, about, works-on, step, after, spent, ready}
 use Rattle.laws.proofs.Tests.{and-left, and-right, and-intro}
 use Rattle.cells.specs.Cells.{Val}
+use Rattle.cells.proofs.Valid.{tasks-valid}
 use Rattle.cells.proofs.Marks.{toMark}
 use Rattle.cells.proofs.Links.{ready-is}
 use Rattle.cells.proofs.Machine.{S, count, workerOf, busy-of, abs, took-is, advanced-is}
@@ -78,7 +79,7 @@ module _ (z : Sizes) (σ : ℕ → Val) (q : ℕ) where
   may-take s w p hw hb hp hr =
       let waits = is-waiting (toMark (mark (marksOf s) p)) in
       let links = ready (S z) (λ q. toMark (mark (marksOf s) q)) p in
-      let e : (waits && links) ≡ true = ready-is (z .tiles) (z .side) (marksOf s) p hp ∙ hr in
+      let e : (waits && links) ≡ true = ready-is (z .tiles) (z .side) (tasks (z .tiles)) (tasks-valid (z .tiles)) (marksOf s) p hp ∙ hr in
       and-intro _ _ (and-intro _ _ (and-intro _ _ (and-intro _ _ (lt-ltb w (z .workers) hw) (idle-of (worker s w) hb)) (lt-ltb p (count z) hp))
       (and-left waits links e)) (and-right waits links e)
 

@@ -24,7 +24,7 @@ use Rattle.laws.proofs.Tests.{never, and-left}
 use Rattle.cells.specs.Cells.{Val, view}
 use Rattle.demand.proofs.Single.{Single}
 use Rattle.cells.proofs.Choices.{either}
-use Rattle.cells.proofs.Valid.{Valid, task-valid}
+use Rattle.cells.proofs.Valid.{Valid, tasks-valid, task-valid}
 use Rattle.cells.proofs.View.{Sized, tile-cell, length-tile}
 use Rattle.cells.proofs.Kept.{Tiles, Rows, Long, worked-rows, worked-tiles}
 use Rattle.cells.proofs.Fills.{filled-rows, spoiled-tiles, failed-tiles}
@@ -85,7 +85,7 @@ module _ (z : Sizes) where
       t = z .side
 
       v : Valid N (task (tasks N) p)
-      v = task-valid N p hp
+      v = task-valid N (tasks N) (tasks-valid N) p hp
 
       on : TaskEnd (S z)
       on = record { cells = S z .col p c σ; mark = cond (eqb (suc c) t) G.done G.taken }

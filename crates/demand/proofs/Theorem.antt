@@ -10,7 +10,8 @@ use lib.ListN.{length}
 use lib.Seq.{ext-getD}
 use Rattle.model.specs.declared.Sizes.{Sizes}
 use Rattle.model.specs.declared.Answer.the-variants.{Accepted}
-use Rattle.model.specs.Plan.{planOf}
+use Rattle.model.specs.Task.{tasks}
+use Rattle.model.specs.Plan.{plan, planOf}
 use Rattle.model.specs.Links.{mark}
 use Rattle.model.specs.Links as ML
 use Rattle.model.specs.Loops.{outcome}
@@ -27,6 +28,7 @@ use Rattle.order_free.proofs.OrderFree.{order-free}
 use Rattle.cells.specs.Cells.{Val, view}
 use Rattle.laws.proofs.Every.{every-at}
 use Rattle.cells.proofs.Instance.{system-laws}
+use Rattle.cells.proofs.Valid.{tasks-valid}
 use Rattle.cells.proofs.View.{same-buffers}
 use Rattle.cells.proofs.Marks.{toMark, finished-is, finished-most, mark-same}
 use Rattle.cells.proofs.Loops.{Matches, σ₀, loops-match}
@@ -48,7 +50,7 @@ module _ (z : Sizes) (m : List Float) (hm : length m ≡ z .tiles * z .tiles * (
   t = z .side
 
   -- where every task is finished, order_free's theorem gives the cells and the marks
-  the-end : (q n : ℕ) (s : Lent) → Reach z (σ₀ N t m hm) q n s → allFinished (planOf z) s ≡ true → stateOf s ≡ M.loops (planOf z) m
+  the-end : (q n : ℕ) (s : Lent) → Reach z (σ₀ N t m) q n s → allFinished (planOf z) s ≡ true → stateOf s ≡ M.loops (planOf z) m
   unfolding stateOf allFinished abs mark
   the-end q n s r e = λ i. record {
     buffers = same-buffers N t (s .buffers) (M.loops (planOf z) m .buffers) (r .whole .stated .sized)
@@ -56,11 +58,11 @@ module _ (z : Sizes) (m : List Float) (hm : length m ≡ z .tiles * z .tiles * (
     marks = same-list i;
   }
     where
-      match : Matches N t (M.loops (planOf z) m) (loops (S z) (count z) (σ₀ N t m hm))
-      match = loops-match N t m hm
+      match : Matches N t (tasks N) (M.loops (planOf z) m) (loops (S z) (count z) (σ₀ N t m))
+      match = unfold plan in (loops-match N t (tasks N) (tasks-valid N) m hm)
 
-      theorem : T.OrderFree (S z) (z .workers) (σ₀ N t m hm) (r .calls)
-      theorem = order-free (S z) (system-laws N t (in-range z (r .whole .fit) .some-side)) (z .workers) (σ₀ N t m hm) (r .calls)
+      theorem : T.OrderFree (S z) (z .workers) (σ₀ N t m) (r .calls)
+      theorem = order-free (S z) (system-laws N t (tasks N) (tasks-valid N) (in-range z (r .whole .fit) .some-side)) (z .workers) (σ₀ N t m) (r .calls)
 
       long : length (marksOf s) ≡ count z
       long = length-marks z s (r .whole .stated)
@@ -68,7 +70,7 @@ module _ (z : Sizes) (m : List Float) (hm : length m ≡ z .tiles * z .tiles * (
       done : (p : ℕ) → p < count z → ML.finished (mark (marksOf s) p) ≡ true
       done p h = every-at ML.finished (marksOf s) 0 p e (subst (λ (k : ℕ). p < k) (sym long) h)
 
-      ended : (p : ℕ) → p < count z → finished (T.end (S z) (z .workers) (σ₀ N t m hm) (r .calls) .marks p) ≡ true
+      ended : (p : ℕ) → p < count z → finished (T.end (S z) (z .workers) (σ₀ N t m) (r .calls) .marks p) ≡ true
       ended p h = ap (λ x. finished (x .marks p)) (sym (r .is)) ∙ finished-is (mark (marksOf s) p) ∙ done p h
 
       same-view : view N t (s .buffers) ≡ view N t (M.loops (planOf z) m .buffers)
@@ -92,7 +94,7 @@ module _ (z : Sizes) (s : Lent) (cs : List Call) (e : openCall z s .answer ≡ A
   o = opened-by z s e
 
   cells : ℕ → Val
-  cells = σ₀ (z .tiles) (z .side) (s .buffers .matrix) (o .long)
+  cells = σ₀ (z .tiles) (z .side) (s .buffers .matrix)
 
   -- what any calls leave is reached
   reached : (q : ℕ) → Reach z cells q (0 + spentOn q cs (openCall z s .left)) (end z s cs)
@@ -115,7 +117,8 @@ module _ (z : Sizes) (s : Lent) (cs : List Call) (e : openCall z s .answer ≡ A
   few-calls : (q : ℕ) → spentOn q cs (openCall z s .left) ≤ z .side + 1
   few-calls q =
       let r = reached q in
-      let b = order-free (S z) (system-laws (z .tiles) (z .side) (in-range z (o .fit) .some-side)) (z .workers) cells (r .calls) .at-most q in
+      let laws = system-laws (z .tiles) (z .side) (tasks (z .tiles)) (tasks-valid (z .tiles)) (in-range z (o .fit) .some-side) in
+      let b = order-free (S z) laws (z .workers) cells (r .calls) .at-most q in
       omega (arith, r .made, b)
 
   pub demand-3 : Demand3 z s cs

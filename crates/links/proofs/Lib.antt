@@ -2,10 +2,13 @@ pub mod Rows
 pub mod Numbering
 pub mod Order
 pub mod Places
+pub mod Kept
 pub mod Clashes
 pub mod Triples
 pub mod Links
-pub mod Ready
 pub mod Writers
-pub mod Spoils
+pub mod Direct
+pub mod Neighbours
+pub mod Counts
+pub mod Tests
 pub mod Summary

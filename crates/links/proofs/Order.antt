@@ -109,7 +109,7 @@ pub count-is : (N : ℕ) → offset N N ≡ taskCount N
 unfolding taskCount squares
 count-is N = let z : N - N ≡ 0 = omega arith in omega (arith, six-squares N, rw z at (offset-squares N N (omega arith)))
 
-offset-suc : (N k w : ℕ) → N - k ≡ w → offset N (suc k) ≡ offset N k + w * w
+pub offset-suc : (N k w : ℕ) → N - k ≡ w → offset N (suc k) ≡ offset N k + w * w
 unfolding offset
 offset-suc N k w e = rw e
 
@@ -182,7 +182,3 @@ module _ (N p : ℕ) (h : p < taskCount N) where
   -- its indices are in range
   pub task-within : Within N (task (tasks N) p)
   task-within = let (v, q) = back N p h in rw task-at (within-kind N (keyAt N p) (taskAt (keyAt N p)) v (kind (keyAt N p)))
-
-  -- no other number has this task
-  pub number-of : (a : Key) → task (tasks N) p ≡ taskAt a → p ≡ number N a
-  number-of a e = sym (back N p h .1) ∙ ap (number N) (sym key-at ∙ ap keyOf e ∙ key-of-task a)

@@ -1,22 +1,22 @@
 -- What is proved of every N, in one place: numbering, links, latest writers, readiness and spoiling in closed form are document 01's.
 -- Assumes nothing.
-use Prim.Native.Nat.{ℕ, _-_, _≤_, _<_}
+use Prim.Native.Nat.{ℕ, _+_, _-_, _*_, _/_, _≤_, _<_}
 use mathlib.Core.Bool.{true}
-use mathlib.Core.Path.{_≡_}
+use mathlib.Core.Path.{_≡_, sym, _∙_, subst}
 use mathlib.Core.Logic.{_↔_}
 use mathlib.Core.List.{List}
-use native.Mathlib.Omega.{arith}
 use lib.ListN.{length}
 use Rattle.model.specs.Task.{Place, tasks, taskCount}
-use Rattle.model.specs.Links.{task, linked, ready, spoils}
-use Rattle.links.specs.Closed.{Key, In, taskAt, offset, number, keyAt, Before, Linked, Last, readyAt, spoilsAt}
+use Rattle.model.specs.Links.{task, linked, linksTo, linkCount, latestWriters, ready, spoils}
+use Rattle.links.specs.Closed.{Key, In, taskAt, number, keyAt, Before, Linked, Last, linksAt, readyAt, spoilsAt}
 use Rattle.links.proofs.Numbering.{task-is}
-use Rattle.links.proofs.Order.{back, forth, number-fits, number-mono, before-of-number, length-tasks, offset-squares, six-squares, Within, task-within}
+use Rattle.links.proofs.Order.{back, forth, number-fits, number-mono, before-of-number, length-tasks, Within, task-within}
 use Rattle.links.proofs.Places.{Touches}
 use Rattle.links.proofs.Links.{links}
-use Rattle.links.proofs.Ready.{ready-is}
 use Rattle.links.proofs.Writers.{Latest, last-of, of-last}
-use Rattle.links.proofs.Spoils.{spoils-is}
+use Rattle.links.proofs.Direct as D
+use Rattle.links.proofs.Counts.{link-count}
+use Rattle.links.proofs.Tests.{ready-is, spoils-is}
 
 module _ (N : ℕ) where
   -- ---- numbering
@@ -37,11 +37,6 @@ module _ (N : ℕ) where
   pub fields-within : (p : ℕ) → p < taskCount N → Within N (task (tasks N) p)
   fields-within p h = task-within N p h
 
-  -- the stages before k have what the whole has and the stages from k on have not
-  pub offset-is : (k : ℕ) → k ≤ N → offset N k ≡ taskCount N - taskCount (N - k)
-  unfolding taskCount
-  offset-is k h = omega (arith, offset-squares N k h, six-squares N, six-squares (N - k))
-
   -- ---- links and latest writers
 
   pub links-are : (a b : Key) → In N a → In N b → number N a < number N b → (linked (tasks N) (number N a) (number N b) ≡ true) ↔ Linked a b
@@ -49,6 +44,25 @@ module _ (N : ℕ) where
 
   pub latest-is : (x : Place) (a b : Key) → In N a → In N b → Touches b x → Latest N x (number N a) (number N b) ↔ Last a b x
   latest-is x a b v w t = (last-of N x a b v w t, of-last N x a b v w)
+
+  -- the tasks linked to task b, and the latest writers of what it touches
+  pub links-list : (b : Key) → In N b → linksTo (tasks N) (number N b) ≡ linksAt N b
+  links-list b w = D.links-are N b w
+
+  pub writers-list : (b : Key) → In N b → latestWriters (tasks N) (number N b) ≡ linksAt N b
+  writers-list b w = D.writers-are N b w
+
+  -- so they are the same, and at most three
+  pub links-writers : (p : ℕ) → p < taskCount N → linksTo (tasks N) p ≡ latestWriters (tasks N) p
+  links-writers p h = let (w, e) = back N p h in rw e at (links-list (keyAt N p) w ∙ sym (writers-list (keyAt N p) w))
+
+  pub few-links : (p : ℕ) → p < taskCount N → length (linksTo (tasks N) p) ≤ 3
+  few-links p h =
+      let (w, e) = back N p h in
+      rw e at (subst (λ (xs : List ℕ). length xs ≤ 3) (sym (links-list (keyAt N p) w)) (D.few N (keyAt N p) w))
+
+  pub links-in-all : linkCount (tasks N) ≡ N * (N - 1) * (2 * N + 1) / 2
+  links-in-all = link-count N
 
   -- ---- the tests of marks
 

@@ -4,13 +4,13 @@ use mathlib.Core.Bool.{true}
 use mathlib.Core.Path.{_≡_, refl}
 use mathlib.Core.Logic.{_⊎_, inl, inr, _≢_}
 use native.Mathlib.Omega.{arith}
-use Rattle.model.specs.Task.{Place, A, list, writes, tasks, taskCount}
+use Rattle.model.specs.Task.{Place, A, low, list, writes, tasks, taskCount}
 use Rattle.model.specs.Links.{writer}
-use Rattle.links.specs.Closed.{Key, key, In, taskAt, number, keyAt, Before, by-stage, by-row, by-column, Last, last-own, last-upper, last-left, last-list}
+use Rattle.links.specs.Closed.{Key, key, In, taskAt, number, keyAt, Before, by-stage, by-row, by-column, Last, last-own, last-upper, last-left, last-list, last-own-low, last-left-low}
 use Rattle.laws.proofs.Tests.{same-or-not}
 use Rattle.links.proofs.Numbering.{task-is}
 use Rattle.links.proofs.Order.{back, number-fits, number-mono, before-of-number, Line, ahead, level, behind, line}
-use Rattle.links.proofs.Places.{among-elim, writes-of, of-writes, FromWrites, from-writes, Writes, w-own, w-upper, w-list, Touches, t-own, t-upper, t-left, t-list, row-of, column-of, sort-of}
+use Rattle.links.proofs.Places.{among-elim, writes-of, of-writes, FromWrites, from-writes, Writes, w-own, w-upper, w-list, w-low, Touches, t-own, t-upper, t-left, t-list, t-low, t-left-low, row-of, column-of, sort-of}
 
 -- the order by cases, for omega to prove
 abbrev FromBefore : Key → Key → Type 0 → Type 0
@@ -40,20 +40,26 @@ module _ (N : ℕ) (a b : Key) (v : In N a) (w : In N b) (x : Place) where
   pub last-writes : Last a b x → Writes a x
   last-writes (last-own p e f g) = w-own (cc)
   last-writes (last-upper p e f g) = w-upper (cc)
-  last-writes (last-left p e f g h) = w-own (cc)
+  last-writes (last-left p e f g h o) = w-own (cc)
   last-writes (last-list p e f g h) = w-list (omega arith) (cc)
+  last-writes (last-own-low p o e f g) = w-low (omega arith) (cc)
+  last-writes (last-left-low p o e f g h) = w-low (omega arith) (cc)
 
   pub last-touches : Last a b x → Touches b x
   last-touches (last-own p e f g) = t-own p
   last-touches (last-upper p e f g) = t-upper p
-  last-touches (last-left p e f g h) = t-left p
+  last-touches (last-left p e f g h o) = t-left (λ q. omega arith) p
   last-touches (last-list p e f g h) = t-list p
+  last-touches (last-own-low p o e f g) = t-low o p
+  last-touches (last-left-low p o e f g h) = t-left-low o p
 
   pub last-before : Last a b x → Before a b
   last-before (last-own p e f g) = by-stage (omega arith)
   last-before (last-upper p e f g) = by-row e (omega arith)
-  last-before (last-left p e f g h) = by-column e f (omega arith)
+  last-before (last-left p e f g h o) = by-column e f (omega arith)
   last-before (last-list p e f g h) = by-column e f (omega arith)
+  last-before (last-own-low p o e f g) = by-stage (omega arith)
+  last-before (last-left-low p o e f g h) = by-column e (omega arith) (omega arith)
 
   -- no task between writes x
   pub last-alone : Last a b x → (r : Key) → In N r → Writes r x → Before a r → Before r b → ⊥
@@ -66,6 +72,7 @@ module _ (N : ℕ) (a b : Key) (v : In N a) (w : In N b) (x : Place) where
             λ s o q. omega (arith, before-at-tile a r d (omega arith) (omega arith), before-at-tile r b d' (omega arith) (omega arith)),
             λ s o q. omega (arith, before-below r b d' (omega arith) (omega arith)),
             omega (arith, sort-of p),
+            omega (arith, sort-of p),
           )
       go m n (last-upper p e f g) =
           let y = row-of p in
@@ -73,18 +80,30 @@ module _ (N : ℕ) (a b : Key) (v : In N a) (w : In N b) (x : Place) where
             λ s o q. omega (arith, before-below a r d (omega arith) (omega arith)),
             λ s o q. omega (arith, before-below a r d (omega arith) (omega arith), before-below r b d' (omega arith) (omega arith)),
             omega (arith, sort-of p),
+            omega (arith, sort-of p),
           )
-      go m n (last-left p e f g h) =
+      go m n (last-left p e f g h o) =
           let y = row-of p in
           let z = column-of p in (
             λ s o q. omega (arith, before-at-tile a r d (omega arith) (omega arith)),
             λ s o q. omega (arith, before-below a r d (omega arith) (omega arith), before-row r b d' (omega arith)),
             omega (arith, sort-of p),
+            omega (arith, sort-of p),
           )
       go m n (last-list p e f g h) =
           let y = row-of p in
           let z = column-of p in
-          (omega (arith, sort-of p), omega (arith, sort-of p), λ i s o q. omega (arith, before-at-tile a r d (omega arith) (omega arith)))
+          (omega (arith, sort-of p), omega (arith, sort-of p), λ i s o q. omega (arith, before-at-tile a r d (omega arith) (omega arith)), omega (arith, sort-of p))
+      go m n (last-own-low p o e f g) =
+          let y = row-of p in (
+            omega (arith, sort-of p),
+            omega (arith, sort-of p),
+            omega (arith, sort-of p),
+            λ i s l. omega (arith, before-at-tile a r d (omega arith) (omega arith), before-at-tile r b d' (omega arith) (omega arith)),
+          )
+      go m n (last-left-low p o e f g h) =
+          let y = row-of p in
+          (omega (arith, sort-of p), omega (arith, sort-of p), omega (arith, sort-of p), λ i s l. omega (arith, before-at-tile a r d (omega arith) (omega arith)))
 
 -- ---- what a task touches has the closed form's latest writer, or none
 
@@ -100,6 +119,9 @@ module _ (N : ℕ) (b : Key) (w : In N b) (x : Place) where
   none-list : x ≡ list (b .i) (b .k) → b .j ≡ b .k → Unwritten
   none-list p o a v c d = from-before a b (from-writes a x (omega (arith, sort-of p, row-of p, column-of p)) c) d
 
+  none-low : x ≡ low (b .i) → b .i ≡ b .j → b .k ≡ 0 → Unwritten
+  none-low p q o a v c d = from-before a b (from-writes a x (omega (arith, sort-of p, row-of p)) c) d
+
   abbrev Found : Type 0
   Found = ((a : Key) × In N a × Last a b x) ⊎ Unwritten
 
@@ -110,6 +132,13 @@ module _ (N : ℕ) (b : Key) (w : In N b) (x : Place) where
       go (inl o) = inr (none-own p o)
       go (inr o) = inl (key (b .k - 1) (b .i) (b .j), omega arith, last-own p (omega arith) refl refl)
 
+  find-low : x ≡ low (b .i) → b .i ≡ b .j → Found
+  find-low p q = go (same-or-not (b .k) 0)
+    where
+      go : (b .k ≡ 0) ⊎ (b .k ≢ 0) → Found
+      go (inl o) = inr (none-low p q o)
+      go (inr o) = inl (key (b .k - 1) (b .i) (b .j), omega arith, last-own-low p q (omega arith) refl refl)
+
   find : Touches b x → Found
   find (t-own p) = find-own p
   find (t-upper p) = go (same-or-not (b .i) (b .k))
@@ -117,16 +146,22 @@ module _ (N : ℕ) (b : Key) (w : In N b) (x : Place) where
       go : (b .i ≡ b .k) ⊎ (b .i ≢ b .k) → Found
       go (inl o) = find-own (cc)
       go (inr o) = inl (key (b .k) (b .i - 1) (b .j), omega arith, last-upper p refl (omega arith) refl)
-  find (t-left p) = go (same-or-not (b .j) (b .k))
+  find (t-left n p) = go (same-or-not (b .j) (b .k))
     where
       go : (b .j ≡ b .k) ⊎ (b .j ≢ b .k) → Found
       go (inl o) = find-own (cc)
-      go (inr o) = inl (key (b .k) (b .i) (b .k), omega arith, last-left p refl refl refl (omega arith))
+      go (inr o) = inl (key (b .k) (b .i) (b .k), omega arith, last-left p refl refl refl (omega arith) (omega arith))
   find (t-list p) = go (same-or-not (b .j) (b .k))
     where
       go : (b .j ≡ b .k) ⊎ (b .j ≢ b .k) → Found
       go (inl o) = inr (none-list p o)
       go (inr o) = inl (key (b .k) (b .i) (b .k), omega arith, last-list p refl refl refl (omega arith))
+  find (t-low q p) = find-low p q
+  find (t-left-low q p) = go (same-or-not (b .j) (b .k))
+    where
+      go : (b .j ≡ b .k) ⊎ (b .j ≢ b .k) → Found
+      go (inl o) = find-low (cc) (omega arith)
+      go (inr o) = inl (key (b .k) (b .k) (b .k), omega arith, last-left-low p q refl refl refl (omega arith))
 
   -- the latest writer before b of what b touches is the closed form's
   pub latest-last : Touches b x → (a : Key) → In N a → Writes a x → Before a b → ((r : Key) → In N r → Writes r x → Before a r → Before r b → ⊥) → Last a b x
@@ -144,11 +179,11 @@ module _ (N : ℕ) (b : Key) (w : In N b) (x : Place) where
 -- ---- on numbers
 
 module _ (N : ℕ) where
-  writes-at : (a : Key) → In N a → (x : Place) → writer (tasks N) x (number N a) ≡ true → Writes a x
+  pub writes-at : (a : Key) → In N a → (x : Place) → writer (tasks N) x (number N a) ≡ true → Writes a x
   unfolding writer
   writes-at a v x e = writes-of a x (among-elim x (writes (taskAt a)) (rw (task-is N a v) at e))
 
-  at-writes : (a : Key) → In N a → (x : Place) → Writes a x → writer (tasks N) x (number N a) ≡ true
+  pub at-writes : (a : Key) → In N a → (x : Place) → Writes a x → writer (tasks N) x (number N a) ≡ true
   unfolding writer
   at-writes a v x c = rw (task-is N a v) (of-writes a x c)
 

@@ -1,12 +1,11 @@
 -- The closed forms, for N by N tiles: a task as a triple, its number, the tasks linked to it, the latest writers of what it touches,
 -- and the tests that code makes of marks. Assumes nothing.
 use Prim.Native.Nat.{ℕ, zero, suc, _+_, _-_, _*_, _/_, _%_, _≤_, _<_}
-use mathlib.Core.Bool.{Bool, cond, not, _&&_, _||_}
-use mathlib.Core.List.{List}
+use mathlib.Core.Bool.{Bool, cond, _&&_, _||_}
+use mathlib.Core.List.{List, [], _∷_, _++_}
 use mathlib.Core.Path.{_≡_}
-use lib.Dec.{eqb, ltb, leb}
-use Rattle.model.specs.Lists.{every}
-use Rattle.model.specs.Task.{Task, T-1, T-2, T-3, T-4, after, Place, A, list}
+use lib.Dec.{eqb, ltb}
+use Rattle.model.specs.Task.{Task, T-1, T-2, T-3, T-4, Place, A, low, list}
 use Rattle.model.specs.Links.{mark, done, waiting, finished, broken}
 
 -- ---- a task as a triple
@@ -83,57 +82,56 @@ pub data Clash (a b : Key) : Type 0 where
   left-tile : a .k < b .k → a .i ≡ b .i → a .j ≡ b .k → Clash a b
   down : a .k ≡ b .k → a .i < b .i → a .j ≡ b .j → Clash a b
   across : a .k ≡ b .k → a .i ≡ b .i → a .j ≡ a .k → a .j < b .j → Clash a b
-  corner : a .k ≡ b .k → a .i ≡ a .k → a .k < b .i → b .j ≡ b .k → Clash a b
 
--- a is linked to b: the task at the same tile one stage back; the first of b's row; the one above b, below the stage's top row; and, where b
--- is the first T-3 of its stage, each T-2 of that stage
+-- a is linked to b: the task at the same tile one stage back; the first of b's row; the one above b
 pub data Linked (a b : Key) : Type 0 where
   stage-back : suc (a .k) ≡ b .k → a .i ≡ b .i → a .j ≡ b .j → Linked a b
   row-first : a .k ≡ b .k → a .i ≡ b .i → a .j ≡ b .k → b .k < b .j → Linked a b
-  row-above : a .k ≡ b .k → suc (a .i) ≡ b .i → a .j ≡ b .j → b .k < a .i → Linked a b
-  each-T-2 : a .k ≡ b .k → a .i ≡ b .k → b .i ≡ suc (b .k) → b .j ≡ b .k → b .k < a .j → Linked a b
+  row-above : a .k ≡ b .k → suc (a .i) ≡ b .i → a .j ≡ b .j → Linked a b
 
 -- b touches x, and a is the latest task before b that writes x
 pub data Last (a b : Key) (x : Place) : Type 0 where
   last-own : x ≡ A (b .i) (b .j) → suc (a .k) ≡ b .k → a .i ≡ b .i → a .j ≡ b .j → Last a b x
   last-upper : x ≡ A (b .k) (b .j) → a .k ≡ b .k → suc (a .i) ≡ b .i → a .j ≡ b .j → Last a b x
-  last-left : x ≡ A (b .i) (b .k) → a .k ≡ b .k → a .i ≡ b .i → a .j ≡ b .k → b .k < b .j → Last a b x
+  last-left : x ≡ A (b .i) (b .k) → a .k ≡ b .k → a .i ≡ b .i → a .j ≡ b .k → b .k < b .j → b .k < b .i → Last a b x
   last-list : x ≡ list (b .i) (b .k) → a .k ≡ b .k → a .i ≡ b .i → a .j ≡ b .k → b .k < b .j → Last a b x
+  last-own-low : x ≡ low (b .i) → b .i ≡ b .j → suc (a .k) ≡ b .k → a .i ≡ b .i → a .j ≡ b .j → Last a b x
+  last-left-low : x ≡ low (b .k) → b .i ≡ b .k → a .k ≡ b .k → a .i ≡ b .k → a .j ≡ b .k → b .k < b .j → Last a b x
+
+-- ---- the tasks linked to b, which are also the latest writers of what b touches
+
+module _ (N : ℕ) where
+  -- the one at the same tile one stage back, the one above it in its column and the first of its row, where there are such
+  unfoldable pub backLink : Key → List ℕ
+  backLink b = cond (eqb (b .k) 0) [] (number N (key (b .k - 1) (b .i) (b .j)) ∷ [])
+
+  unfoldable pub aboveLink : Key → List ℕ
+  aboveLink b = cond (eqb (b .i) (b .k)) [] (number N (key (b .k) (b .i - 1) (b .j)) ∷ [])
+
+  unfoldable pub leftLink : Key → List ℕ
+  leftLink b = cond (eqb (b .j) (b .k)) [] (number N (key (b .k) (b .i) (b .k)) ∷ [])
+
+  -- their numbers, rising
+  unfoldable pub linksAt : Key → List ℕ
+  linksAt b = backLink b ++ (aboveLink b ++ leftLink b)
 
 -- ---- the tests that code makes of the marks ms
 
 module _ (N : ℕ) (ms : List ℕ) where
-  -- the mark of the task with this triple
-  unfoldable pub markAt : Key → ℕ
-  markAt a = mark ms (number N a)
-
-  -- the mark of the task at the same tile one stage back, of the first of the row, and of the one above: done where there is none
+  -- the marks of the same three tasks: done where there is none
   unfoldable pub backMark : Key → ℕ
-  backMark b = cond (eqb (b .k) 0) done (markAt (key (b .k - 1) (b .i) (b .j)))
+  backMark b = cond (eqb (b .k) 0) done (mark ms (number N (key (b .k - 1) (b .i) (b .j))))
+
+  unfoldable pub aboveMark : Key → ℕ
+  aboveMark b = cond (eqb (b .i) (b .k)) done (mark ms (number N (key (b .k) (b .i - 1) (b .j))))
 
   unfoldable pub leftMark : Key → ℕ
-  leftMark b = cond (eqb (b .j) (b .k)) done (markAt (key (b .k) (b .i) (b .k)))
-
-  -- rows up to top count as having none above
-  unfoldable pub aboveMark : ℕ → Key → ℕ
-  aboveMark top b = cond (leb (b .i) top) done (markAt (key (b .k) (b .i - 1) (b .j)))
-
-  -- every T-2 of stage k is finished
-  unfoldable pub T-2s-finished : ℕ → Bool
-  T-2s-finished k = every (λ j. finished (markAt (key k k j))) (after N k)
-
-  -- the neighbours that are linked to b are finished
-  unfoldable pub neighboursFinished : Key → Bool
-  neighboursFinished b = finished (backMark b) && finished (leftMark b) && finished (aboveMark (b .k + 1) b)
-
-  -- every task linked to b is finished: the first T-3 of a stage asks for the T-2 too
-  unfoldable pub linksFinished : Key → Bool
-  linksFinished b = neighboursFinished b && (not (eqb (b .i) (b .k + 1) && eqb (b .j) (b .k)) || T-2s-finished (b .k))
+  leftMark b = cond (eqb (b .j) (b .k)) done (mark ms (number N (key (b .k) (b .i) (b .k))))
 
   -- b is ready
   unfoldable pub readyAt : Key → Bool
-  readyAt b = eqb (markAt b) waiting && linksFinished b
+  readyAt b = eqb (mark ms (number N b)) waiting && (finished (backMark b) && finished (aboveMark b) && finished (leftMark b))
 
-  -- some latest writer of what b touches is failed or spoiled
+  -- b is spoiled at its first column
   unfoldable pub spoilsAt : Key → Bool
-  spoilsAt b = broken (backMark b) || broken (aboveMark (b .k) b) || broken (leftMark b)
+  spoilsAt b = broken (backMark b) || broken (aboveMark b) || broken (leftMark b)

@@ -105,7 +105,7 @@ module _ (z : Plan) where
   unfoldable pub sound : Task → ℕ → Buffers → Bool
   sound a c s = every finite (computed a c s)
 
-  -- a place is a list, or every number of its tile is finite
+  -- a place is a list, or every number of its tile is finite, in both parts of a diagonal tile
   unfoldable pub finiteIn : Buffers → Place → Bool
   finiteIn s x = isList x || allFinite (tileOf s (x .row) (x .column))
 

@@ -1,17 +1,19 @@
 -- The tiles that a record's kind touches, in the order in which the code tests them. Assumes nothing.
 use Prim.Native.Nat.{ℕ}
 use mathlib.Core.Path.{_≡_, refl, sym, ap, _∙_}
-use mathlib.Core.Bool.{Bool, true, false, not, _&&_}
-use mathlib.Core.List.{List}
+use mathlib.Core.Bool.{Bool, true, false, cond, not, _&&_}
+use mathlib.Core.List.{List, [], _∷_}
 use lib.Ieee.{Float}
-use borrow.Author.Tests.{eq-eqb, ne-eqb}
+use lib.Dec.{eqb}
+use borrow.Author.Tests.{eqb-true, eq-eqb, ne-eqb}
 use Rattle.model.specs.declared.Sizes.{Sizes}
 use Rattle.model.specs.declared.TaskRecord.{TaskRecord}
 use Rattle.model.specs.Lists.{every}
 use Rattle.model.specs.Tile.{allFinite}
-use Rattle.model.specs.Task.{T-1, T-2, T-3, T-4, isList, reads, writes, touches}
+use Rattle.model.specs.Task.{T-1, T-2, T-3, T-4, A, low, lowOf, isList, reads, writes, touches}
 use Rattle.model.specs.Plan.{plan, planOf}
 use Rattle.model.specs.Buffer.{Buffers, tile, tileOf, finiteIn, finiteTiles}
+use Rattle.laws.proofs.Every.{every-append}
 use Rattle.checks.specs.Checks.{taskFrom}
 
 module _ (z : Sizes) (m : List Float) (l : List ℕ) where
@@ -26,7 +28,7 @@ module _ (z : Sizes) (m : List Float) (l : List ℕ) where
   unfolding finiteTiles finiteIn tileOf touches reads writes isList every plan
   finite-1 k = go (F k k)
     where
-      go : (x : Bool) → (x && (true && (x && (true && true)))) ≡ x
+      go : (x : Bool) → (x && (x && (true && (x && (x && (true && true)))))) ≡ x
       go true = refl
       go false = refl
 
@@ -48,15 +50,23 @@ module _ (z : Sizes) (m : List Float) (l : List ℕ) where
       go true false = refl
       go false y = refl
 
+  -- the strictly lower part of tile (i,j), where it stands on the diagonal, is finite with the tile
+  finite-low : (i j : ℕ) → F i j ≡ true → (b : Bool) → eqb i j ≡ b → every (finiteIn (planOf z) s) (cond b (low i ∷ []) []) ≡ true
+  unfolding finiteIn tileOf isList every plan
+  finite-low i j e true q = ap (λ (x : Bool). x && true) (ap (F i) (eqb-true i j q) ∙ e)
+  finite-low i j e false q = refl
+
   finite-4 : (k i j : ℕ) → finiteTiles (planOf z) (T-4 k i j) s ≡ (F i k && (F k j && F i j))
-  unfolding finiteTiles finiteIn tileOf touches reads writes isList every plan
-  finite-4 k i j = go (F i k) (F k j) (F i j)
+  unfolding finiteTiles finiteIn tileOf touches reads writes isList every plan lowOf
+  finite-4 k i j =
+      ap (λ (b : Bool). F i k && (true && (F k j && (F i j && b)))) (every-append (finiteIn (planOf z) s) (lowOf i j) (A k j ∷ A i j ∷ lowOf i j))
+      ∙ go (F i k) (F k j) (F i j) (every (finiteIn (planOf z) s) (lowOf i j)) (λ e. finite-low i j e (eqb i j) refl)
     where
-      go : (x y w : Bool) → (x && (true && (y && (w && (y && (w && true)))))) ≡ (x && (y && w))
-      go true true true = refl
-      go true true false = refl
-      go true false w = refl
-      go false y w = refl
+      go : (x y w v : Bool) → (w ≡ true → v ≡ true) → (x && (true && (y && (w && (v && (y && (w && v))))))) ≡ (x && (y && w))
+      go true true true v h = rw (h refl)
+      go true true false v h = refl
+      go true false w v h = refl
+      go false y w v h = refl
 
   module _ (r : TaskRecord) where
     pub tiles-1 : r .kind ≡ 1 → (v : Bool) → v ≡ F (r .k) (r .k) → not v ≡ not (finiteTiles (planOf z) (taskFrom r) s)

@@ -1,14 +1,16 @@
-//! Library and reference program on random call lists, single columns and texts: at least 20,000 calls, in a few seconds. Then specimens, and a
-//! NaN written.
+//! Library and reference program on random call lists, single columns and texts: at least 20,000 calls, in a few seconds. Then specimens, T-3 before
+//! T-2, and a NaN written.
 
 mod compare;
+
+use reference::numbers::bits;
 
 #[test]
 fn same_answers_and_states() {
     let mut calls = 0;
     let mut seed = 1;
     while calls < 20_000 {
-        calls += compare::calls_of(seed, 2800);
+        calls += compare::calls_of(seed, 3200);
         seed += 1;
     }
 }
@@ -43,6 +45,37 @@ fn specimens() {
     let mut answers = [0.0; 2];
     assert_eq!(lent.solve(sizes, &[3.0, 8.0], &mut answers), Ok(()));
     assert_eq!(answers, [1.0, 1.0]);
+}
+
+/// For N = 2 task 2 is taken right after task 0 and worked while task 1 waits. The end is that of the old loops, where tasks fail too.
+#[test]
+fn couple_before_apply() {
+    use solumivaf::{Ending, Lent, Refusal, Sizes};
+    for crafted in reference::crafted::all_crafted() {
+        if crafted.shape.tiles != 2 {
+            continue;
+        }
+        let sizes = Sizes { tiles: 2, side: crafted.shape.side, workers: 2 };
+        let mut lent = Lent::of(sizes, crafted.matrix.clone());
+        lent.open(sizes).unwrap();
+        assert_eq!(lent.take(sizes, 0, 2), Err(Refusal { number: 7, place: 2 }));
+        for task in [0, 2] {
+            lent.take(sizes, 0, task).unwrap();
+            while lent.workers.busy[0] {
+                lent.column(sizes, 0).unwrap();
+            }
+        }
+        assert_eq!(lent.records[1].mark, 0);
+        assert_eq!(lent.take(sizes, 0, 3), Err(Refusal { number: 7, place: 3 }));
+        lent.run(sizes, u64::MAX).unwrap();
+
+        let last = reference::loops::old_loops(crafted.shape, &crafted.matrix);
+        assert_eq!(bits(&lent.matrix), bits(&last.matrix));
+        assert_eq!(lent.lists, last.lists);
+        let marks: Vec<u8> = lent.records.iter().map(|record| record.mark).collect();
+        assert_eq!(marks, last.marks);
+        assert_eq!(lent.outcome(sizes), Ok(Ending::Ended(compare::outcome_of(last.outcome))));
+    }
 }
 
 #[test]

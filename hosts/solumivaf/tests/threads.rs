@@ -1,12 +1,12 @@
 //! Eight threads, one for each worker, share what is lent behind one lock. In whatever order the system schedules them, what is left
-//! is what the published loops of the reference leave, bit by bit.
+//! is what the old loops of the reference leave, bit by bit. Its own tests show that its published loops leave the same.
 
 use std::sync::Mutex;
 use std::thread;
 use std::time::Duration;
 
 use reference::families::numbers;
-use reference::loops::published_loops;
+use reference::loops::old_loops;
 use reference::numbers::bits;
 use reference::rng::Rng;
 use reference::tile::Shape;
@@ -57,7 +57,7 @@ fn any_order_ends_like_the_loops() {
                 }
             });
             let lent = shared.into_inner().unwrap();
-            let last = published_loops(shape, &system);
+            let last = old_loops(shape, &system);
             assert_eq!(bits(&lent.matrix), bits(&last.matrix), "matrix of {shape:?}, family {family}");
             assert_eq!(lent.lists, last.lists, "lists of {shape:?}, family {family}");
             let marks: Vec<u8> = lent.records.iter().map(|record| record.mark).collect();

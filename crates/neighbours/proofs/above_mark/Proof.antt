@@ -1,24 +1,23 @@
--- Rows up to the top have none above. Assumes nothing.
-use borrow.Author.Needs.{needs}
-use borrow.Author.Tests.{le-leb, lt-leb}
-use Rattle.links.specs.Closed.{aboveMark}
-use Rattle.neighbours.proofs.Laws.{none-there, one-there}
+-- The task above stands a row before it. Assumes nothing.
+use native.Mathlib.Omega.{arith}
+use Rattle.neighbours.proofs.Laws.{small, above-at, no-above, one-above}
 use Rattle.neighbours.proofs.above_mark.Statement.{statement}
 use Rattle.neighbours.proofs.above_mark.Tie as tie
 
 returns : tie.Need-returns
-unfolding aboveMark
-returns c = none-there _ _ (le-leb _ _ (c .if1 .taken))
+returns c = no-above _ _ _ _ _ _ (c .before .pre) _ (c .if1 .taken)
 
-sub-mark-at : tie.Need-sub-mark-at
-sub-mark-at c = search needs
+sub-mark-of : tie.Need-sub-mark-of
+sub-mark-of c = omega (arith, small _ _ _ _ _ _ (c .before .pre))
 
-mark-at-requires : tie.Need-mark-at-requires
-mark-at-requires c κs = search needs
+sub-mark-of-2 : tie.Need-sub-mark-of-2
+sub-mark-of-2 c = omega (arith, above-at _ _ _ _ _ _ (c .before .pre) (c .if1 .left))
+
+mark-of-requires : tie.Need-mark-of-requires
+mark-of-requires c κs = omega (arith, small _ _ _ _ _ _ (c .before .pre))
 
 returns-2 : tie.Need-returns-2
-unfolding aboveMark
-returns-2 c = one-there _ _ _ (lt-leb _ _ (c .before .if1 .left)) (c .mark-at .ensures)
+returns-2 c = one-above _ _ _ _ _ _ (c .before .before .pre) _ (c .before .if1 .left) _ _ (omega (arith, above-at _ _ _ _ _ _ (c .before .before .pre) (c .before .if1 .left))) (c .mark-of .ensures)
 
 pub above-mark-spec : {M : Type 1} → statement M
-above-mark-spec = tie.close (tie.spec returns sub-mark-at mark-at-requires returns-2)
+above-mark-spec = tie.close (tie.spec returns sub-mark-of sub-mark-of-2 mark-of-requires returns-2)

@@ -1,45 +1,49 @@
--- Record p has the triple of task p, whose links the closed form lists. Assumes nothing.
-use mathlib.Core.Path.{refl}
+-- A task that waits is ready where the three marks are those of finished tasks. Assumes nothing.
 use borrow.Author.Needs.{needs}
-use Rattle.neighbours.proofs.Laws.{marked}
-use Rattle.readiness.proofs.Laws.{ready-here, not-waiting}
+use borrow.Author.Tests.{not-true, not-false}
+use Rattle.readiness.proofs.Laws.{not-waiting, back-stops, others-decide}
 use Rattle.readiness.proofs.is_ready.Statement.{statement}
 use Rattle.readiness.proofs.is_ready.Tie as tie
 
-record-at-requires : tie.Need-record-at-requires
-record-at-requires c κs = search needs
+mark-of-requires : tie.Need-mark-of-requires
+mark-of-requires c κs = search needs
 
 returns : tie.Need-returns
-returns c = not-waiting _ _ _ (c .before .before .before .pre) _ (c .before .before .record-at .ensures) (c .if1 .taken)
+returns c = not-waiting _ _ _ _ (c .before .mark-of .ensures) (c .if1 .taken)
 
-cast-k : tie.Need-cast-k
-cast-k c = search needs
+link-marks-requires : tie.Need-link-marks-requires
+link-marks-requires c κs = search needs
 
-larger-requires : tie.Need-larger-requires
-larger-requires c κs = search needs
-
-larger-requires-2 : tie.Need-larger-requires-2
-larger-requires-2 c κs = search needs
-
-links-finished-requires : tie.Need-links-finished-requires
-links-finished-requires c κs =
-    marked _ _ _ (c .before .before .before .before .before .before .pre) _ (c .before .before .before .before .before .record-at .ensures)
-    _ _ _ refl (c .before .larger .ensures) (c .larger2 .ensures)
+is-finished-requires : tie.Need-is-finished-requires
+is-finished-requires c κs = search needs
 
 returns-2 : tie.Need-returns-2
 returns-2 c =
-    ready-here _ _ _ (c .before .before .before .before .before .before .before .pre) _ (c .before .before .before .before .before .before .record-at .ensures)
-    _ _ _ refl (c .before .before .larger .ensures) (c .before .larger2 .ensures)
-    (c .before .before .before .before .if1 .left) _ (c .links-finished .ensures)
+    back-stops _ _ _ _ (c .before .before .before .before .mark-of .ensures) (c .before .before .before .if1 .left)
+    (c .before .before .before .before .before .pre .below) _ (c .before .before .link-marks .ensures)
+    (c .before .is-finished .ensures) (not-true _ (c .if2 .taken))
+
+is-finished-requires-2 : tie.Need-is-finished-requires-2
+is-finished-requires-2 c κs = search needs
+
+is-finished-requires-3 : tie.Need-is-finished-requires-3
+is-finished-requires-3 c κs = search needs
+
+returns-3 : tie.Need-returns-3
+returns-3 c =
+    others-decide _ _ _ _ (c .before .before .before .before .before .before .mark-of .ensures) (c .before .before .before .before .before .if1 .left)
+    (c .before .before .before .before .before .before .before .pre .below) _ (c .before .before .before .before .link-marks .ensures)
+    (c .before .before .before .is-finished .ensures) (not-false _ (c .before .before .if2 .left)) (c .before .is-finished2 .ensures) (c .is-finished3 .ensures)
 
 pub is-ready-spec : {M : Type 1} → statement M
 is-ready-spec =
     tie.close
     (tie.spec
-    record-at-requires
+    mark-of-requires
     returns
-    cast-k
-    larger-requires
-    larger-requires-2
-    links-finished-requires
-    returns-2)
+    link-marks-requires
+    is-finished-requires
+    returns-2
+    is-finished-requires-2
+    is-finished-requires-3
+    returns-3)

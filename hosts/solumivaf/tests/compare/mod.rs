@@ -43,7 +43,7 @@ fn refusal_of(refusal: reference::lent::Refusal) -> Refusal {
     Refusal { number: refusal.number, place: refusal.place as usize }
 }
 
-fn outcome_of(outcome: reference::solve::Outcome) -> Outcome {
+pub fn outcome_of(outcome: reference::solve::Outcome) -> Outcome {
     match outcome {
         reference::solve::Outcome::Good => Outcome::Good,
         reference::solve::Outcome::Overflow(task) => Outcome::Overflow(task),
@@ -170,7 +170,7 @@ fn calls_in(script: &str) -> usize {
 
 /// Plays the script of a seed.
 pub fn calls_of(seed: u64, calls: usize) -> usize {
-    calls_in(&script(Options { seed, calls, max_bytes: 1_500_000 }))
+    calls_in(&script(Options { seed, calls, max_bytes: 1_600_000 }))
 }
 
 /// Plays the single columns of a seed.

@@ -1,0 +1,51 @@
+-- Specimens of document 02's requests, stated of the definitions of specs/: a table beside P1 to P8, proved by computation.
+-- Assumes nothing.
+use mathlib.Core.Bool.{true, false}
+use mathlib.Core.Path.{_≡_, refl}
+use mathlib.Core.List.{List, [], _∷_, map}
+use Prim.Native.Nat.{ℕ}
+use Rattle.model.specs.Lists.{below}
+use Rattle.model.specs.Task.{T-2, T-4, A, low, clash, tasks}
+use Rattle.model.specs.Links.{linksTo, linkCount, latestWriter, latestWriters, Links·open}
+use Rattle.model.specs.Old.{oldLinkCount, Old·open}
+
+-- the tasks that each of the 14 tasks of N = 3 waits for
+abbrev pub waits : List (List ℕ)
+waits =
+    []
+    ∷ (0 ∷ []) ∷ (0 ∷ [])
+    ∷ (0 ∷ []) ∷ (1 ∷ 3 ∷ []) ∷ (2 ∷ 3 ∷ [])
+    ∷ (3 ∷ []) ∷ (4 ∷ 6 ∷ []) ∷ (5 ∷ 6 ∷ [])
+    ∷ (4 ∷ []) ∷ (5 ∷ 9 ∷ [])
+    ∷ (7 ∷ 9 ∷ []) ∷ (8 ∷ 10 ∷ 11 ∷ [])
+    ∷ (12 ∷ []) ∷ []
+
+pub record Requests : Type 0 where
+  -- K2: N = 2 has 5 links, where document 01 had 4, and N = 3 has 21
+  pub K2-two : linkCount (tasks 2) ≡ 5
+  pub K2-old-two : oldLinkCount (tasks 2) ≡ 4
+  pub K2-three : linkCount (tasks 3) ≡ 21
+  -- K2: the links of N = 3, and that they are the latest writers of what each task touches
+  pub K2-links : map (linksTo (tasks 3)) (below 14) ≡ waits
+  pub K2-writers : map (latestWriters (tasks 3)) (below 14) ≡ waits
+  -- K2: two tasks that read the same part do not clash; the number of links would not show it
+  pub K2-readers : clash (T-2 0 1) (T-2 0 2) ≡ false
+  -- K2: on a diagonal tile T-4 writes the strictly lower part too, which T-2 reads one stage later
+  pub K2-both : clash (T-4 0 1 1) (T-2 1 2) ≡ true
+  -- K2: when all 14 tasks are done, the strictly lower part was last written by T-1(0), and the rest by T-3(0,2)
+  pub K2-lower : latestWriter (tasks 3) (low 0) 14 0 ≡ true
+  pub K2-rest : latestWriter (tasks 3) (A 0 0) 14 6 ≡ true
+
+pub requests : Requests
+unfolding Links·open Old·open
+requests = record {
+  K2-two = refl;
+  K2-old-two = refl;
+  K2-three = refl;
+  K2-links = refl;
+  K2-writers = refl;
+  K2-readers = refl;
+  K2-both = refl;
+  K2-lower = refl;
+  K2-rest = refl;
+}
