@@ -12,7 +12,7 @@ use Rattle.model.specs.Lists.{run, below, joined}
 use Rattle.model.specs.Task.{tasks, taskCount}
 use Rattle.model.specs.Links.{linksTo, linkCount, Links·open}
 use Rattle.laws.proofs.Tests.{same-or-not}
-use Rattle.links.specs.Closed.{Key, key, In, offset, squares, number, backLink, aboveLink, leftLink, linksAt}
+use Rattle.links.specs.Closed.{Key, key, In, offset, squares, number, backOf, aboveOf, leftOf, backLink, aboveLink, leftLink, linksAt}
 use Rattle.links.proofs.Order.{offset-suc, offset-squares, six-squares, number-at, length-tasks}
 use Rattle.links.proofs.Direct.{links-are}
 
@@ -40,9 +40,9 @@ module _ (N : ℕ) where
   unfolding linksAt backLink aboveLink leftLink
   links-at b w =
       ap length (links-are N b w) ∙ length-append (backLink N b) (aboveLink N b ++ leftLink N b)
-      ∙ (λ i. length-unless (eqb (b .k) 0) (number N (key (b .k - 1) (b .i) (b .j))) i + length-append (aboveLink N b) (leftLink N b) i)
+      ∙ (λ i. length-unless (eqb (b .k) 0) (number N (backOf b)) i + length-append (aboveLink N b) (leftLink N b) i)
       ∙ (λ i. there (eqb (b .k) 0)
-      + (length-unless (eqb (b .i) (b .k)) (number N (key (b .k) (b .i - 1) (b .j))) i + length-unless (eqb (b .j) (b .k)) (number N (key (b .k) (b .i) (b .k))) i))
+      + (length-unless (eqb (b .i) (b .k)) (number N (aboveOf b)) i + length-unless (eqb (b .j) (b .k)) (number N (leftOf b)) i))
 
   -- ---- the links to the n tasks from a on
 

@@ -12,7 +12,7 @@ use Rattle.model.specs.Lists.{run, below, some, keep}
 use Rattle.model.specs.Task.{Place, A, list, tasks, taskCount, touches}
 use Rattle.model.specs.Links.{task, between, linked, linksTo, writer, latestWriter, latestWriters}
 use Rattle.laws.proofs.Tests.{never, and-left, and-right, and-intro, false-if, some-run-intro, some-run-elim}
-use Rattle.links.specs.Closed.{Key, key, In, taskAt, number, keyAt, by-stage, by-row, by-column, Linked, stage-back, row-first, row-above, Last, last-own, last-upper, last-left, last-list, last-own-low, last-left-low, backLink, aboveLink, leftLink, linksAt}
+use Rattle.links.specs.Closed.{Key, In, taskAt, number, keyAt, by-stage, by-row, by-column, Linked, stage-back, row-first, row-above, Last, last-own, last-upper, last-left, last-list, last-own-low, last-left-low, backOf, aboveOf, leftOf, backLink, aboveLink, leftLink, linksAt}
 use Rattle.links.proofs.Numbering.{same-key, task-is}
 use Rattle.links.proofs.Order.{back, number-fits, number-mono}
 use Rattle.links.proofs.Places.{OneOf, some-elim, some-intro, one-left, one-right, one-cases, touches-of, one-touches}
@@ -70,15 +70,6 @@ module _ (N : ℕ) (a b : Key) (w : In N b) where
 -- ---- the list
 
 module _ (N : ℕ) (b : Key) (w : In N b) where
-  abbrev backKey : Key
-  backKey = key (b .k - 1) (b .i) (b .j)
-
-  abbrev aboveKey : Key
-  aboveKey = key (b .k) (b .i - 1) (b .j)
-
-  abbrev leftKey : Key
-  leftKey = key (b .k) (b .i) (b .k)
-
   Direct : ℕ → Type 0
   Direct p = (a : Key) × In N a × Linked a b × (p ≡ number N a)
 
@@ -88,42 +79,42 @@ module _ (N : ℕ) (b : Key) (w : In N b) where
     where
       rest : OneOf p (aboveLink N b) ⊎ OneOf p (leftLink N b) → Direct p
       rest (inl o) =
-          let (t, q) = unless-is (eqb (b .i) (b .k)) (number N aboveKey) p o in
+          let (t, q) = unless-is (eqb (b .i) (b .k)) (number N (aboveOf b)) p o in
           let n : b .i ≢ b .k = eqb-false (b .i) (b .k) t in
-          (aboveKey, omega arith, row-above refl (omega arith) refl, q)
+          (aboveOf b, omega arith, row-above refl (omega arith) refl, q)
       rest (inr o) =
-          let (t, q) = unless-is (eqb (b .j) (b .k)) (number N leftKey) p o in
+          let (t, q) = unless-is (eqb (b .j) (b .k)) (number N (leftOf b)) p o in
           let n : b .j ≢ b .k = eqb-false (b .j) (b .k) t in
-          (leftKey, omega arith, row-first refl refl refl (omega arith), q)
+          (leftOf b, omega arith, row-first refl refl refl (omega arith), q)
 
       go : OneOf p (backLink N b) ⊎ OneOf p (aboveLink N b ++ leftLink N b) → Direct p
       go (inl o) =
-          let (t, q) = unless-is (eqb (b .k) 0) (number N backKey) p o in
+          let (t, q) = unless-is (eqb (b .k) 0) (number N (backOf b)) p o in
           let n : b .k ≢ 0 = eqb-false (b .k) 0 t in
-          (backKey, omega arith, stage-back (omega arith) refl refl, q)
+          (backOf b, omega arith, stage-back (omega arith) refl refl, q)
       go (inr o) = rest (one-cases p (aboveLink N b) (leftLink N b) o)
 
   direct-list : (a : Key) → In N a → Linked a b → OneOf (number N a) (linksAt N b)
   unfolding linksAt backLink aboveLink leftLink
   direct-list a v (stage-back e f g) =
       one-left _ (backLink N b) _
-      (is-unless (eqb (b .k) 0) (number N backKey) _ (ne-eqb (b .k) 0 (omega arith)) (ap (number N) (same-key a backKey (omega arith) f g)))
+      (is-unless (eqb (b .k) 0) (number N (backOf b)) _ (ne-eqb (b .k) 0 (omega arith)) (ap (number N) (same-key a (backOf b) (omega arith) f g)))
   direct-list a v (row-above e f g) =
       one-right _ (backLink N b) _ (one-left _ (aboveLink N b) _
-      (is-unless (eqb (b .i) (b .k)) (number N aboveKey) _ (ne-eqb (b .i) (b .k) (omega arith)) (ap (number N) (same-key a aboveKey e (omega arith) g))))
+      (is-unless (eqb (b .i) (b .k)) (number N (aboveOf b)) _ (ne-eqb (b .i) (b .k) (omega arith)) (ap (number N) (same-key a (aboveOf b) e (omega arith) g))))
   direct-list a v (row-first e f g h) =
       one-right _ (backLink N b) _ (one-right _ (aboveLink N b) _
-      (is-unless (eqb (b .j) (b .k)) (number N leftKey) _ (ne-eqb (b .j) (b .k) (omega arith)) (ap (number N) (same-key a leftKey e f g))))
+      (is-unless (eqb (b .j) (b .k)) (number N (leftOf b)) _ (ne-eqb (b .j) (b .k) (omega arith)) (ap (number N) (same-key a (leftOf b) e f g))))
 
   rising : Rising (number N b) 0 (linksAt N b)
   unfolding linksAt backLink aboveLink leftLink
-  rising = three-rise (number N b) (number N backKey) (number N aboveKey) (number N leftKey) (eqb (b .k) 0) (eqb (b .i) (b .k)) (eqb (b .j) (b .k))
-      (λ r. let n = eqb-false (b .k) 0 r in number-mono N backKey b (omega arith) w (by-stage (omega arith)))
-      (λ s. let n = eqb-false (b .i) (b .k) s in number-mono N aboveKey b (omega arith) w (by-row refl (omega arith)))
-      (λ t. let n = eqb-false (b .j) (b .k) t in number-mono N leftKey b (omega arith) w (by-column refl refl (omega arith)))
-      (λ r s. let n = eqb-false (b .k) 0 r in let m = eqb-false (b .i) (b .k) s in number-mono N backKey aboveKey (omega arith) (omega arith) (by-stage (omega arith)))
-      (λ r t. let n = eqb-false (b .k) 0 r in number-mono N backKey leftKey (omega arith) (omega arith) (by-stage (omega arith)))
-      (λ s t. let m = eqb-false (b .i) (b .k) s in number-mono N aboveKey leftKey (omega arith) (omega arith) (by-row refl (omega arith)))
+  rising = three-rise (number N b) (number N (backOf b)) (number N (aboveOf b)) (number N (leftOf b)) (eqb (b .k) 0) (eqb (b .i) (b .k)) (eqb (b .j) (b .k))
+      (λ r. let n = eqb-false (b .k) 0 r in number-mono N (backOf b) b (omega arith) w (by-stage (omega arith)))
+      (λ s. let n = eqb-false (b .i) (b .k) s in number-mono N (aboveOf b) b (omega arith) w (by-row refl (omega arith)))
+      (λ t. let n = eqb-false (b .j) (b .k) t in number-mono N (leftOf b) b (omega arith) w (by-column refl refl (omega arith)))
+      (λ r s. let n = eqb-false (b .k) 0 r in let m = eqb-false (b .i) (b .k) s in number-mono N (backOf b) (aboveOf b) (omega arith) (omega arith) (by-stage (omega arith)))
+      (λ r t. let n = eqb-false (b .k) 0 r in number-mono N (backOf b) (leftOf b) (omega arith) (omega arith) (by-stage (omega arith)))
+      (λ s t. let m = eqb-false (b .i) (b .k) s in number-mono N (aboveOf b) (leftOf b) (omega arith) (omega arith) (by-row refl (omega arith)))
 
   pub few : length (linksAt N b) ≤ 3
   unfolding linksAt backLink aboveLink leftLink
@@ -132,9 +123,9 @@ module _ (N : ℕ) (b : Key) (w : In N b) where
         arith,
         length-append (backLink N b) (aboveLink N b ++ leftLink N b),
         length-append (aboveLink N b) (leftLink N b),
-        unless-short (eqb (b .k) 0) (number N backKey),
-        unless-short (eqb (b .i) (b .k)) (number N aboveKey),
-        unless-short (eqb (b .j) (b .k)) (number N leftKey),
+        unless-short (eqb (b .k) 0) (number N (backOf b)),
+        unless-short (eqb (b .i) (b .k)) (number N (aboveOf b)),
+        unless-short (eqb (b .j) (b .k)) (number N (leftOf b)),
       )
 
   -- a test that passes for the tasks linked to b, and for no other task before b, keeps the list

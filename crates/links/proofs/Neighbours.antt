@@ -2,17 +2,17 @@
 use Prim.Native.Nat.{ℕ, suc, _+_, _-_, _*_, _<_}
 use mathlib.Core.Path.{_≡_}
 use native.Mathlib.Omega.{arith}
-use Rattle.links.specs.Closed.{Key, key, In, offset, number}
+use Rattle.links.specs.Closed.{Key, In, offset, number, backOf, aboveOf, leftOf}
 use Rattle.links.proofs.Order.{offset-suc}
 
 module _ (N : ℕ) (b : Key) (w : In N b) where
   -- the first of the row
-  pub left-number : number N (key (b .k) (b .i) (b .k)) + (b .j - b .k) ≡ number N b
+  pub left-number : number N (leftOf b) + (b .j - b .k) ≡ number N b
   unfolding number
   left-number = let e : b .k - b .k ≡ 0 = omega arith in rw e (omega arith)
 
   -- the one above
-  pub above-number : b .k < b .i → number N (key (b .k) (b .i - 1) (b .j)) + (N - b .k) ≡ number N b
+  pub above-number : b .k < b .i → number N (aboveOf b) + (N - b .k) ≡ number N b
   unfolding number
   above-number h = go (b .i - 1 - b .k) (omega arith)
     where
@@ -20,7 +20,7 @@ module _ (N : ℕ) (b : Key) (w : In N b) where
       go x e = rw e (omega arith)
 
   -- the one at the same tile one stage back
-  pub back-number : 0 < b .k → number N (key (b .k - 1) (b .i) (b .j)) + (N + (N - b .k) * (N - b .k)) ≡ number N b + 1 + b .i
+  pub back-number : 0 < b .k → number N (backOf b) + (N + (N - b .k) * (N - b .k)) ≡ number N b + 1 + b .i
   unfolding number
   back-number h = go (b .k - 1) (b .i - b .k) (b .j - b .k) (N - b .k) (omega arith) (omega arith) (omega arith) (omega arith)
     where

@@ -9,7 +9,7 @@ use Rattle.model.specs.Task.{tasks}
 use Rattle.model.specs.Links.{mark, done, waiting, finished, broken, ready, spoils}
 use Rattle.laws.proofs.Tests.{and-assoc}
 use Rattle.laws.proofs.Every.{every-append}
-use Rattle.links.specs.Closed.{Key, key, In, number, backLink, aboveLink, leftLink, linksAt, backMark, aboveMark, leftMark, readyAt, spoilsAt}
+use Rattle.links.specs.Closed.{Key, In, number, backOf, aboveOf, leftOf, backLink, aboveLink, leftLink, linksAt, backMark, aboveMark, leftMark, readyAt, spoilsAt}
 use Rattle.links.proofs.Direct.{links-are, writers-are}
 
 -- some pass where not all fail
@@ -46,9 +46,9 @@ module _ (N : ℕ) (ms : List ℕ) (b : Key) where
     unfolding linksAt backLink aboveLink leftLink backMark aboveMark leftMark
     three =
         every-append (λ q. f (mark ms q)) (backLink N b) (aboveLink N b ++ leftLink N b)
-        ∙ (λ i. one (eqb (b .k) 0) (number N (key (b .k - 1) (b .i) (b .j))) i && every-append (λ q. f (mark ms q)) (aboveLink N b) (leftLink N b) i)
+        ∙ (λ i. one (eqb (b .k) 0) (number N (backOf b)) i && every-append (λ q. f (mark ms q)) (aboveLink N b) (leftLink N b) i)
         ∙ (λ i. f (backMark N ms b)
-        && (one (eqb (b .i) (b .k)) (number N (key (b .k) (b .i - 1) (b .j))) i && one (eqb (b .j) (b .k)) (number N (key (b .k) (b .i) (b .k))) i))
+        && (one (eqb (b .i) (b .k)) (number N (aboveOf b)) i && one (eqb (b .j) (b .k)) (number N (leftOf b)) i))
         ∙ sym (and-assoc (f (backMark N ms b)) (f (aboveMark N ms b)) (f (leftMark N ms b)))
 
   pub ready-is : In N b → ready (tasks N) ms (number N b) ≡ readyAt N ms b

@@ -100,33 +100,43 @@ pub data Last (a b : Key) (x : Place) : Type 0 where
 
 -- ---- the tasks linked to b, which are also the latest writers of what b touches
 
+-- the one at the same tile one stage back, the one above it in its column and the first of its row
+abbrev pub backOf : Key → Key
+backOf b = key (b .k - 1) (b .i) (b .j)
+
+abbrev pub aboveOf : Key → Key
+aboveOf b = key (b .k) (b .i - 1) (b .j)
+
+abbrev pub leftOf : Key → Key
+leftOf b = key (b .k) (b .i) (b .k)
+
 module _ (N : ℕ) where
-  -- the one at the same tile one stage back, the one above it in its column and the first of its row, where there are such
+  -- the number of each, where there is such a task
   unfoldable pub backLink : Key → List ℕ
-  backLink b = cond (eqb (b .k) 0) [] (number N (key (b .k - 1) (b .i) (b .j)) ∷ [])
+  backLink b = cond (eqb (b .k) 0) [] (number N (backOf b) ∷ [])
 
   unfoldable pub aboveLink : Key → List ℕ
-  aboveLink b = cond (eqb (b .i) (b .k)) [] (number N (key (b .k) (b .i - 1) (b .j)) ∷ [])
+  aboveLink b = cond (eqb (b .i) (b .k)) [] (number N (aboveOf b) ∷ [])
 
   unfoldable pub leftLink : Key → List ℕ
-  leftLink b = cond (eqb (b .j) (b .k)) [] (number N (key (b .k) (b .i) (b .k)) ∷ [])
+  leftLink b = cond (eqb (b .j) (b .k)) [] (number N (leftOf b) ∷ [])
 
-  -- their numbers, rising
+  -- all of them, rising
   unfoldable pub linksAt : Key → List ℕ
   linksAt b = backLink b ++ (aboveLink b ++ leftLink b)
 
 -- ---- the tests that code makes of the marks ms
 
 module _ (N : ℕ) (ms : List ℕ) where
-  -- the marks of the same three tasks: done where there is none
+  -- their marks: done where there is no such task
   unfoldable pub backMark : Key → ℕ
-  backMark b = cond (eqb (b .k) 0) done (mark ms (number N (key (b .k - 1) (b .i) (b .j))))
+  backMark b = cond (eqb (b .k) 0) done (mark ms (number N (backOf b)))
 
   unfoldable pub aboveMark : Key → ℕ
-  aboveMark b = cond (eqb (b .i) (b .k)) done (mark ms (number N (key (b .k) (b .i - 1) (b .j))))
+  aboveMark b = cond (eqb (b .i) (b .k)) done (mark ms (number N (aboveOf b)))
 
   unfoldable pub leftMark : Key → ℕ
-  leftMark b = cond (eqb (b .j) (b .k)) done (mark ms (number N (key (b .k) (b .i) (b .k))))
+  leftMark b = cond (eqb (b .j) (b .k)) done (mark ms (number N (leftOf b)))
 
   -- b is ready
   unfoldable pub readyAt : Key → Bool

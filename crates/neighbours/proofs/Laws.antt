@@ -12,7 +12,7 @@ use borrow.Author.Tests.{eq-eqb, ne-eqb}
 use Rattle.model.specs.declared.TaskRecord.{TaskRecord}
 use Rattle.model.specs.Task.{Task, tasks, taskCount, kOf, iOf, jOf}
 use Rattle.model.specs.Links.{task, mark, done}
-use Rattle.links.specs.Closed.{Key, key, In, keyOf, number, keyAt, backMark, aboveMark, leftMark}
+use Rattle.links.specs.Closed.{Key, key, In, keyOf, number, keyAt, backOf, aboveOf, leftOf, backMark, aboveMark, leftMark}
 use Rattle.links.proofs.Numbering.{same-key}
 use Rattle.links.proofs.Order.{number-fits, key-at, Within, within-1, within-2, within-3, within-4}
 use Rattle.links.proofs.Neighbours.{left-number, above-number, back-number}
@@ -54,13 +54,13 @@ module _ (n p k i j : ℕ) (records : List (List ℕ)) (h : Placed n records p (
         mul-le-mul m m,
       )
 
-  pub back-at : k ≢ 0 → number n (key (k - 1) i j) + (n + (n - k) * (n - k)) ≡ p + 1 + i
+  pub back-at : k ≢ 0 → number n (backOf b) + (n + (n - k) * (n - k)) ≡ p + 1 + i
   back-at d = omega (arith, back-number n b (h .inside) (omega arith), h .number-is)
 
-  pub above-at : i ≢ k → number n (key k (i - 1) j) + (n - k) ≡ p
+  pub above-at : i ≢ k → number n (aboveOf b) + (n - k) ≡ p
   above-at d = let v : In n b = h .inside in above-number n b v (omega arith) ∙ h .number-is
 
-  pub left-at : number n (key k i k) + (j - k) ≡ p
+  pub left-at : number n (leftOf b) + (j - k) ≡ p
   left-at = left-number n b (h .inside) ∙ h .number-is
 
   module _ (ms : List ℕ) where
@@ -71,7 +71,7 @@ module _ (n p k i j : ℕ) (records : List (List ℕ)) (h : Placed n records p (
     pub one-back : k ≢ 0 → (q x : ℕ) → q + (n + (n - k) * (n - k)) ≡ p + 1 + i → x ≡ mark ms q → x ≡ backMark n ms b
     unfolding backMark
     one-back d q x e f =
-        let r : q ≡ number n (key (k - 1) i j) = omega (arith, back-at d) in
+        let r : q ≡ number n (backOf b) = omega (arith, back-at d) in
         one-there (eqb k 0) _ x (ne-eqb k 0 d) (rw (← r) f)
 
     pub no-above : i ≡ k → 2 ≡ aboveMark n ms b
@@ -81,7 +81,7 @@ module _ (n p k i j : ℕ) (records : List (List ℕ)) (h : Placed n records p (
     pub one-above : i ≢ k → (q x : ℕ) → q + (n - k) ≡ p → x ≡ mark ms q → x ≡ aboveMark n ms b
     unfolding aboveMark
     one-above d q x e f =
-        let r : q ≡ number n (key k (i - 1) j) = omega (arith, above-at d) in
+        let r : q ≡ number n (aboveOf b) = omega (arith, above-at d) in
         one-there (eqb i k) _ x (ne-eqb i k d) (rw (← r) f)
 
     pub no-left : j ≡ k → 2 ≡ leftMark n ms b
@@ -91,7 +91,7 @@ module _ (n p k i j : ℕ) (records : List (List ℕ)) (h : Placed n records p (
     pub one-left : j ≢ k → (q x : ℕ) → q + (j - k) ≡ p → x ≡ mark ms q → x ≡ leftMark n ms b
     unfolding leftMark
     one-left d q x e f =
-        let r : q ≡ number n (key k i k) = omega (arith, left-at) in
+        let r : q ≡ number n (leftOf b) = omega (arith, left-at) in
         one-there (eqb j k) _ x (ne-eqb j k d) (rw (← r) f)
 
 -- ---- record p has the triple of task p
