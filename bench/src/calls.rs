@@ -1,6 +1,6 @@
 //! A take and a column call in Rust, with the checks of refusals 1, 2, 4, 5, 6 and 7. Each answers the refusal's number, or 0.
 use crate::loops::{column, fill, spoiled, task_count, triple, Record, DONE, FAILED, SPOILED, TAKEN};
-use crate::plain::Shape;
+use crate::plain::{Shape, Version};
 
 #[derive(Clone, Copy)]
 pub struct Worker {
@@ -11,22 +11,24 @@ pub struct Worker {
 
 pub const IDLE: Worker = Worker { busy: false, task: 0, column: 0 };
 
-fn bad_records(n: usize, records: &[Record]) -> bool {
-    let mut p = 0;
+fn bad_records<V: Version>(n: usize, records: &[Record]) -> bool {
+    let mut rest = records;
     for k in 0..n as u8 {
         for i in k..n as u8 {
-            for j in k..n as u8 {
+            let (row, after) = rest.split_at(n - k as usize);
+            rest = after;
+            let bad = |(x, r): (usize, &Record)| {
+                let j = k + x as u8;
                 let due = match (i == k, j == k) {
                     (true, true) => [1, k, 0, 0],
                     (true, false) => [2, k, 0, j],
                     (false, true) => [3, k, i, 0],
                     (false, false) => [4, k, i, j],
                 };
-                let r = records[p];
-                if r[0] != due[0] || r[1] != due[1] || r[2] != due[2] || r[3] != due[3] || r[4] > 4 {
-                    return true;
-                }
-                p += 1;
+                (r[0] != due[0]) | (r[1] != due[1]) | (r[2] != due[2]) | (r[3] != due[3]) | (r[4] > 4)
+            };
+            if V::some(row.iter().enumerate().map(bad)) {
+                return true;
             }
         }
     }
@@ -51,7 +53,7 @@ fn bad_workers(t: usize, records: &[Record], workers: &[Worker]) -> bool {
     false
 }
 
-fn bad_entries(s: &Shape, lists: &[u8]) -> bool {
+fn bad_entries<V: Version>(s: &Shape, lists: &[u8]) -> bool {
     for i in 0..s.tiles {
         for j in 0..s.tiles {
             let most = if i == j {
@@ -60,12 +62,9 @@ fn bad_entries(s: &Shape, lists: &[u8]) -> bool {
                 s.side
             } else {
                 0
-            };
-            let start = s.list(i, j);
-            for x in start..start + s.side {
-                if lists[x] as usize > most {
-                    return true;
-                }
+            } as u8;
+            if V::some(lists[s.list(i, j)..][..s.side].iter().map(|e| *e > most)) {
+                return true;
             }
         }
     }
@@ -85,14 +84,14 @@ pub fn bad_sizes(s: &Shape, matrix: &[f64], lists: &[u8], records: &[Record], wo
 }
 
 /// Refusal 4 but for elements.
-pub fn damaged(s: &Shape, lists: &[u8], records: &[Record], workers: &[Worker]) -> bool {
-    bad_records(s.tiles, records) || bad_holds(records, workers) || bad_workers(s.side, records, workers) || bad_entries(s, lists)
+pub fn damaged<V: Version>(s: &Shape, lists: &[u8], records: &[Record], workers: &[Worker]) -> bool {
+    bad_records::<V>(s.tiles, records) || bad_holds(records, workers) || bad_workers(s.side, records, workers) || bad_entries::<V>(s, lists)
 }
 
 /// Refusals 1, 2 and 4 but for elements.
-fn state(s: &Shape, matrix: &[f64], lists: &[u8], records: &[Record], workers: &[Worker]) -> u8 {
+fn state<V: Version>(s: &Shape, matrix: &[f64], lists: &[u8], records: &[Record], workers: &[Worker]) -> u8 {
     let refusal = bad_sizes(s, matrix, lists, records, workers);
-    if refusal == 0 && damaged(s, lists, records, workers) {
+    if refusal == 0 && damaged::<V>(s, lists, records, workers) {
         return 4;
     }
     refusal
@@ -109,8 +108,8 @@ fn ready(n: usize, records: &[Record], p: usize) -> bool {
     (k == 0 || finished(p + 1 + i - (n + m * m))) && (i == k || finished(p - m)) && (j == k || finished(p - (j - k)))
 }
 
-pub fn take(s: &Shape, matrix: &[f64], lists: &[u8], records: &mut [Record], workers: &mut [Worker], w: usize, p: usize) -> u8 {
-    let refusal = state(s, matrix, lists, records, workers);
+pub fn take<V: Version>(s: &Shape, matrix: &[f64], lists: &[u8], records: &mut [Record], workers: &mut [Worker], w: usize, p: usize) -> u8 {
+    let refusal = state::<V>(s, matrix, lists, records, workers);
     if refusal != 0 {
         return refusal;
     }
@@ -128,23 +127,23 @@ pub fn take(s: &Shape, matrix: &[f64], lists: &[u8], records: &mut [Record], wor
     0
 }
 
-fn finite_tile(s: &Shape, matrix: &[f64], i: usize, j: usize) -> bool {
+fn finite_tile<V: Version>(s: &Shape, matrix: &[f64], i: usize, j: usize) -> bool {
     let start = s.tile(i, j);
-    matrix[start..start + s.side * s.side].iter().all(|x| x.is_finite())
+    V::all_finite(&matrix[start..start + s.side * s.side])
 }
 
-fn finite_tiles(s: &Shape, matrix: &[f64], r: Record) -> bool {
+fn finite_tiles<V: Version>(s: &Shape, matrix: &[f64], r: Record) -> bool {
     let (k, i, j) = (r[1] as usize, r[2] as usize, r[3] as usize);
     match r[0] {
-        1 => finite_tile(s, matrix, k, k),
-        2 => finite_tile(s, matrix, k, k) && finite_tile(s, matrix, k, j),
-        3 => finite_tile(s, matrix, k, k) && finite_tile(s, matrix, i, k),
-        _ => finite_tile(s, matrix, i, k) && finite_tile(s, matrix, k, j) && finite_tile(s, matrix, i, j),
+        1 => finite_tile::<V>(s, matrix, k, k),
+        2 => finite_tile::<V>(s, matrix, k, k) && finite_tile::<V>(s, matrix, k, j),
+        3 => finite_tile::<V>(s, matrix, k, k) && finite_tile::<V>(s, matrix, i, k),
+        _ => finite_tile::<V>(s, matrix, i, k) && finite_tile::<V>(s, matrix, k, j) && finite_tile::<V>(s, matrix, i, j),
     }
 }
 
-pub fn work(s: &Shape, matrix: &mut [f64], lists: &mut [u8], records: &mut [Record], workers: &mut [Worker], w: usize) -> u8 {
-    let refusal = state(s, matrix, lists, records, workers);
+pub fn work<V: Version>(s: &Shape, matrix: &mut [f64], lists: &mut [u8], records: &mut [Record], workers: &mut [Worker], w: usize) -> u8 {
+    let refusal = state::<V>(s, matrix, lists, records, workers);
     if refusal != 0 {
         return refusal;
     }
@@ -154,14 +153,14 @@ pub fn work(s: &Shape, matrix: &mut [f64], lists: &mut [u8], records: &mut [Reco
     let h = workers[w];
     let p = h.task as usize;
     let r = records[p];
-    if !finite_tiles(s, matrix, r) {
+    if !finite_tiles::<V>(s, matrix, r) {
         return 4;
     }
     let c = h.column as usize;
     let (k, i, j) = triple(r);
     let mark = if c == 0 && spoiled(s.tiles, records, k, i, j) {
         SPOILED
-    } else if !column(s, matrix, lists, r, c) {
+    } else if !column::<V>(s, matrix, lists, r, c) {
         FAILED
     } else if c + 1 == s.side {
         DONE

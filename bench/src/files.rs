@@ -51,9 +51,9 @@ fn numbers(line: &[u8]) -> impl Iterator<Item = f64> + '_ {
     line[6..line.len() - 1].chunks_exact(16).map(|d| f64::from_bits(field(d)))
 }
 
-/// The number with these 16 digits is finite. The bits of its exponent end in the third.
+/// The number with these 16 digits is finite. The bits of its exponent end in the third; three are in the first, all ones in '7' and 'F' alone.
 fn finite(digits: &[u8]) -> bool {
-    digits[1] != b'F' || field(&digits[..3]) & 0x7FF != 0x7FF
+    (digits[0] != b'7' && digits[0] != b'F') || field(&digits[..3]) & 0x7FF != 0x7FF
 }
 
 /// Checks the line where tile (i,j) is due: the refusal's number, or 0.

@@ -1,5 +1,5 @@
 //! Tasks as bytes, what a failed or spoiled one leaves, and the published loops.
-use crate::plain::{self, Shape};
+use crate::plain::{self, Shape, Version};
 
 /// Kind, k, i, j and mark.
 pub type Record = [u8; 5];
@@ -48,13 +48,13 @@ pub fn spoiled(n: usize, records: &[Record], k: usize, i: usize, j: usize) -> bo
 }
 
 /// Column c of the task. False where a computed number isn't finite.
-pub fn column(s: &Shape, m: &mut [f64], l: &mut [u8], r: Record, c: usize) -> bool {
+pub fn column<V: Version>(s: &Shape, m: &mut [f64], l: &mut [u8], r: Record, c: usize) -> bool {
     let (k, i, j) = (r[1] as usize, r[2] as usize, r[3] as usize);
     match r[0] {
-        1 => plain::factor(s, m, l, k, c),
-        2 => plain::apply(s, m, l, k, j, c),
-        3 => plain::couple(s, m, l, k, i, c),
-        _ => plain::pair(s, m, l, k, i, j, c),
+        1 => plain::factor::<V>(s, m, l, k, c),
+        2 => plain::apply::<V>(s, m, l, k, j, c),
+        3 => plain::couple::<V>(s, m, l, k, i, c),
+        _ => plain::pair::<V>(s, m, l, k, i, j, c),
     }
 }
 
@@ -88,7 +88,7 @@ pub fn fill(s: &Shape, m: &mut [f64], l: &mut [u8], r: Record) {
 }
 
 /// The published loops: the tasks in number order, each spoiled, failed or done.
-pub fn loops(s: &Shape, m: &mut [f64], l: &mut [u8], records: &mut [Record]) {
+pub fn loops<V: Version>(s: &Shape, m: &mut [f64], l: &mut [u8], records: &mut [Record]) {
     let n = s.tiles;
     l.fill(0);
     for p in 0..records.len() {
@@ -99,7 +99,7 @@ pub fn loops(s: &Shape, m: &mut [f64], l: &mut [u8], records: &mut [Record]) {
             mark = SPOILED;
         } else {
             for c in 0..s.side {
-                if !column(s, m, l, r, c) {
+                if !column::<V>(s, m, l, r, c) {
                     mark = FAILED;
                     break;
                 }

@@ -1,5 +1,6 @@
-//! Times Rattle beside plain Rust loops on the same data, the two in turn, and prints the table of docs/PERFORMANCE.md.
-//! A time is one that a fiftieth of many rounds stay below. `bench/run` builds and runs it; a number after it multiplies the rounds.
+//! Times Rattle beside plain Rust loops on the same data, in turn, and prints the table of docs/PERFORMANCE.md.
+//! A time is one that a fiftieth of many rounds stay below. All is timed three times, and a row is printed with the median of its three ratios.
+//! `bench/run` builds and runs it; a number after it multiplies the rounds.
 mod calls;
 mod files;
 mod loops;
@@ -9,7 +10,7 @@ mod structs;
 
 use calls::{Worker, IDLE};
 use loops::Record;
-use plain::Shape;
+use plain::{Collected, Fours, Leaving, Shape, Version, Widths};
 use solumivaf::{Run, Sizes};
 use std::hint::black_box;
 
@@ -107,7 +108,21 @@ fn look() -> f64 {
     low(times)
 }
 
-fn timed(data: &mut [Lent], start: &Lent, step: &mut impl FnMut(&mut Lent)) -> f64 {
+type Step<'a> = Box<dyn FnMut(&mut Lent) + 'a>;
+
+/// The step in each version of the Rust loops, by name.
+macro_rules! versions {
+    ($($of:ident)::+, |$x:ident| $($argument:expr),*) => {
+        vec![
+            ("leaving", Box::new(|$x: &mut Lent| $($of)::+::<Leaving>($($argument),*)) as Step),
+            ("collected", Box::new(|$x: &mut Lent| $($of)::+::<Collected>($($argument),*)) as Step),
+            ("widths", Box::new(|$x: &mut Lent| $($of)::+::<Widths>($($argument),*)) as Step),
+            ("fours", Box::new(|$x: &mut Lent| $($of)::+::<Fours>($($argument),*)) as Step),
+        ]
+    };
+}
+
+fn timed(data: &mut [Lent], start: &Lent, step: &mut Step) -> f64 {
     for x in data.iter_mut() {
         x.copy_from(start);
     }
@@ -124,47 +139,98 @@ fn low(mut times: Vec<f64>) -> f64 {
     times[times.len() / 50]
 }
 
-/// The times of the two steps, in nanoseconds. In a round each works on the same data, first the one, then the other, and every other
-/// round the other way round. What they leave must have the same bits.
-fn compare(rounds: usize, copies: usize, start: &Lent, mut rust: impl FnMut(&mut Lent), mut rattle: impl FnMut(&mut Lent)) -> (f64, f64) {
+/// Times in nanoseconds: those of the Rust versions, and Rattle's.
+#[derive(Clone)]
+struct Times {
+    rust: Vec<(&'static str, f64)>,
+    rattle: f64,
+}
+
+impl Times {
+    fn fastest(&self) -> (&'static str, f64) {
+        *self.rust.iter().min_by(|a, b| a.1.total_cmp(&b.1)).unwrap()
+    }
+
+    fn ratio(&self) -> f64 {
+        self.rattle / self.fastest().1
+    }
+
+    /// A part of each time.
+    fn over(&self, parts: usize) -> Times {
+        let part = |x: f64| x / parts as f64;
+        Times { rust: self.rust.iter().map(|(v, x)| (*v, part(*x))).collect(), rattle: part(self.rattle) }
+    }
+
+    fn plus(&self, other: &Times) -> Times {
+        let rust = self.rust.iter().zip(&other.rust).map(|(a, b)| (a.0, a.1 + b.1)).collect();
+        Times { rust, rattle: self.rattle + other.rattle }
+    }
+}
+
+/// The times of the steps. In a round each works on the same data, and each round begins with another one. What they leave must have the
+/// same bits.
+fn compare<'a>(rounds: usize, copies: usize, start: &Lent, rust: Vec<(&'static str, Step<'a>)>, rattle: impl FnMut(&mut Lent) + 'a) -> Times {
+    let (names, mut steps): (Vec<&str>, Vec<Step>) = rust.into_iter().unzip();
+    steps.push(Box::new(rattle));
     let mut data = vec![start.clone(); copies];
-    let mut times = (Vec::new(), Vec::new());
+    let mut times = vec![Vec::new(); steps.len()];
     let mut left = None;
     for round in 0..rounds {
-        for turn in 0..2 {
-            if (round + turn) % 2 == 0 {
-                times.0.push(timed(&mut data, start, &mut rust));
-            } else {
-                times.1.push(timed(&mut data, start, &mut rattle));
-            }
+        for turn in 0..steps.len() {
+            let x = (round + turn) % steps.len();
+            times[x].push(timed(&mut data, start, &mut steps[x]));
             let want = left.get_or_insert_with(|| data[0].clone());
             assert!(data[0].same(want));
         }
     }
     let own = look() / copies as f64;
-    (low(times.0) - own, low(times.1) - own)
+    let mut each: Vec<f64> = times.into_iter().map(|x| low(x) - own).collect();
+    let rattle = each.pop().unwrap();
+    Times { rust: names.into_iter().zip(each).collect(), rattle }
 }
 
-fn row(name: &str, (rust, rattle): (f64, f64)) {
-    println!("| {name} | {rust:.0} | {rattle:.0} | {:.2} |", rattle / rust);
+/// The rows in order, each with its times in every pass.
+#[derive(Default)]
+struct Table {
+    rows: Vec<(String, Vec<Times>)>,
+}
+
+impl Table {
+    fn row(&mut self, name: String, times: Times) {
+        match self.rows.iter_mut().find(|x| x.0 == name) {
+            Some(row) => row.1.push(times),
+            None => self.rows.push((name, vec![times])),
+        }
+    }
+
+    fn print(&mut self) {
+        println!("| What | Rust, ns | version | Rattle, ns | ratio |");
+        println!("|---|---|---|---|---|");
+        for (name, passes) in &mut self.rows {
+            passes.sort_by(|a, b| a.ratio().total_cmp(&b.ratio()));
+            let middle = &passes[passes.len() / 2];
+            let (version, rust) = middle.fastest();
+            println!("| {name} | {rust:.0} | {version} | {:.0} | {:.2} |", middle.rattle, middle.ratio());
+        }
+    }
 }
 
 // ---- a column of each step
 
 /// Column c of a task of stage k, at row and column i. Like Rattle's, it is called and told its indices.
 #[inline(never)]
-fn plain_step(kind: usize, s: &Shape, m: &mut [f64], l: &mut [u8], k: usize, i: usize, c: usize) -> bool {
+fn plain_step<V: Version>(kind: usize, s: &Shape, m: &mut [f64], l: &mut [u8], k: usize, i: usize, c: usize) -> bool {
     match kind {
-        1 => plain::factor(s, m, l, k, c),
-        2 => plain::apply(s, m, l, k, i, c),
-        3 => plain::couple(s, m, l, k, i, c),
-        _ => plain::pair(s, m, l, k, i, i, c),
+        1 => plain::factor::<V>(s, m, l, k, c),
+        2 => plain::apply::<V>(s, m, l, k, i, c),
+        3 => plain::couple::<V>(s, m, l, k, i, c),
+        _ => plain::pair::<V>(s, m, l, k, i, i, c),
     }
 }
 
-fn plain_columns(kind: usize, s: &Shape, k: usize, i: usize, x: &mut Lent) {
+fn plain_columns<V: Version>(kind: usize, s: &Shape, k: usize, i: usize, x: &mut Lent) {
     for c in 0..s.side {
-        assert!(plain_step(kind, s, &mut x.to.matrix, &mut x.to.lists, k, i, c));
+        assert!(plain_step::<V>(kind, s, &mut x.to.matrix, &mut x.to.lists, k, i, c));
     }
 }
 
@@ -185,7 +251,7 @@ fn rattle_columns(kind: usize, s: &Shape, k: usize, i: usize, x: &mut Lent) {
     }
 }
 
-fn kernels(t: usize, rounds: usize) {
+fn kernels(table: &mut Table, t: usize, rounds: usize) {
     let s = black_box(Shape { tiles: 2, side: t });
     let mut start = fresh(&s, 7);
     // lists that ask for exchanges: entry c names a row from c on, and a lower row
@@ -194,15 +260,12 @@ fn kernels(t: usize, rounds: usize) {
         start.to.lists[2 * t + c] = (c % 3) as u8;
     }
     let (k, i) = black_box((0, 1));
-    let mut sum = (0.0, 0.0);
-    for kind in 1..=4 {
-        // all t columns of a task, so that each column's share counts
-        let both = compare(rounds, 20, &start, |x| plain_columns(kind, &s, k, i, x), |x| rattle_columns(kind, &s, k, i, x));
-        let each = (both.0 / t as f64, both.1 / t as f64);
-        row(&format!("T-{kind}, a column, t = {t}"), each);
-        sum = (sum.0 + each.0, sum.1 + each.1);
+    // all t columns of a task, so that each column's share counts
+    let each = [1, 2, 3, 4].map(|kind| compare(rounds, 20, &start, versions!(plain_columns, |x| kind, &s, k, i, x), |x| rattle_columns(kind, &s, k, i, x)).over(t));
+    for (x, times) in each.iter().enumerate() {
+        table.row(format!("T-{}, a column, t = {t}", x + 1), times.clone());
     }
-    row(&format!("the four together, t = {t}"), sum);
+    table.row(format!("the four together, t = {t}"), each.iter().cloned().reduce(|a, b| a.plus(&b)).unwrap());
 }
 
 // ---- whole runs
@@ -216,36 +279,28 @@ fn factorize(s: &Shape, workers: usize, budget: u64, x: &mut Lent) -> u64 {
     }
 }
 
-fn runs(tiles: usize, t: usize, rounds: usize) {
+fn plain_run<V: Version>(s: &Shape, x: &mut Lent) {
+    loops::loops::<V>(s, &mut x.to.matrix, &mut x.to.lists, bytes(&mut x.to.records));
+}
+
+fn runs(table: &mut Table, tiles: usize, t: usize, rounds: usize) {
     let s = black_box(Shape { tiles, side: t });
     let start = fresh(&s, 11);
     let calls = (loops::task_count(tiles) * (t + 1)) as u64;
     for workers in [1, 8, 32] {
-        let both = compare(
-            rounds,
-            1,
-            &start,
-            |x| loops::loops(&s, &mut x.to.matrix, &mut x.to.lists, bytes(&mut x.to.records)),
-            |x| assert_eq!(factorize(&s, workers, u64::MAX, x), calls),
-        );
-        row(&format!("opening and whole run, N = {tiles}, t = {t}, W = {workers}"), both);
+        let times = compare(rounds, 1, &start, versions!(plain_run, |x| &s, x), |x| assert_eq!(factorize(&s, workers, u64::MAX, x), calls));
+        table.row(format!("opening and whole run, N = {tiles}, t = {t}, W = {workers}"), times);
     }
-    let both = compare(
-        rounds,
-        1,
-        &start,
-        |x| loops::loops(&s, &mut x.to.matrix, &mut x.to.lists, bytes(&mut x.to.records)),
-        |x| assert_eq!(structs::factorize(&s, 1, u64::MAX, &mut x.to), calls),
-    );
-    row(&format!("opening and whole run over structs, N = {tiles}, t = {t}, W = 1"), both);
+    let times = compare(rounds, 1, &start, versions!(plain_run, |x| &s, x), |x| assert_eq!(structs::factorize(&s, 1, u64::MAX, &mut x.to), calls));
+    table.row(format!("opening and whole run over structs, N = {tiles}, t = {t}, W = 1"), times);
 }
 
 // ---- a take and a column call
 
 #[inline(never)]
-fn plain_take(s: &Shape, workers: usize, p: usize, x: &mut Lent) {
+fn plain_take<V: Version>(s: &Shape, workers: usize, p: usize, x: &mut Lent) {
     let mut slots = [IDLE; 32];
-    assert_eq!(calls::take(s, &x.to.matrix, &x.to.lists, bytes(&mut x.to.records), &mut slots[..workers], 0, p), 0);
+    assert_eq!(calls::take::<V>(s, &x.to.matrix, &x.to.lists, bytes(&mut x.to.records), &mut slots[..workers], 0, p), 0);
 }
 
 #[inline(never)]
@@ -254,10 +309,10 @@ fn rattle_take(s: &Shape, workers: usize, p: usize, x: &mut Lent) {
 }
 
 #[inline(never)]
-fn plain_column(s: &Shape, workers: usize, p: usize, c: usize, x: &mut Lent) {
+fn plain_column<V: Version>(s: &Shape, workers: usize, p: usize, c: usize, x: &mut Lent) {
     let mut slots = [IDLE; 32];
     slots[0] = Worker { busy: true, task: p as u16, column: c as u8 };
-    assert_eq!(calls::work(s, &mut x.to.matrix, &mut x.to.lists, bytes(&mut x.to.records), &mut slots[..workers], 0), 0);
+    assert_eq!(calls::work::<V>(s, &mut x.to.matrix, &mut x.to.lists, bytes(&mut x.to.records), &mut slots[..workers], 0), 0);
 }
 
 #[inline(never)]
@@ -275,8 +330,12 @@ fn struct_column(s: &Shape, workers: usize, p: usize, c: usize, x: &mut Lent) {
     assert_eq!(structs::column(s, workers, p, c, &mut x.to), 0);
 }
 
+fn plain_task<V: Version>(s: &Shape, workers: usize, p: usize, x: &mut Lent) {
+    (0..s.side).for_each(|c| plain_column::<V>(s, workers, p, c, x));
+}
+
 /// A T-4 in the middle of the tasks is taken, and worked column by column.
-fn single_calls(tiles: usize, t: usize, rounds: usize) {
+fn single_calls(table: &mut Table, tiles: usize, t: usize, rounds: usize) {
     let s = black_box(Shape { tiles, side: t });
     let k = tiles / 3;
     let p = loops::number(tiles, k, k + 2, k + 2);
@@ -287,34 +346,22 @@ fn single_calls(tiles: usize, t: usize, rounds: usize) {
     taken.to.workers.busy[0] = true;
     taken.to.workers.task[0] = p as u16;
     for workers in [1, 32] {
-        let both = compare(rounds, 1, &start, |x| plain_take(&s, workers, p, x), |x| rattle_take(&s, workers, p, x));
-        row(&format!("a take, N = {tiles}, t = {t}, W = {workers}"), both);
-        let all = compare(
-            rounds,
-            1,
-            &taken,
-            |x| (0..t).for_each(|c| plain_column(&s, workers, p, c, x)),
-            |x| (0..t).for_each(|_| rattle_column(&s, workers, x)),
-        );
-        row(&format!("a column call of T-4, N = {tiles}, t = {t}, W = {workers}"), (all.0 / t as f64, all.1 / t as f64));
+        let times = compare(rounds, 1, &start, versions!(plain_take, |x| &s, workers, p, x), |x| rattle_take(&s, workers, p, x));
+        table.row(format!("a take, N = {tiles}, t = {t}, W = {workers}"), times);
+        let all = compare(rounds, 1, &taken, versions!(plain_task, |x| &s, workers, p, x), |x| (0..t).for_each(|_| rattle_column(&s, workers, x)));
+        table.row(format!("a column call of T-4, N = {tiles}, t = {t}, W = {workers}"), all.over(t));
     }
-    let both = compare(rounds, 1, &start, |x| plain_take(&s, 1, p, x), |x| struct_take(&s, 1, p, x));
-    row(&format!("a take over structs, N = {tiles}, t = {t}, W = 1"), both);
-    let all = compare(
-        rounds,
-        1,
-        &taken,
-        |x| (0..t).for_each(|c| plain_column(&s, 1, p, c, x)),
-        |x| (0..t).for_each(|c| struct_column(&s, 1, p, c, x)),
-    );
-    row(&format!("a column call of T-4 over structs, N = {tiles}, t = {t}, W = 1"), (all.0 / t as f64, all.1 / t as f64));
+    let times = compare(rounds, 1, &start, versions!(plain_take, |x| &s, 1, p, x), |x| struct_take(&s, 1, p, x));
+    table.row(format!("a take over structs, N = {tiles}, t = {t}, W = 1"), times);
+    let all = compare(rounds, 1, &taken, versions!(plain_task, |x| &s, 1, p, x), |x| (0..t).for_each(|c| struct_column(&s, 1, p, c, x)));
+    table.row(format!("a column call of T-4 over structs, N = {tiles}, t = {t}, W = 1"), all.over(t));
 }
 
 // ---- a solve
 
 #[inline(never)]
-fn plain_solve(s: &Shape, right: &[f64], x: &mut Lent) {
-    assert_eq!(solving::solve(s, &x.to.matrix, &x.to.lists, bytes(&mut x.to.records), &[IDLE], right, &mut x.answers), 0);
+fn plain_solve<V: Version>(s: &Shape, right: &[f64], x: &mut Lent) {
+    assert_eq!(solving::solve::<V>(s, &x.to.matrix, &x.to.lists, bytes(&mut x.to.records), &[IDLE], right, &mut x.answers), 0);
 }
 
 #[inline(never)]
@@ -327,16 +374,16 @@ fn struct_solve(s: &Shape, right: &[f64], x: &mut Lent) {
     assert_eq!(structs::solve(s, right, &x.to, &mut x.answers), 0);
 }
 
-fn solves(tiles: usize, t: usize, rounds: usize) {
+fn solves(table: &mut Table, tiles: usize, t: usize, rounds: usize) {
     let s = black_box(Shape { tiles, side: t });
     let mut start = fresh(&s, 17);
     factorize(&s, 1, u64::MAX, &mut start);
     start.answers = vec![0.0; tiles * t];
     let right = numbers(19, tiles * t);
-    let both = compare(rounds, 1, &start, |x| plain_solve(&s, &right, x), |x| rattle_solve(&s, &right, x));
-    row(&format!("a solve, N = {tiles}, t = {t}, W = 1"), both);
-    let both = compare(rounds, 1, &start, |x| plain_solve(&s, &right, x), |x| struct_solve(&s, &right, x));
-    row(&format!("a solve over structs, N = {tiles}, t = {t}, W = 1"), both);
+    let times = compare(rounds, 1, &start, versions!(plain_solve, |x| &s, &right, x), |x| rattle_solve(&s, &right, x));
+    table.row(format!("a solve, N = {tiles}, t = {t}, W = 1"), times);
+    let times = compare(rounds, 1, &start, versions!(plain_solve, |x| &s, &right, x), |x| struct_solve(&s, &right, x));
+    table.row(format!("a solve over structs, N = {tiles}, t = {t}, W = 1"), times);
 }
 
 // ---- a system file
@@ -364,34 +411,36 @@ fn rattle_write(s: &Shape, x: &mut Lent) {
 }
 
 /// A system is written, and what was written is read.
-fn system_files(tiles: usize, t: usize, rounds: usize) {
+fn system_files(table: &mut Table, tiles: usize, t: usize, rounds: usize) {
     let s = black_box(Shape { tiles, side: t });
     let mut start = fresh(&s, 23);
     start.text = vec![0; 7 + tiles * tiles * (7 + 16 * t * t)];
     let mut written = start.clone();
     plain_write(&s, &mut written);
     written.to.matrix.fill(0.0);
-    let read = compare(rounds, 1, &written, |x| plain_read(&s, x), |x| rattle_read(&s, x));
-    row(&format!("a system file read, N = {tiles}, t = {t}"), read);
-    let write = compare(rounds, 1, &start, |x| plain_write(&s, x), |x| rattle_write(&s, x));
-    row(&format!("a system file written, N = {tiles}, t = {t}"), write);
+    let read = compare(rounds, 1, &written, vec![("tables", Box::new(|x: &mut Lent| plain_read(&s, x)))], |x| rattle_read(&s, x));
+    table.row(format!("a system file read, N = {tiles}, t = {t}"), read);
+    let write = compare(rounds, 1, &start, vec![("tables", Box::new(|x: &mut Lent| plain_write(&s, x)))], |x| rattle_write(&s, x));
+    table.row(format!("a system file written, N = {tiles}, t = {t}"), write);
 }
 
 fn main() {
     let more: usize = std::env::args().nth(1).map_or(1, |x| x.parse().expect("a number of rounds"));
-    println!("| What | Rust, ns | Rattle, ns | ratio |");
-    println!("|---|---|---|---|");
-    for t in [4, 8, 16] {
-        kernels(t, 2000 * more);
+    let mut table = Table::default();
+    for _ in 0..3 {
+        for t in [4, 8, 16] {
+            kernels(&mut table, t, 500 * more);
+        }
+        for (tiles, t) in [(1, 16), (2, 2), (4, 4), (8, 8), (16, 1), (16, 4), (16, 16)] {
+            runs(&mut table, tiles, t, if tiles * t == 256 { 50 } else { 200 } * more);
+        }
+        single_calls(&mut table, 16, 16, 200 * more);
+        for (tiles, t) in [(4, 4), (8, 8), (16, 16)] {
+            solves(&mut table, tiles, t, 200 * more);
+        }
+        for (tiles, t) in [(4, 8), (16, 16)] {
+            system_files(&mut table, tiles, t, 100 * more);
+        }
     }
-    for (tiles, t) in [(4, 4), (8, 8), (16, 16)] {
-        runs(tiles, t, if tiles == 16 { 200 } else { 400 } * more);
-    }
-    single_calls(16, 16, 500 * more);
-    for (tiles, t) in [(4, 4), (8, 8), (16, 16)] {
-        solves(tiles, t, 500 * more);
-    }
-    for (tiles, t) in [(4, 8), (16, 16)] {
-        system_files(tiles, t, 300 * more);
-    }
+    table.print();
 }

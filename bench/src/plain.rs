@@ -29,28 +29,238 @@ pub fn update(x: f64, m: f64, y: f64) -> f64 {
     }
 }
 
-/// Updates columns from..t of the rows at start by the row at top, with a multiplier a row. False where a number isn't finite.
-/// The two rows are slices, so that no index is tested in the inner loop.
-fn update_rows(m: &mut [f64], t: usize, top: usize, start: usize, rows: usize, from: usize, multiplier: impl Fn(&[f64], usize) -> f64) -> bool {
-    for r in 0..rows {
-        let by = multiplier(m, r);
-        let at = start + r * t;
-        let (row, upper): (&mut [f64], &[f64]) = if top < at {
-            let (a, b) = m.split_at_mut(at);
-            (&mut b[from..t], &a[top + from..top + t])
+/// A way to write the loops in which numbers are computed or tested. Rattle is compared with the one that is fastest.
+pub trait Version {
+    /// Whether a loop of tests ends at the first that decides.
+    const LEAVES: bool;
+
+    /// Updates columns from..t of the rows at start by the row at top, with a multiplier a row. False where a number isn't finite.
+    fn update_rows(m: &mut [f64], t: usize, top: usize, start: usize, rows: usize, from: usize, multiplier: impl Fn(&[f64], usize) -> f64) -> bool;
+
+    /// Divides column c of the rows at start by the row at top's, and updates what is right of it. False where a number isn't finite.
+    #[inline(always)]
+    fn eliminate(m: &mut [f64], t: usize, top: usize, start: usize, rows: usize, c: usize) -> bool {
+        let pivot = m[top + c];
+        for r in 0..rows {
+            m[start + r * t + c] /= pivot;
+        }
+        Self::update_rows(m, t, top, start, rows, c + 1, |m, r| m[start + r * t + c])
+    }
+
+    /// Updates the numbers of y by the number top, with a multiplier each: column c of the rows. False where one isn't finite.
+    fn update_column(rows: &[f64], t: usize, c: usize, top: f64, y: &mut [f64]) -> bool;
+
+    /// Whether a test holds for some.
+    #[inline(always)]
+    fn some(mut tests: impl Iterator<Item = bool>) -> bool {
+        if Self::LEAVES {
+            tests.any(|x| x)
         } else {
-            let (a, b) = m.split_at_mut(top);
-            (&mut a[at + from..at + t], &b[from..t])
-        };
-        for (x, y) in row.iter_mut().zip(upper) {
-            let v = update(*x, by, *y);
+            tests.fold(false, |some, x| some | x)
+        }
+    }
+
+    fn all_finite(numbers: &[f64]) -> bool {
+        !Self::some(numbers.iter().map(|x| !x.is_finite()))
+    }
+}
+
+/// The loops end at the first number that isn't finite.
+pub struct Leaving;
+/// The test of all numbers is collected, so that they can be computed several at a time.
+pub struct Collected;
+/// Collected, and whole rows of 4, 8 and 16 numbers have loops of their own; a row is divided and updated in one go.
+pub struct Widths;
+/// Four numbers are computed, stored and tested together, and a row is divided and updated in one go, as in Rattle.
+pub struct Fours;
+
+/// The row at `at` and the one at `top`, from a column on. They are slices, so that no index is tested in a loop over them.
+#[inline(always)]
+fn two_rows(m: &mut [f64], t: usize, top: usize, at: usize, from: usize) -> (&mut [f64], &[f64]) {
+    if top < at {
+        let (a, b) = m.split_at_mut(at);
+        (&mut b[from..t], &a[top + from..top + t])
+    } else {
+        let (a, b) = m.split_at_mut(top);
+        (&mut a[at + from..at + t], &b[from..t])
+    }
+}
+
+impl Version for Leaving {
+    const LEAVES: bool = true;
+
+    #[inline(always)]
+    fn update_rows(m: &mut [f64], t: usize, top: usize, start: usize, rows: usize, from: usize, multiplier: impl Fn(&[f64], usize) -> f64) -> bool {
+        for r in 0..rows {
+            let by = multiplier(m, r);
+            let (row, upper) = two_rows(m, t, top, start + r * t, from);
+            for (x, y) in row.iter_mut().zip(upper) {
+                let v = update(*x, by, *y);
+                if !v.is_finite() {
+                    return false;
+                }
+                *x = v;
+            }
+        }
+        true
+    }
+
+    #[inline(always)]
+    fn update_column(rows: &[f64], t: usize, c: usize, top: f64, y: &mut [f64]) -> bool {
+        for (row, x) in rows.chunks_exact(t).zip(y) {
+            let v = update(*x, row[c], top);
             if !v.is_finite() {
                 return false;
             }
             *x = v;
         }
+        true
     }
-    true
+}
+
+/// Updates a row by another and a multiplier that isn't zero. False where a number isn't finite.
+#[inline(always)]
+fn update_row(row: &mut [f64], by: f64, upper: &[f64]) -> bool {
+    let mut good = true;
+    for (x, y) in row.iter_mut().zip(upper) {
+        let v = *x - by * *y;
+        good &= v.is_finite();
+        *x = v;
+    }
+    good
+}
+
+impl Version for Collected {
+    const LEAVES: bool = false;
+
+    #[inline(always)]
+    fn update_rows(m: &mut [f64], t: usize, top: usize, start: usize, rows: usize, from: usize, multiplier: impl Fn(&[f64], usize) -> f64) -> bool {
+        let mut good = true;
+        for r in 0..rows {
+            let by = multiplier(m, r);
+            let (row, upper) = two_rows(m, t, top, start + r * t, from);
+            if by != 0.0 {
+                good &= update_row(row, by, upper);
+            }
+        }
+        good
+    }
+
+    #[inline(always)]
+    fn update_column(rows: &[f64], t: usize, c: usize, top: f64, y: &mut [f64]) -> bool {
+        let mut good = true;
+        for (row, x) in rows.chunks_exact(t).zip(y) {
+            *x = update(*x, row[c], top);
+            good &= x.is_finite();
+        }
+        good
+    }
+}
+
+/// The multiplier of the row at `at`, divided and stored, and what is right of it in that row and in the one at top.
+#[inline(always)]
+fn divide(m: &mut [f64], t: usize, top: usize, at: usize, c: usize, pivot: f64) -> (f64, &mut [f64], &[f64]) {
+    let (row, upper) = two_rows(m, t, top, at, c);
+    let (first, right) = row.split_first_mut().unwrap();
+    *first /= pivot;
+    (*first, right, &upper[1..])
+}
+
+/// Updates whole rows of T numbers.
+#[inline(always)]
+fn update_wide<const T: usize>(m: &mut [f64], top: usize, start: usize, rows: usize, multiplier: impl Fn(&[f64], usize) -> f64) -> bool {
+    let upper: [f64; T] = m[top..top + T].try_into().unwrap();
+    let mut good = true;
+    for r in 0..rows {
+        let by = multiplier(m, r);
+        if by != 0.0 {
+            let row: &mut [f64; T] = (&mut m[start + r * T..][..T]).try_into().unwrap();
+            good &= update_row(row, by, &upper);
+        }
+    }
+    good
+}
+
+impl Version for Widths {
+    const LEAVES: bool = false;
+
+    #[inline(always)]
+    fn update_rows(m: &mut [f64], t: usize, top: usize, start: usize, rows: usize, from: usize, multiplier: impl Fn(&[f64], usize) -> f64) -> bool {
+        match (from, t) {
+            (0, 16) => update_wide::<16>(m, top, start, rows, multiplier),
+            (0, 8) => update_wide::<8>(m, top, start, rows, multiplier),
+            (0, 4) => update_wide::<4>(m, top, start, rows, multiplier),
+            _ => Collected::update_rows(m, t, top, start, rows, from, multiplier),
+        }
+    }
+
+    #[inline(always)]
+    fn eliminate(m: &mut [f64], t: usize, top: usize, start: usize, rows: usize, c: usize) -> bool {
+        let pivot = m[top + c];
+        let mut good = true;
+        for r in 0..rows {
+            let (by, row, upper) = divide(m, t, top, start + r * t, c, pivot);
+            if by != 0.0 {
+                good &= update_row(row, by, upper);
+            }
+        }
+        good
+    }
+
+    #[inline(always)]
+    fn update_column(rows: &[f64], t: usize, c: usize, top: f64, y: &mut [f64]) -> bool {
+        match t {
+            16 => Collected::update_column(rows, 16, c, top, y),
+            8 => Collected::update_column(rows, 8, c, top, y),
+            4 => Collected::update_column(rows, 4, c, top, y),
+            _ => Collected::update_column(rows, t, c, top, y),
+        }
+    }
+}
+
+/// Updates a row in groups of four, and the rest of it.
+#[inline(always)]
+fn update_by_fours(row: &mut [f64], by: f64, upper: &[f64]) -> bool {
+    let (mut groups, mut uppers) = (row.chunks_exact_mut(4), upper.chunks_exact(4));
+    for (group, upper) in groups.by_ref().zip(uppers.by_ref()) {
+        if !update_row(group, by, upper) {
+            return false;
+        }
+    }
+    update_row(groups.into_remainder(), by, uppers.remainder())
+}
+
+impl Version for Fours {
+    const LEAVES: bool = false;
+
+    #[inline(always)]
+    fn update_rows(m: &mut [f64], t: usize, top: usize, start: usize, rows: usize, from: usize, multiplier: impl Fn(&[f64], usize) -> f64) -> bool {
+        for r in 0..rows {
+            let by = multiplier(m, r);
+            let (row, upper) = two_rows(m, t, top, start + r * t, from);
+            if by != 0.0 && !update_by_fours(row, by, upper) {
+                return false;
+            }
+        }
+        true
+    }
+
+    #[inline(always)]
+    fn eliminate(m: &mut [f64], t: usize, top: usize, start: usize, rows: usize, c: usize) -> bool {
+        let pivot = m[top + c];
+        for r in 0..rows {
+            let (by, row, upper) = divide(m, t, top, start + r * t, c, pivot);
+            if by != 0.0 && !update_by_fours(row, by, upper) {
+                return false;
+            }
+        }
+        true
+    }
+
+    #[inline(always)]
+    fn update_column(rows: &[f64], t: usize, c: usize, top: f64, y: &mut [f64]) -> bool {
+        Collected::update_column(rows, t, c, top, y)
+    }
 }
 
 /// Exchanges the n numbers from a on with the n from b on.
@@ -62,7 +272,7 @@ fn exchange(m: &mut [f64], a: usize, b: usize, n: usize) {
 }
 
 /// Column c of T-1(k). False where a computed number isn't finite; so are the others.
-pub fn factor(s: &Shape, m: &mut [f64], l: &mut [u8], k: usize, c: usize) -> bool {
+pub fn factor<V: Version>(s: &Shape, m: &mut [f64], l: &mut [u8], k: usize, c: usize) -> bool {
     let t = s.side;
     let a = s.tile(k, k);
     let (mut row, mut best) = (c, m[a + c * t + c].abs());
@@ -78,16 +288,11 @@ pub fn factor(s: &Shape, m: &mut [f64], l: &mut [u8], k: usize, c: usize) -> boo
         return true;
     }
     exchange(m, a + c * t, a + row * t, t);
-    let pivot = m[a + c * t + c];
-    for r in c + 1..t {
-        m[a + r * t + c] /= pivot;
-    }
-    let start = a + (c + 1) * t;
-    update_rows(m, t, a + c * t, start, t - c - 1, c + 1, |m, r| m[start + r * t + c])
+    V::eliminate(m, t, a + c * t, a + (c + 1) * t, t - c - 1, c)
 }
 
 /// Column c of T-2(k,j).
-pub fn apply(s: &Shape, m: &mut [f64], l: &[u8], k: usize, j: usize, c: usize) -> bool {
+pub fn apply<V: Version>(s: &Shape, m: &mut [f64], l: &[u8], k: usize, j: usize, c: usize) -> bool {
     let t = s.side;
     let (f, b) = (s.tile(k, k), s.tile(k, j));
     if c == 0 {
@@ -95,11 +300,11 @@ pub fn apply(s: &Shape, m: &mut [f64], l: &[u8], k: usize, j: usize, c: usize) -
             exchange(m, b + r * t, b + l[s.list(k, k) + r] as usize * t, t);
         }
     }
-    update_rows(m, t, b + c * t, b + (c + 1) * t, t - c - 1, 0, |m, r| m[f + (c + 1 + r) * t + c])
+    V::update_rows(m, t, b + c * t, b + (c + 1) * t, t - c - 1, 0, |m, r| m[f + (c + 1 + r) * t + c])
 }
 
 /// Column c of T-3(k,i).
-pub fn couple(s: &Shape, m: &mut [f64], l: &mut [u8], k: usize, i: usize, c: usize) -> bool {
+pub fn couple<V: Version>(s: &Shape, m: &mut [f64], l: &mut [u8], k: usize, i: usize, c: usize) -> bool {
     let t = s.side;
     let (u, d) = (s.tile(k, k), s.tile(i, k));
     let (mut entry, mut best) = (0, m[u + c * t + c].abs());
@@ -117,20 +322,16 @@ pub fn couple(s: &Shape, m: &mut [f64], l: &mut [u8], k: usize, i: usize, c: usi
     if entry > 0 {
         exchange(m, u + c * t + c, d + (entry - 1) * t + c, t - c);
     }
-    let pivot = m[u + c * t + c];
-    for r in 0..t {
-        m[d + r * t + c] /= pivot;
-    }
-    update_rows(m, t, u + c * t, d, t, c + 1, |m, r| m[d + r * t + c])
+    V::eliminate(m, t, u + c * t, d, t, c)
 }
 
 /// Column c of T-4(k,i,j).
-pub fn pair(s: &Shape, m: &mut [f64], l: &[u8], k: usize, i: usize, j: usize, c: usize) -> bool {
+pub fn pair<V: Version>(s: &Shape, m: &mut [f64], l: &[u8], k: usize, i: usize, j: usize, c: usize) -> bool {
     let t = s.side;
     let (f, u, d) = (s.tile(i, k), s.tile(k, j), s.tile(i, j));
     let entry = l[s.list(i, k) + c] as usize;
     if entry > 0 {
         exchange(m, u + c * t, d + (entry - 1) * t, t);
     }
-    update_rows(m, t, u + c * t, d, t, 0, |m, r| m[f + r * t + c])
+    V::update_rows(m, t, u + c * t, d, t, 0, |m, r| m[f + r * t + c])
 }

@@ -1,7 +1,7 @@
 //! A solve in Rust, with the checks of refusals 1, 2, 4, 8, 9, 10 and 3. It answers the refusal's number, or 0.
 use crate::calls::{bad_sizes, damaged, Worker};
 use crate::loops::{Record, DONE, FAILED};
-use crate::plain::{update, Shape};
+use crate::plain::{update, Shape, Version};
 
 /// A final diagonal element is zero.
 fn singular(s: &Shape, matrix: &[f64]) -> bool {
@@ -15,20 +15,8 @@ fn singular(s: &Shape, matrix: &[f64]) -> bool {
     false
 }
 
-/// Updates the numbers of y by the number top, with a multiplier each: column c of the tile's rows. False where one isn't finite.
-fn update_column(rows: &[f64], t: usize, c: usize, top: f64, y: &mut [f64]) -> bool {
-    for (row, x) in rows.chunks_exact(t).zip(y) {
-        let v = update(*x, row[c], top);
-        if !v.is_finite() {
-            return false;
-        }
-        *x = v;
-    }
-    true
-}
-
 /// The right side through T-2(k) and every T-4(k,i). False where a computed number isn't finite.
-fn stage(s: &Shape, matrix: &[f64], lists: &[u8], y: &mut [f64], k: usize) -> bool {
+fn stage<V: Version>(s: &Shape, matrix: &[f64], lists: &[u8], y: &mut [f64], k: usize) -> bool {
     let t = s.side;
     let (above, below) = y.split_at_mut((k + 1) * t);
     let own = &mut above[k * t..];
@@ -38,7 +26,7 @@ fn stage(s: &Shape, matrix: &[f64], lists: &[u8], y: &mut [f64], k: usize) -> bo
     }
     for c in 0..t {
         let top = own[c];
-        if !update_column(&tile[(c + 1) * t..], t, c, top, &mut own[c + 1..]) {
+        if !V::update_column(&tile[(c + 1) * t..], t, c, top, &mut own[c + 1..]) {
             return false;
         }
     }
@@ -51,7 +39,7 @@ fn stage(s: &Shape, matrix: &[f64], lists: &[u8], y: &mut [f64], k: usize) -> bo
             if entry > 0 {
                 std::mem::swap(&mut own[c], &mut lower[entry - 1]);
             }
-            if !update_column(tile, t, c, own[c], lower) {
+            if !V::update_column(tile, t, c, own[c], lower) {
                 return false;
             }
         }
@@ -85,7 +73,7 @@ fn back_rows(s: &Shape, matrix: &[f64], y: &mut [f64]) -> bool {
     true
 }
 
-pub fn solve(s: &Shape, matrix: &[f64], lists: &[u8], records: &[Record], workers: &[Worker], right: &[f64], answers: &mut [f64]) -> u8 {
+pub fn solve<V: Version>(s: &Shape, matrix: &[f64], lists: &[u8], records: &[Record], workers: &[Worker], right: &[f64], answers: &mut [f64]) -> u8 {
     let n = s.tiles * s.side;
     let refusal = bad_sizes(s, matrix, lists, records, workers);
     if refusal != 0 {
@@ -94,26 +82,26 @@ pub fn solve(s: &Shape, matrix: &[f64], lists: &[u8], records: &[Record], worker
     if right.len() != n || answers.len() != n {
         return 2;
     }
-    if damaged(s, lists, records, workers) || !matrix.iter().all(|x| x.is_finite()) {
+    if damaged::<V>(s, lists, records, workers) || !V::all_finite(matrix) {
         return 4;
     }
-    if records.iter().any(|r| r[4] < DONE) {
+    if V::some(records.iter().map(|r| r[4] < DONE)) {
         return 8;
     }
-    if records.iter().any(|r| r[4] == FAILED) {
+    if V::some(records.iter().map(|r| r[4] == FAILED)) {
         return 9;
     }
     if singular(s, matrix) {
         return 10;
     }
-    if !right.iter().all(|x| x.is_finite()) {
+    if !V::all_finite(right) {
         return 3;
     }
     let mut work = [0.0; 256];
     let y = &mut work[..n];
     y.copy_from_slice(right);
     for k in 0..s.tiles {
-        if !stage(s, matrix, lists, y, k) {
+        if !stage::<V>(s, matrix, lists, y, k) {
             return 11;
         }
     }

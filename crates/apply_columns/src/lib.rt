@@ -10,7 +10,6 @@ use column_ends::column_end;
 use fills::fill_numbers;
 use model::ColumnEnd;
 use model::Sizes;
-use multipliers::read_column;
 use places::list_start;
 use places::tile_start;
 
@@ -30,11 +29,10 @@ pub fn apply_column(
     let n = z.tiles;
     let t = z.side;
     let a = tile_start(n, t, k, j);
-    let d = tile_start(n, t, k, k);
+    let f = tile_start(n, t, k, k);
     let p = list_start(n, t, k, k);
-    let l = read_column(matrix, d + ((c + 1) * t + c), t, t - (c + 1));
     start_block(matrix, lists, t, t, a, p, c);
-    if apply_rows(matrix, t, t, a, c, l) {
+    if apply_rows(matrix, t, f, a, c) {
         return column_end(t, c);
     }
     fill_numbers(matrix, a, t * t);

@@ -1,29 +1,25 @@
 -- How a column ends: from what the inner steps promise to the definition of a column's end. Assumes nothing.
 use mathlib.Core.Path.{_≡_, refl, sym, _∙_, ap}
+use mathlib.Core.Logic.{inr}
 use mathlib.Core.Bool.{Bool, true, false, cond}
 use mathlib.Core.List.{List}
 use Prim.Native.Nat.{ℕ, suc, _+_, _-_, _*_, _<_, _≤_}
-use native.Mathlib.Nat.{zero-add}
 use native.Mathlib.Omega.{arith}
-use lib.Dec.{eqb, leb}
+use lib.Dec.{eqb}
 use lib.ListN.{length, getD, set, replicate, length-replicate}
 use lib.Ieee.{Float, nan}
-use borrow.Author.Tests.{leb-false}
 use Rattle.model.specs.declared.Pivot.{Pivot}
-use Rattle.model.specs.Lists.{below, every, part, withPart}
-use Rattle.model.specs.Num.{finite, plusZero, isZero, update}
+use Rattle.model.specs.Lists.{every, part, withPart}
+use Rattle.model.specs.Num.{finite, plusZero, isZero}
 use Rattle.model.specs.Tile.{at, zeros, upperFilled}
-use Rattle.model.specs.Column.{beyond, applyStart, factorPivot, couplePivot}
+use Rattle.model.specs.Column.{applyStart, factorPivot, couplePivot}
 use Rattle.model.specs.Task.{Task, T-1, T-2, T-3, T-4}
 use Rattle.model.specs.Links.{taken, done, failed}
 use Rattle.model.specs.Plan.{Plan, plan}
 use Rattle.model.specs.Buffer.{Buffers, tile, putTile, putRows, tileOf, withTile, withRows, worked, sound, fillTile, fillRows, fillUpper, filled, columnEnds}
 use Rattle.laws.specs.Apart.{Apart}
-use Rattle.laws.proofs.Parts.{Fits, length-put, part-put, put-put, length-part}
-use Rattle.laws.proofs.Blocks.{block-cong}
-use Rattle.column_laws.specs.Steps.{tileStart, listStart, RowsApplied, appliedBlock, appliedComputes, RowsPaired, pairedBlock, pairedComputes, upperAt, lowerAt, withTwo, TileFactored, factored, exchangedAt, TilesCoupled, eliminatedRows}
-use Rattle.column_laws.proofs.Computes.{every-joined}
-use Rattle.column_laws.proofs.Updates.{at-part}
+use Rattle.laws.proofs.Parts.{Fits, length-put, part-put, part-other, put-put, length-part}
+use Rattle.column_laws.specs.Steps.{tileStart, listStart, RowsApplied, appliedBlock, RowsPaired, upperAt, lowerAt, withTwo, TileFactored, factored, exchangedAt, TilesCoupled, eliminatedRows}
 use Rattle.column_laws.proofs.Two.{put-upper, put-lower}
 use Rattle.column_laws.proofs.Pairs.{length-upper, length-paired, length-eliminated, length-factored, length-applied}
 use Rattle.column_laws.proofs.Permutes.{length-start}
@@ -77,54 +73,21 @@ filled-two : (n u d : ℕ) (m : List Float) (apart : Apart n u d) → u + n ≤ 
 filled-two n u d m apart ru rd x y hx hy after e =
     rw (e, put-lower n u d m apart ru rd x y hx hy (zeros n) (length-zeros n), put-upper n u d m apart ru rd x (zeros n) hx (length-zeros n) (zeros n))
 
--- ---- multipliers that agree where they are used
-
-module _ (t w c : ℕ) (l l′ : ℕ → Float) where
-  applied-at : (c′ r q : ℕ) (b : List Float) → ((r : ℕ) → c′ < r → r < t → l r ≡ l′ r) → r < t → (z : Bool) → leb r c′ ≡ z
-      → cond z (at w b r q) (update (at w b r q) (l r) (at w b c′ q)) ≡ cond z (at w b r q) (update (at w b r q) (l′ r) (at w b c′ q))
-  applied-at c′ r q b h hr true e = refl
-  applied-at c′ r q b h hr false e = rw (h r (leb-false r c′ e) hr)
-
-  pub applied-same : ((r : ℕ) → c < r → r < t → l r ≡ l′ r) → (b : List Float) → appliedBlock t w c l b ≡ appliedBlock t w c l′ b
-  unfolding appliedBlock
-  applied-same h b = block-cong t w _ _ (λ r q hr hq. applied-at c r q b h hr (leb r c) refl)
-
-  pub applied-finite : ((r : ℕ) → c < r → r < t → l r ≡ l′ r) → (b : List Float) → every finite (appliedComputes t w c l b) ≡ every finite (appliedComputes t w c l′ b)
-  unfolding appliedComputes beyond
-  applied-finite h b = every-joined finite _ _ (suc c) (suc c) (t - suc c) (λ r hr. rw (h (suc c + r) (omega arith) (omega arith)))
-
-  pub paired-same : ((r : ℕ) → r < t → l r ≡ l′ r) → (u d : List Float) → pairedBlock t w c l u d ≡ pairedBlock t w c l′ u d
-  unfolding pairedBlock
-  paired-same h u d = block-cong t w _ _ (λ r q hr hq. rw (h r hr))
-
-  pub paired-finite : ((r : ℕ) → r < t → l r ≡ l′ r) → (u d : List Float) → every finite (pairedComputes t w c l u d) ≡ every finite (pairedComputes t w c l′ u d)
-  unfolding pairedComputes below
-  paired-finite h u d = every-joined finite _ _ 0 0 t (λ r hr. rw (zero-add r, h r hr))
-
--- a column of a tile, read number by number
-pub column-read : (t c x a : ℕ) (m mult : List Float) → c < t → x ≡ a + c → a + t * t ≤ length m → ((r : ℕ) → r < t → getD mult r nan ≡ getD m (x + r * t) nan)
-    → (r : ℕ) → r < t → getD mult r nan ≡ at t (part a (t * t) m) r c
-column-read t c x a m mult hc e room h r hr =
-    let i : x + r * t ≡ a + (r * t + c) = omega arith in
-    h r hr ∙ ap (λ (j : ℕ). getD m j nan) i ∙ sym (at-part t t a m r c room hr hc)
-
 -- ---- T-4
 
 module _ (N t k i j c e u d : ℕ) (hc : c < t) (m : List Float) (l : List ℕ) (lists : listStart N t i k + t ≤ length l)
     (he : e ≡ getD l (listStart N t i k + c) 0) (hu : u ≡ tileStart N t k j) (hd : d ≡ tileStart N t i j)
-    (mult after : List Float) (answer : Bool)
-    (read : (r : ℕ) → r < t → getD mult r nan ≡ at t (part (tileStart N t i k) (t * t) m) r c)
-    (p : RowsPaired t t c e u d (λ r. getD mult r nan) m after answer) where
+    (f : ℕ) (hf : f ≡ tileStart N t i k) (after : List Float) (answer : Bool) (p : RowsPaired t t c e u d (λ r. at t (part f (t * t) m) r c) m after answer) where
   pair-sound : answer ≡ sound (plan N t) (T-4 k i j) c (record { matrix = m; lists = l })
   unfolding sound
-  pair-sound = p .sound ∙ rw (hu, hd) (paired-finite t t c _ _ read _ _ ∙ ap (every finite) (sym (pair-computed N t c m l k i j hc lists e he)))
+  pair-sound = p .sound ∙ rw (hu, hd, hf) (ap (every finite) (sym (pair-computed N t c m l k i j hc lists e he)))
 
   pub pair-ends : (mark : ℕ) → answer ≡ true → mark ≡ cond (eqb (suc c) t) done taken
       → record { left = record { matrix = after; lists = l }; mark = mark } ≡ columnEnds (plan N t) (T-4 k i j) c (record { matrix = m; lists = l })
   unfolding plan
   pair-ends mark h q =
       ends-sound (plan N t) (T-4 k i j) c (record { matrix = m; lists = l }) (record { matrix = after; lists = l }) mark
-      (rw (p .whole h, hu, hd, paired-same t t c (λ r. getD mult r nan) (λ r. at t (part (tileStart N t i k) (t * t) m) r c) read) (sym (pair-worked N t c m l k i j hc lists e he)))
+      (rw (p .whole h, hu, hd, hf) (sym (pair-worked N t c m l k i j hc lists e he)))
       (sym pair-sound ∙ h) q
 
   -- the worked column and the matrix where the code stopped differ only in the two tiles, which are filled
@@ -143,19 +106,10 @@ module _ (N t k i j c e u d : ℕ) (hc : c < t) (m : List Float) (l : List ℕ) 
 
 -- ---- T-2
 
--- the multipliers below row c, read number by number
-pub below-read : (t c x a k : ℕ) (m mult : List Float) → suc c + k ≡ t → x ≡ a + (suc c * t + c) → a + t * t ≤ length m → ((i : ℕ) → i < k → getD mult i nan ≡ getD m (x + i * t) nan)
-    → (r : ℕ) → c < r → r < t → getD mult (r - suc c) nan ≡ at t (part a (t * t) m) r c
-below-read t c x a k m mult ends e room h r hc hr =
-    let p : suc c + (r - suc c) ≡ r = omega arith in
-    let i : x + (r - suc c) * t ≡ a + (r * t + c) = omega (arith, ap (λ (j : ℕ). j * t) p) in
-    h (r - suc c) (omega arith) ∙ ap (λ (j : ℕ). getD m j nan) i ∙ sym (at-part t t a m r c room hr (omega arith))
-
 module _ (N t k j c a b : ℕ) (m : List Float) (l : List ℕ) (ha : a ≡ tileStart N t k j) (hb : b ≡ listStart N t k k) (room : a + t * t ≤ length m)
-    (mid mult after : List Float) (answer : Bool)
+    (f : ℕ) (hf : f ≡ tileStart N t k k) (left : f + t * t ≤ a) (mid after : List Float) (answer : Bool)
     (x : mid ≡ withPart a (t * t) (applyStart t t c (part b t l) (part a (t * t) m)) m)
-    (read : (r : ℕ) → c < r → r < t → getD mult (r - suc c) nan ≡ at t (part (tileStart N t k k) (t * t) m) r c)
-    (p : RowsApplied t t c a (λ i. getD mult (i - suc c) nan) mid after answer) where
+    (p : RowsApplied t t c a (λ r. at t (part f (t * t) mid) r c) mid after answer) where
   start-fits : Fits (t * t) a m (applyStart t t c (part b t l) (part a (t * t) m))
   start-fits = record { whole = length-start t t c (part b t l) (part a (t * t) m) (length-part a (t * t) m room); room = room }
 
@@ -165,17 +119,21 @@ module _ (N t k j c a b : ℕ) (m : List Float) (l : List ℕ) (ha : a ≡ tileS
   put-mid : (z : List Float) → withPart a (t * t) z mid ≡ withPart a (t * t) z m
   put-mid z = rw x (put-put (t * t) nan a m (applyStart t t c (part b t l) (part a (t * t) m)) start-fits z)
 
+  -- the multipliers stand elsewhere
+  kept : part f (t * t) mid ≡ part f (t * t) m
+  kept = rw x (part-other (t * t) nan a f m (applyStart t t c (part b t l) (part a (t * t) m)) start-fits (omega arith) (inr left))
+
   apply-sound : answer ≡ sound (plan N t) (T-2 k j) c (record { matrix = m; lists = l })
   unfolding sound
-  apply-sound = p .sound ∙ applied-finite t t c _ _ read _ ∙ rw (begun, ha, hb) (ap (every finite) (sym (apply-computed N t c m l k j)))
+  apply-sound = p .sound ∙ rw (kept, begun, hf, ha, hb) (ap (every finite) (sym (apply-computed N t c m l k j)))
 
   pub apply-ends : (mark : ℕ) → answer ≡ true → mark ≡ cond (eqb (suc c) t) done taken
       → record { left = record { matrix = after; lists = l }; mark = mark } ≡ columnEnds (plan N t) (T-2 k j) c (record { matrix = m; lists = l })
   unfolding plan
   apply-ends mark h q =
       ends-sound (plan N t) (T-2 k j) c (record { matrix = m; lists = l }) (record { matrix = after; lists = l }) mark
-      (ap (λ (y : List Float). record { matrix = y; lists = l }) (p .whole h ∙ put-mid (appliedBlock t t c (λ i. getD mult (i - suc c) nan) (part a (t * t) mid)))
-      ∙ rw (begun, applied-same t t c (λ i. getD mult (i - suc c) nan) (λ r. at t (part (tileStart N t k k) (t * t) m) r c) read, ha, hb) (sym (apply-worked N t c m l k j)))
+      (ap (λ (y : List Float). record { matrix = y; lists = l }) (p .whole h ∙ put-mid (appliedBlock t t c (λ r. at t (part f (t * t) mid) r c) (part a (t * t) mid)))
+      ∙ rw (kept, begun, hf, ha, hb) (sym (apply-worked N t c m l k j)))
       (sym apply-sound ∙ h) q
 
   pub apply-fails : (last : List Float) → length after ≡ length mid → answer ≡ false → last ≡ withPart a (t * t) (zeros (t * t)) after

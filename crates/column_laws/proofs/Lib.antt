@@ -4,7 +4,6 @@ pub mod Computes
 pub mod Exchanges
 pub mod Finite
 pub mod Updates
-pub mod Eliminates
 pub mod Two
 pub mod Pairs
 pub mod Permutes

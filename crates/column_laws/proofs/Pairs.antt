@@ -17,7 +17,7 @@ use Rattle.row_updates.specs.Updates.{RowsUpdated, updatedRows, rowsCompute}
 use Rattle.laws.proofs.Tests.{and-left}
 use Rattle.laws.proofs.Blocks.{length-block, block-cong, swapped-below}
 use Rattle.laws.specs.Apart.{Apart}
-use Rattle.laws.proofs.Parts.{Fits, length-put, part-put, put-put, length-part}
+use Rattle.laws.proofs.Parts.{Fits, length-put, part-put, part-other, put-put, length-part}
 use Rattle.column_laws.specs.Steps.{appliedBlock, RowsPaired, pairedBlock, pairedComputes, upperAt, lowerAt, withTwo, RowsEliminated, eliminatedRows, eliminatedComputes, TileFactored, factored, factoredComputes, exchangedAt, TilesCoupled}
 use Rattle.column_laws.proofs.Computes.{every-joined}
 use Rattle.laws.proofs.Finite.{finite-at, finite-block}
@@ -93,6 +93,16 @@ module _ (t w f c e u d : ℕ) (m : List Float) (ru : u + t * w ≤ length m) (r
   mid-put : (z : List Float) → length z ≡ t * w → withPart d (t * w) z mid ≡ withTwo (t * w) u d (upperAt t w f c e u d m) z m
   mid-put z h = rw x (put-lower (t * w) u d m apart ru rd (upperAt t w f c e u d m) (lowerAt t w f c e u d m) (length-upper t w f c e u d m) (length-lower t w f c e u d m) z h)
 
+  -- a block elsewhere is as it was
+  pub mid-other : (a : ℕ) → a + t * w ≤ length m → Apart (t * w) u a → Apart (t * w) d a → part a (t * w) mid ≡ part a (t * w) m
+  unfolding withTwo
+  mid-other a ra hu hd =
+      let lower : Fits (t * w) d m (lowerAt t w f c e u d m) = record { whole = length-lower t w f c e u d m; room = rd } in
+      let long = length-put (t * w) nan d m (lowerAt t w f c e u d m) lower in
+      rw x
+      (part-other (t * w) nan u a (withPart d (t * w) (lowerAt t w f c e u d m) m) (upperAt t w f c e u d m) (record { whole = length-upper t w f c e u d m; room = rw long ru }) (rw long ra) hu
+      ∙ part-other (t * w) nan d a m (lowerAt t w f c e u d m) lower ra hd)
+
   pub mid-row : (top q : ℕ) → c < t → top ≡ u + c * w → q < w → getD mid (top + q) nan ≡ at w (upperAt t w f c e u d m) c q
   mid-row top q hc first h = rw (← mid-upper) (get-row t w u c top mid q (rw mid-long ru) hc first h)
 
@@ -108,7 +118,7 @@ module _ (t w f c e u d : ℕ) (m : List Float) (ru : u + t * w ≤ length m) (r
 -- ---- T-4
 
 module _ (t w c e u d top : ℕ) (hc : c < t) (m : List Float) (ru : u + t * w ≤ length m) (rd : d + t * w ≤ length m) (apart : Apart (t * w) u d) (first : top ≡ u + c * w)
-    (l mid after : List Float) (answer : Bool)
+    (l l′ : ℕ → Float) (same : (i : ℕ) → i < t → l i ≡ l′ i) (mid after : List Float) (answer : Bool)
     (x : mid ≡ withTwo (t * w) u d (upperAt t w 0 c e u d m) (lowerAt t w 0 c e u d m) m) where
   upper : List Float
   upper = upperAt t w 0 c e u d m
@@ -119,27 +129,27 @@ module _ (t w c e u d top : ℕ) (hc : c < t) (m : List Float) (ru : u + t * w �
   row : (q : ℕ) → q < w → getD mid (top + q) nan ≡ at w (upperAt t w 0 c e u d m) c q
   row q h = mid-row t w 0 c e u d m ru rd apart mid x top q hc first h
 
-  paired-sound : every finite (rowsCompute t w 0 (λ i. getD l i nan) (λ q. getD mid (top + q) nan) (part d (t * w) mid))
-      ≡ every finite (pairedComputes t w c (λ i. getD l i nan) upper lower)
+  paired-sound : every finite (rowsCompute t w 0 l (λ q. getD mid (top + q) nan) (part d (t * w) mid))
+      ≡ every finite (pairedComputes t w c l′ upper lower)
   unfolding rowsCompute pairedComputes rowComputes below upper lower
   paired-sound =
       rw (sub-zero w, mid-lower t w 0 c e u d m ru rd apart mid x)
       (every-joined finite
-      (λ r. joined (map (λ q. updateComputes (at w (lowerAt t w 0 c e u d m) r q) (getD l r nan) (getD mid (top + q) nan)) (run 0 w)))
-      (λ r. joined (map (λ q. updateComputes (at w (lowerAt t w 0 c e u d m) r q) (getD l r nan) (at w (upperAt t w 0 c e u d m) c q)) (run 0 w))) 0 0 t
-      (λ i h. row-finite 0 w (getD l (0 + i) nan) (getD l (0 + i) nan) (λ q. getD mid (top + q) nan) (at w (upperAt t w 0 c e u d m) c)
-      (at w (lowerAt t w 0 c e u d m) (0 + i)) (at w (lowerAt t w 0 c e u d m) (0 + i)) refl (λ q hf hq. row q (omega arith)) (λ q hf hq. refl)))
+      (λ r. joined (map (λ q. updateComputes (at w (lowerAt t w 0 c e u d m) r q) (l r) (getD mid (top + q) nan)) (run 0 w)))
+      (λ r. joined (map (λ q. updateComputes (at w (lowerAt t w 0 c e u d m) r q) (l′ r) (at w (upperAt t w 0 c e u d m) c q)) (run 0 w))) 0 0 t
+      (λ i h. row-finite 0 w (l (0 + i)) (l′ (0 + i)) (λ q. getD mid (top + q) nan) (at w (upperAt t w 0 c e u d m) c)
+      (at w (lowerAt t w 0 c e u d m) (0 + i)) (at w (lowerAt t w 0 c e u d m) (0 + i)) (same (0 + i) (omega arith)) (λ q hf hq. row q (omega arith)) (λ q hf hq. refl)))
 
-  paired-whole : withPart d (t * w) (updatedRows t w 0 (λ i. getD l i nan) (λ q. getD mid (top + q) nan) (part d (t * w) mid)) mid
-      ≡ withTwo (t * w) u d upper (pairedBlock t w c (λ i. getD l i nan) upper lower) m
+  paired-whole : withPart d (t * w) (updatedRows t w 0 l (λ q. getD mid (top + q) nan) (part d (t * w) mid)) mid
+      ≡ withTwo (t * w) u d upper (pairedBlock t w c l′ upper lower) m
   unfolding updatedRows pairedBlock upper lower
   paired-whole =
-      mid-put t w 0 c e u d m ru rd apart mid x (updatedRows t w 0 (λ i. getD l i nan) (λ q. getD mid (top + q) nan) (part d (t * w) mid)) (length-block t w _)
+      mid-put t w 0 c e u d m ru rd apart mid x (updatedRows t w 0 l (λ q. getD mid (top + q) nan) (part d (t * w) mid)) (length-block t w _)
       ∙ ap (λ (b : List Float). withTwo (t * w) u d (upperAt t w 0 c e u d m) b m)
-      (rw (mid-lower t w 0 c e u d m ru rd apart mid x) (block-cong t w _ _ (λ r q hr hq. rw (le-ltb q 0 (omega arith), row q hq))))
+      (rw (mid-lower t w 0 c e u d m ru rd apart mid x) (block-cong t w _ _ (λ r q hr hq. rw (le-ltb q 0 (omega arith), row q hq, same r hr))))
 
-  pub rows-paired : length after ≡ length mid → RowsUpdated t w 0 d (λ i. getD l i nan) (λ q. getD mid (top + q) nan) mid after answer
-      → RowsPaired t w c e u d (λ i. getD l i nan) m after answer
+  pub rows-paired : length after ≡ length mid → RowsUpdated t w 0 d l (λ q. getD mid (top + q) nan) mid after answer
+      → RowsPaired t w c e u d l′ m after answer
   unfolding upper lower
   rows-paired long r = record {
     long = long ∙ mid-long t w 0 c e u d m ru rd apart mid x;

@@ -62,7 +62,7 @@ pub record ApplyReady (N t k j c : ℕ) (m : List Float) (l : List ℕ) : Type 0
   pub row : c * t + t ≤ t * t
   pub few : length m ≤ 65536
   pub lists-few : length l ≤ 4096
-  pub mult-room : tileStart N t k k + t * t ≤ length m
+  pub mult-left : tileStart N t k k + t * t ≤ tileStart N t k j
   pub room : tileStart N t k j + t * t ≤ length m
   pub list-room : listStart N t k k + t ≤ length l
   pub entries : (x : ℕ) → x < t → getD l (listStart N t k k + x) 0 < t
@@ -79,7 +79,7 @@ apply-ready {z} {k} {j} {c} {m} {l} w =
       row = row-end c (z .side) (z .side) (w .column);
       few = numbers-few w;
       lists-few = lists-few w;
-      mult-room = tile-room w k k hk hk;
+      mult-left = row-end (k * z .tiles + k) (k * z .tiles + j) (z .side * z .side) (omega (arith, w .placed));
       room = tile-room w k j hk hj;
       list-room = list-room w k k hk hk;
       entries = w .entries;
@@ -131,7 +131,8 @@ pub record PairReady (N t k i j c : ℕ) (m : List Float) (l : List ℕ) : Type 
   pub row : c * t + t ≤ t * t
   pub few : length m ≤ 65536
   pub lists-few : length l ≤ 4096
-  pub mult-room : tileStart N t i k + t * t ≤ length m
+  pub mult-below : tileStart N t k j + t * t ≤ tileStart N t i k
+  pub mult-left : tileStart N t i k + t * t ≤ tileStart N t i j
   pub upper-room : tileStart N t k j + t * t ≤ length m
   pub lower-room : tileStart N t i j + t * t ≤ length m
   pub list-room : listStart N t i k + t ≤ length l
@@ -153,7 +154,8 @@ pair-ready {z} {k} {i} {j} {c} {m} {l} w =
       row = row-end c (z .side) (z .side) (w .column);
       few = numbers-few w;
       lists-few = lists-few w;
-      mult-room = tile-room w i k hi hk;
+      mult-below = row-end (k * z .tiles + j) (i * z .tiles + k) (z .side * z .side) (omega (arith, row-end k i (z .tiles) (w .placed .0), hj));
+      mult-left = row-end (i * z .tiles + k) (i * z .tiles + j) (z .side * z .side) (omega (arith, w .placed));
       upper-room = tile-room w k j hk hj;
       lower-room = tile-room w i j hi hj;
       list-room = list-room w i k hi hk;

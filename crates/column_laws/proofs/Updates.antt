@@ -3,7 +3,7 @@ use mathlib.Core.Path.{_≡_, refl, sym, _∙_, ap}
 use mathlib.Core.Bool.{Bool, true, false, cond}
 use mathlib.Core.List.{List, map}
 use Prim.Native.Nat.{ℕ, suc, _+_, _-_, _*_, _<_, _≤_, compare, Ordering, Ordering·lt, Ordering·eq, Ordering·gt}
-use native.Mathlib.Nat.{zero-add, sub-zero, mul-le-mul-right}
+use native.Mathlib.Nat.{zero-add, sub-zero, mul-le-mul-right, add-mul}
 use native.Mathlib.Omega.{arith}
 use lib.Dec.{ltb, leb, isLe, isEq}
 use lib.ListN.{length, getD}
@@ -125,56 +125,47 @@ row-finite f n x y u v d e hx hu hd =
 -- ---- T-2: the rows below row c updated by row c
 
 module _ (t w c k a s top : ℕ) (m : List Float) (room : a + t * w ≤ length m) (ends : suc c + k ≡ t) (start : s ≡ a + suc c * w) (first : top ≡ a + c * w)
-    (l after : List Float) (answer : Bool) (long : length after ≡ length m)
-    (r : RowsUpdated k w 0 s (λ i. getD l i nan) (λ q. getD m (top + q) nan) m after answer) where
-  l′ : ℕ → Float
-  l′ i = getD l (i - suc c) nan
-
-  back : (i : ℕ) → l′ (suc c + i) ≡ getD l i nan
-  unfolding l′
-  back i = let e : suc c + i - suc c ≡ i = omega arith in rw e
-
+    (l l′ : ℕ → Float) (same : (i : ℕ) → i < k → l′ (suc c + i) ≡ l i) (after : List Float) (answer : Bool) (long : length after ≡ length m)
+    (r : RowsUpdated k w 0 s l (λ q. getD m (top + q) nan) m after answer) where
   sound-row : (i : ℕ) → i < k
-      → every finite (joined (map (λ q. updateComputes (at w (part s (k * w) m) i q) (getD l i nan) (getD m (top + q) nan)) (run 0 (w - 0))))
+      → every finite (joined (map (λ q. updateComputes (at w (part s (k * w) m) i q) (l i) (getD m (top + q) nan)) (run 0 (w - 0))))
       ≡ every finite (rowComputes w (l′ (suc c + i)) (at w (part a (t * w) m) c) (at w (part a (t * w) m) (suc c + i)))
   unfolding rowComputes below
   sound-row i h =
       rw (sub-zero w)
-      (row-finite 0 w (getD l i nan) (l′ (suc c + i)) (λ q. getD m (top + q) nan) (at w (part a (t * w) m) c) (at w (part s (k * w) m) i) (at w (part a (t * w) m) (suc c + i))
-      (sym (back i))
+      (row-finite 0 w (l i) (l′ (suc c + i)) (λ q. getD m (top + q) nan) (at w (part a (t * w) m) c) (at w (part s (k * w) m) i) (at w (part a (t * w) m) (suc c + i))
+      (sym (same i h))
       (λ q hf hq. get-row t w a c top m q room (omega arith) first (omega arith))
       (λ q hf hq. at-rows t w c k a s m room ends start i q h (omega arith)))
 
-  applied-sound : every finite (rowsCompute k w 0 (λ i. getD l i nan) (λ q. getD m (top + q) nan) (part s (k * w) m)) ≡ every finite (appliedComputes t w c l′ (part a (t * w) m))
+  applied-sound : every finite (rowsCompute k w 0 l (λ q. getD m (top + q) nan) (part s (k * w) m)) ≡ every finite (appliedComputes t w c l′ (part a (t * w) m))
   unfolding rowsCompute appliedComputes beyond below
   applied-sound =
       let e : t - suc c ≡ k = omega arith in
       rw e
       (every-joined finite
-      (λ i. joined (map (λ q. updateComputes (at w (part s (k * w) m) i q) (getD l i nan) (getD m (top + q) nan)) (run 0 (w - 0))))
+      (λ i. joined (map (λ q. updateComputes (at w (part s (k * w) m) i q) (l i) (getD m (top + q) nan)) (run 0 (w - 0))))
       (λ i. rowComputes w (l′ i) (at w (part a (t * w) m) c) (at w (part a (t * w) m) i)) 0 (suc c) k
       (λ i h. rw (zero-add i) (sound-row i h)))
 
   applied-at : (i q : ℕ) → i < t → q < w → (b : Bool) → leb i c ≡ b
       → cond b (at w (part a (t * w) m) i q)
-      (cond (ltb q 0) (at w (part s (k * w) m) (i - suc c) q) (update (at w (part s (k * w) m) (i - suc c) q) (getD l (i - suc c) nan) (getD m (top + q) nan)))
+      (cond (ltb q 0) (at w (part s (k * w) m) (i - suc c) q) (update (at w (part s (k * w) m) (i - suc c) q) (l (i - suc c)) (getD m (top + q) nan)))
       ≡ cond b (at w (part a (t * w) m) i q) (update (at w (part a (t * w) m) i q) (l′ i) (at w (part a (t * w) m) c q))
-  unfolding l′
   applied-at i q hi hq true e = refl
   applied-at i q hi hq false e =
       let h : c < i = leb-false i c e in
       let p : suc c + (i - suc c) ≡ i = omega arith in
-      rw (le-ltb q 0 (omega arith), at-rows t w c k a s m room ends start (i - suc c) q (omega arith) hq, p, get-row t w a c top m q room (omega arith) first hq)
+      rw (← same (i - suc c) (omega arith), le-ltb q 0 (omega arith), at-rows t w c k a s m room ends start (i - suc c) q (omega arith) hq, p, get-row t w a c top m q room (omega arith) first hq)
 
-  applied-whole : withPart s (k * w) (updatedRows k w 0 (λ i. getD l i nan) (λ q. getD m (top + q) nan) (part s (k * w) m)) m ≡ withPart a (t * w) (appliedBlock t w c l′ (part a (t * w) m)) m
+  applied-whole : withPart s (k * w) (updatedRows k w 0 l (λ q. getD m (top + q) nan) (part s (k * w) m)) m ≡ withPart a (t * w) (appliedBlock t w c l′ (part a (t * w) m)) m
   unfolding updatedRows appliedBlock
   applied-whole =
       put-rows t w c k a s m room ends start
-      (λ i q. cond (ltb q 0) (at w (part s (k * w) m) i q) (update (at w (part s (k * w) m) i q) (getD l i nan) (getD m (top + q) nan)))
+      (λ i q. cond (ltb q 0) (at w (part s (k * w) m) i q) (update (at w (part s (k * w) m) i q) (l i) (getD m (top + q) nan)))
       ∙ ap (λ (b : List Float). withPart a (t * w) b m) (block-cong t w _ _ (λ i q hi hq. applied-at i q hi hq (leb i c) refl))
 
-  pub rows-applied : RowsApplied t w c a (λ i. getD l (i - suc c) nan) m after answer
-  unfolding l′
+  pub rows-applied : RowsApplied t w c a l′ m after answer
   rows-applied = record {
     long = long;
     sound = r .sound ∙ applied-sound;
@@ -182,3 +173,16 @@ module _ (t w c k a s top : ℕ) (m : List Float) (room : a + t * w ≤ length m
     frame = frame-rows t w c k a s m room ends start after (part s (k * w) after)
         (length-part s (k * w) after (rw long (rows-room t w c k a s m room ends start))) (r .frame);
   }
+
+-- ---- multipliers in column c of the tile at f: those below row c, from x on, and those of all rows
+
+pub below-read : (t c x f k : ℕ) (m : List Float) → suc c + k ≡ t → x ≡ f + (suc c * t + c) → f + t * t ≤ length m
+    → (i : ℕ) → i < k → at t (part f (t * t) m) (suc c + i) c ≡ getD m (x + i * t) nan
+below-read t c x f k m ends e room i h =
+    let j : f + ((suc c + i) * t + c) ≡ x + i * t = omega (arith, add-mul (suc c) i t) in
+    at-part t t f m (suc c + i) c room (omega arith) (omega arith) ∙ ap (λ (z : ℕ). getD m z nan) j
+
+pub column-read : (t c x f : ℕ) (m : List Float) → c < t → x ≡ f + c → f + t * t ≤ length m → (r : ℕ) → r < t → getD m (x + r * t) nan ≡ at t (part f (t * t) m) r c
+column-read t c x f m hc e room r hr =
+    let j : x + r * t ≡ f + (r * t + c) = omega arith in
+    ap (λ (z : ℕ). getD m z nan) j ∙ sym (at-part t t f m r c room hr hc)

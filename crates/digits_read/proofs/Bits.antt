@@ -2,7 +2,7 @@
 use Prim.Native.Nat.{ℕ, zero, suc, _+_, _*_, _/_, _%_, _^_, _≤_, _<_}
 use mathlib.Core.Path.{_≡_, refl, sym, ap, _∙_, subst}
 use mathlib.Core.Logic.{_⊎_, inl, inr}
-use mathlib.Core.Bool.{Bool, true, false, not, cond}
+use mathlib.Core.Bool.{Bool, true, false, not, cond, _&&_}
 use mathlib.Core.List.{List}
 use native.Mathlib.Nat.{add-zero, add-suc, pow-suc}
 use native.Mathlib.Omega.{arith}
@@ -10,10 +10,11 @@ use lib.Dec.{T, eqb}
 use lib.ListN.{length, getD}
 use lib.Ieee.{Float, nan, inf, binary64, odd, ofFields, ofBits, nanBits}
 use lib.Ieee.Bits.{nanBits-is}
-use borrow.Author.Tests.{ne-eqb}
+use borrow.Author.Tests.{eqb-false, not-true, ne-eqb}
 use Rattle.model.specs.Num.{finite}
 use Rattle.model.specs.Read.{isDigit, digitValue, field}
 use Rattle.laws.proofs.Finite.{not-nan}
+use Rattle.laws.proofs.Tests.{and-left, and-right}
 use Rattle.laws.proofs.Texts.{digit-cases, value-low, value-high, value-lt}
 use Rattle.digits_read.specs.Digits.{FieldOfDigits}
 use Rattle.digits_read.proofs.Fields.{field-none, field-suc, field-lt}
@@ -59,17 +60,26 @@ leading l p f =
     let split = field-join p 3 13 l (omega (arith, f .inside)) in
     sym (bits-finite (field p 16 l) ∙ ap (λ (n : ℕ). not (eqb (n % 2 ^ 63 / 2 ^ 52) 2047)) split ∙ ap (λ (x : ℕ). not (eqb x 2047)) (exponent (field p 3 l) (field (p + 3) 13 l) rest))
 
--- a second digit other than 'F' has a bit of the exponent that is 0
-value-below : (d : ℕ) → isDigit d ≡ true → (d ≡ 70 → ⊥) → digitValue d < 15
-value-below d e n = go (digit-cases d e)
+-- a first digit other than '7' and 'F' has a bit of the exponent that is 0
+value-short : (d : ℕ) → isDigit d ≡ true → (d ≡ 55 → ⊥) → (d ≡ 70 → ⊥) → digitValue d % 8 < 7
+value-short d e n m = go (digit-cases d e)
   where
-    go : ((48 ≤ d) × (d ≤ 57)) ⊎ ((65 ≤ d) × (d ≤ 70)) → digitValue d < 15
+    go : ((48 ≤ d) × (d ≤ 57)) ⊎ ((65 ≤ d) × (d ≤ 70)) → digitValue d % 8 < 7
     go (inl q) = rw (← (value-low d (q .1))) (omega arith)
     go (inr q) = rw (← (value-high d (omega arith))) (omega arith)
 
-pub second : (l : List ℕ) (p : ℕ) → FieldOfDigits l p 16 → (getD l (p + 1) 0 ≡ 70 → ⊥) → true ≡ finite (ofBits binary64 (field p 16 l))
-second l p f n = sym (ap not (ne-eqb (field p 3 l % 2048) 2047 other)) ∙ leading l p f
+pub by-first : (l : List ℕ) (p : ℕ) → FieldOfDigits l p 16 → (not (eqb (getD l p 0) 55) && not (eqb (getD l p 0) 70)) ≡ true → true ≡ finite (ofBits binary64 (field p 16 l))
+by-first l p f t = sym (ap not (ne-eqb (field p 3 l % 2048) 2047 other)) ∙ leading l p f
   where
+    isnt : (v : ℕ) → not (eqb (getD l p 0) v) ≡ true → getD l (p + 0) 0 ≡ v → ⊥
+    isnt v h q = eqb-false (getD l p 0) v (not-true (eqb (getD l p 0) v) h) (ap (λ (x : ℕ). getD l x 0) (sym (add-zero p)) ∙ q)
+
+    not-7 : getD l (p + 0) 0 ≡ 55 → ⊥
+    not-7 = isnt 55 (and-left (not (eqb (getD l p 0) 55)) (not (eqb (getD l p 0) 70)) t)
+
+    not-F : getD l (p + 0) 0 ≡ 70 → ⊥
+    not-F = isnt 70 (and-right (not (eqb (getD l p 0) 55)) (not (eqb (getD l p 0) 70)) t)
+
     other : field p 3 l % 2048 ≡ 2047 → ⊥
     other e = omega (
       arith,
@@ -77,8 +87,8 @@ second l p f n = sym (ap not (ne-eqb (field p 3 l % 2048) 2047 other)) ∙ leadi
       field-suc p 1 l (omega (arith, f .inside)),
       field-suc p 0 l (omega (arith, f .inside)),
       field-none p l,
-      value-lt (getD l (p + 0) 0) (f .digits 0 (omega arith)),
-      value-below (getD l (p + 1) 0) (f .digits 1 (omega arith)) n,
+      value-short (getD l (p + 0) 0) (f .digits 0 (omega arith)) not-7 not-F,
+      value-lt (getD l (p + 1) 0) (f .digits 1 (omega arith)),
       value-lt (getD l (p + 2) 0) (f .digits 2 (omega arith)),
     )
 

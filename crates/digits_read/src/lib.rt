@@ -50,12 +50,13 @@ pub fn field_at(line: &[u8], p: usize, n: usize) -> usize
 }
 
 // Whether the number whose bits are the 16 digits from place p on is finite: not where all bits of its exponent, which end in the third
-// digit, are ones. The second digit nearly always tells.
+// digit, are ones. The first digit nearly always tells: it has three of these bits, all ones in '7' and 'F' alone.
 pub fn finite_at(line: &[u8], p: usize) -> bool
     requires { ⌜ FieldOfDigits (now line) p 16 ⌝ }
     ensures { λ r. ⌜ r ≡ finite (ofBits binary64 (field p 16 (now (line .entry)))) ⌝ }
 {
-    if line[p + 1] != 70 {
+    let first = line[p];
+    if (first != 55) & (first != 70) {
         return true;
     }
     field_at(line, p, 3) % 2048 != 2047

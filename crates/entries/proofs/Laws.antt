@@ -1,7 +1,7 @@
 -- The list entries one list and one row at a time, as the code looks at them. Assumes nothing.
 use Prim.Native.Nat.{ℕ, suc, _+_, _-_, _*_, _/_, _%_, _≤_, _<_}
 use mathlib.Core.Path.{_≡_, sym, ap, _∙_}
-use mathlib.Core.Bool.{Bool, true, false, _||_}
+use mathlib.Core.Bool.{Bool, true, false, _||_, or-assoc, or-false}
 use mathlib.Core.List.{List}
 use native.Mathlib.Nat.{zero-mul, mul-assoc}
 use native.Mathlib.Omega.{arith}
@@ -15,7 +15,7 @@ use Rattle.model.specs.Refusal.{entryLimit, badEntry}
 use Rattle.laws.proofs.Blocks.{row-of, column-of}
 use Rattle.records.specs.Records.{lent}
 use Rattle.checks.specs.Checks.{listsAlone}
-use Rattle.laws.proofs.Searches.{some-chunk, some-cong}
+use Rattle.laws.proofs.Searches.{some-step, some-chunk, some-cong}
 
 -- ---- limits
 
@@ -31,6 +31,16 @@ module _ (z : Sizes) (i j : ℕ) where
   pub limit-above : (i ≡ j → ⊥) → i ≤ j → 0 ≡ entryLimit (planOf z) i j
   unfolding entryLimit plan
   limit-above d h = rw (ne-eqb i j d, le-ltb j i h)
+
+-- ---- entries: what is found so far, or in what is left, gives the whole search's answer
+
+module _ (f : ℕ → Bool) (n j : ℕ) (found whole : Bool) where
+  pub found-more : j < n → (found || some f (run j (n - j))) ≡ whole → ((found || f j) || some f (run (j + 1) (n - (j + 1)))) ≡ whole
+  found-more h e = or-assoc found (f j) _ ∙ ap (λ (b : Bool). found || b) (sym (some-step f n j h)) ∙ e
+
+  pub found-all : n ≤ j → (found || some f (run j (n - j))) ≡ whole → found ≡ whole
+  unfolding some run
+  found-all h e = let z : n - j ≡ 0 = omega arith in sym (or-false found) ∙ (rw z at e)
 
 -- ---- lists and rows
 

@@ -10,33 +10,32 @@ ghost use Rattle.checks.specs.Checks.{Sized, ListsFit, listsAlone};
 use model::Sizes;
 
 // The largest entry that list (i,j) may have.
-fn entry_limit(z: Sizes, i: usize, j: usize) -> usize
-    requires { ⌜ 1 ≤ z .side ⌝ }
+fn entry_limit(z: Sizes, i: usize, j: usize) -> u8
+    requires { ⌜ (1 ≤ z .side) × (z .side ≤ 16) ⌝ }
     ensures { λ r. ⌜ r ≡ entryLimit (planOf z) i j ⌝ }
 {
     if i == j {
-        return z.side - 1;
+        return (z.side - 1) as u8;
     }
     if j < i {
-        return z.side;
+        return z.side as u8;
     }
     0
 }
 
-// Whether one of the t entries from start on exceeds the limit.
-fn exceeded(lists: &[u8], start: usize, t: usize, limit: usize) -> bool
+// Whether one of the t entries from start on exceeds the limit. All are looked at, so that the loop has no branch.
+fn exceeded(lists: &[u8], start: usize, t: usize, limit: u8) -> bool
     requires { ⌜ start + t ≤ length (now lists) ⌝ }
     ensures { λ r. ⌜ r ≡ some (λ x. ltb limit (getD (now (lists .entry)) x 0)) (run start t) ⌝ }
 {
     let end = start + t;
+    let mut bad = false;
     let mut x = start;
     while x < end {
-        if limit < lists[x] as usize {
-            return true;
-        }
+        bad = bad | (limit < lists[x]);
         x += 1;
     }
-    false
+    bad
 }
 
 // Whether an entry of a list in row i of tiles exceeds its limit.

@@ -12,10 +12,13 @@ pub enum Lowest {
     At(usize),
 }
 
-// The lowest offset of a number that isn't finite, where there is one.
+// The lowest offset of a number that isn't finite, where there is one. Mostly there is none, and the loop without a branch tells so sooner.
 pub fn first_not_finite(numbers: &[f64]) -> Lowest
     ensures { λ r. ⌜ r ≡ cond (allFinite (now (numbers .entry))) None (At (firstNotFinite (now (numbers .entry)))) ⌝ }
 {
+    if all_finite(numbers) {
+        return Lowest::None;
+    }
     let mut x = 0;
     while x < numbers.len() {
         if !is_finite(numbers[x]) {

@@ -11,4 +11,5 @@ pub mod Direct
 pub mod Neighbours
 pub mod Counts
 pub mod Tests
+pub mod Waits
 pub mod Summary

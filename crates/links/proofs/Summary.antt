@@ -1,13 +1,13 @@
 -- What is proved of every N, in one place: numbering, links, latest writers, readiness and spoiling in closed form are document 01's.
 -- Assumes nothing.
 use Prim.Native.Nat.{ℕ, _+_, _-_, _*_, _/_, _≤_, _<_}
-use mathlib.Core.Bool.{true}
+use mathlib.Core.Bool.{true, false}
 use mathlib.Core.Path.{_≡_, sym, _∙_, subst}
 use mathlib.Core.Logic.{_↔_}
 use mathlib.Core.List.{List}
 use lib.ListN.{length}
 use Rattle.model.specs.Task.{Place, tasks, taskCount}
-use Rattle.model.specs.Links.{task, linked, linksTo, linkCount, latestWriters, ready, spoils}
+use Rattle.model.specs.Links.{task, linked, linksTo, linkCount, latestWriters, mark, finished, ready, spoils}
 use Rattle.links.specs.Closed.{Key, In, taskAt, number, keyAt, Before, Linked, Last, linksAt, readyAt, spoilsAt}
 use Rattle.links.proofs.Numbering.{task-is}
 use Rattle.links.proofs.Order.{back, forth, number-fits, number-mono, before-of-number, length-tasks, Within, task-within}
@@ -17,6 +17,7 @@ use Rattle.links.proofs.Writers.{Latest, last-of, of-last}
 use Rattle.links.proofs.Direct as D
 use Rattle.links.proofs.Counts.{link-count}
 use Rattle.links.proofs.Tests.{ready-is, spoils-is}
+use Rattle.links.proofs.Waits as W
 
 module _ (N : ℕ) where
   -- ---- numbering
@@ -71,3 +72,12 @@ module _ (N : ℕ) where
 
   pub spoils-closed : (ms : List ℕ) (b : Key) → In N b → spoils (tasks N) ms (number N b) ≡ spoilsAt N ms b
   spoils-closed ms b w = spoils-is N ms b w
+
+  -- ---- rows: the tasks of one have numbers one after the other, and while the first of them hasn't finished, none of the others is ready
+
+  pub row-fits : (a : Key) → In N a → a .j ≡ a .k → number N a + (N - a .k) ≤ taskCount N
+  row-fits a v first = W.row-fits N a v first
+
+  pub row-waits : (ms : List ℕ) (a : Key) → In N a → a .j ≡ a .k → finished (mark ms (number N a)) ≡ false
+      → (q : ℕ) → number N a < q → q < number N a + (N - a .k) → ready (tasks N) ms q ≡ false
+  row-waits ms a v first e = W.row-waits N a v first ms e

@@ -20,3 +20,9 @@ pub record LowestReady (n : ℕ) (records : List (List ℕ)) (p : ℕ) : Type 0 
   pub none : (q : ℕ) → q < p → ready (tasks n) (marksFrom records) q ≡ false
   pub within : p ≤ length records
   pub found : p < length records → ready (tasks n) (marksFrom records) p ≡ true
+
+-- past p the search may go on at r: no task between them is ready
+pub record NoneBetween (n : ℕ) (records : List (List ℕ)) (p r : ℕ) : Type 0 where
+  pub onward : p < r
+  pub none : (q : ℕ) → p < q → q < r → ready (tasks n) (marksFrom records) q ≡ false
+  pub within : r ≤ length records

@@ -7,10 +7,26 @@ ghost use Rattle.model.specs.Links.{taken};
 ghost use Rattle.worker.specs.Holding.{holding};
 ghost use Rattle.model.specs.Calls.{marked};
 ghost use Rattle.records.specs.Records.{recordsFrom};
-ghost use Rattle.next_task.specs.NextTask.{NoneBelow, LowestReady};
+ghost use Rattle.marks.specs.Marks.{Recorded};
+ghost use Rattle.next_task.specs.NextTask.{NoneBelow, LowestReady, NoneBetween};
+use marks::is_finished;
 use readiness::is_ready;
 use record_changes::set_mark;
 use worker::Worker;
+
+// The next task after p that may be ready: while the first task of a row hasn't finished, no other of the row is. The first, T-1 or T-3, has no j.
+fn candidate_after(n: usize, records: &[[u8; 5]], p: usize) -> usize
+    requires { ⌜ Recorded n (now records) p ⌝ }
+    ensures { λ r. ⌜ NoneBetween n (now (records .entry)) p r ⌝ }
+{
+    let r = records::record_at(records, p);
+    if r.j == 0 {
+        if !is_finished(r.mark) {
+            return p + (n - r.k as usize);
+        }
+    }
+    p + 1
+}
 
 // The lowest ready task, where none below `from` is ready: the number of tasks where there is none.
 pub fn lowest_ready(n: usize, records: &[[u8; 5]], from: usize) -> usize
@@ -22,7 +38,7 @@ pub fn lowest_ready(n: usize, records: &[[u8; 5]], from: usize) -> usize
         if is_ready(n, records, p) {
             return p;
         }
-        p += 1;
+        p = candidate_after(n, records, p);
     }
     p
 }

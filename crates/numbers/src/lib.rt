@@ -17,15 +17,10 @@ pub fn is_finite(x: f64) -> bool
     if x < top { -top < x } else { false }
 }
 
-// x without its sign.
+// x without its sign. Two values that are chosen, so that no branch is taken.
 pub fn magnitude_of(x: f64) -> f64
     ensures { λ r. ⌜ r ≡ magnitude x ⌝ }
 {
-    if x < 0.0 {
-        return -x;
-    }
-    if x == 0.0 {
-        return 0.0;
-    }
-    x
+    let y = if x < 0.0 { -x } else { x };
+    if y == 0.0 { 0.0 } else { y }
 }

@@ -8,7 +8,6 @@ use column_ends::column_end;
 use fills::fill_numbers;
 use model::ColumnEnd;
 use model::Sizes;
-use multipliers::read_column;
 use pair_blocks::pair_rows;
 use places::list_start;
 use places::tile_start;
@@ -33,10 +32,10 @@ pub fn pair_column(
     let s = t * t;
     let u = tile_start(n, t, k, j);
     let d = tile_start(n, t, i, j);
-    let l = read_column(matrix, tile_start(n, t, i, k) + c, t, t);
+    let f = tile_start(n, t, i, k);
     let p = list_start(n, t, i, k);
     let e = wide(lists[p + c]);
-    if pair_rows(matrix, t, t, u, d, c, e, l) {
+    if pair_rows(matrix, t, f, u, d, c, e) {
         return column_end(t, c);
     }
     fill_numbers(matrix, d, s);

@@ -20,7 +20,6 @@ use Rattle.laws.proofs.Parts.{Fits, length-put, length-part, get-part}
 use Rattle.column_laws.specs.Steps.{tileStart, listStart, RowsPaired, pairedBlock, pairedComputes, upperAt, lowerAt, withTwo}
 use Rattle.column_laws.proofs.Pairs.{length-upper, length-lower, length-paired, finite-upper, finite-lower}
 use Rattle.column_laws.proofs.Sound.{paired-all-finite}
-use Rattle.column_laws.proofs.Ends.{paired-same, paired-finite}
 use Rattle.progress.specs.Right.{ColumnPassed}
 use Rattle.progress.proofs.Stepped.{finite-put, finite-whole, step-goes, step-stops}
 
@@ -64,14 +63,13 @@ module _ (z : Sizes) (m : List Float) (l : List ℕ) (k i c : ℕ) (y : List Flo
     unfolding M.paired plan rightPart withRight rightPair tileOf rowsOf tile rows pairColumn pairComputes pairExchanged pairedBlock pairedComputes upperAt lowerAt withTwo
     paired-is = rw (entry, one)
 
-    module _ (ru : k * t + t ≤ length y) (rd : i * t + t ≤ length y) (apart : Apart t (k * t) (i * t)) (mult after : List Float) (answer : Bool)
-        (read : (r : ℕ) → r < t → getD mult r nan ≡ by r)
-        (p : RowsPaired t 1 c e (k * t) (i * t) (λ r. getD mult r nan) y after answer) where
+    module _ (ru : k * t + t ≤ length y) (rd : i * t + t ≤ length y) (apart : Apart t (k * t) (i * t)) (f : ℕ) (hf : f ≡ tileStart N t i k) (after : List Float) (answer : Bool)
+        (p : RowsPaired t 1 c e (k * t) (i * t) (λ r. at t (part f (t * t) m) r c) y after answer) where
       answer-is : answer ≡ every finite (pairedComputes t 1 c by (upper e) (lower e))
-      answer-is = p .sound ∙ paired-finite t 1 c (λ r. getD mult r nan) by read (upper e) (lower e)
+      answer-is = p .sound ∙ rw hf
 
       after-is : answer ≡ true → after ≡ withTwo t (k * t) (i * t) (upper e) (pairedBlock t 1 c by (upper e) (lower e)) y
-      after-is h = p .whole h ∙ rw (one, paired-same t 1 c (λ r. getD mult r nan) by read (upper e) (lower e))
+      after-is h = p .whole h ∙ rw (one, hf)
 
       both-finite : e ≤ t → allFinite y ≡ true → answer ≡ true → allFinite (withTwo t (k * t) (i * t) (upper e) (pairedBlock t 1 c by (upper e) (lower e)) y) ≡ true
       unfolding upperAt lowerAt

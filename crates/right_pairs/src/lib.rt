@@ -4,8 +4,7 @@ ghost use Rattle.model.specs.Plan.{planOf};
 ghost use Rattle.model.specs.Solve.{going, paired};
 ghost use Rattle.progress.specs.Right.{Solvable, RightSide, ColumnPassed, Passing, pairAll};
 use model::Sizes;
-use multipliers::read_column;
-use pair_blocks::pair_rows;
+use pair_blocks::pair_right;
 use places::list_start;
 use places::tile_start;
 use places::wide;
@@ -29,10 +28,10 @@ fn pair_right_column(
 {
     let n = z.tiles;
     let t = z.side;
-    let l = read_column(matrix, tile_start(n, t, i, k) + c, t, t);
+    let f = tile_start(n, t, i, k);
     let p = list_start(n, t, i, k);
     let e = wide(lists[p + c]);
-    pair_rows(y, t, 1, k * t, i * t, c, e, l)
+    pair_right(y, matrix, t, f, k * t, i * t, c, e)
 }
 
 // T-4(k,i) on the right side y.

@@ -2,7 +2,7 @@
 use mathlib.Core.Path.{_≡_, refl, sym, _∙_, ap}
 use mathlib.Core.Bool.{Bool, true}
 use mathlib.Core.List.{List}
-use Prim.Native.Nat.{ℕ, suc, _+_, _-_, _*_, _<_, _≤_}
+use Prim.Native.Nat.{ℕ, _+_, _-_, _*_, _<_, _≤_}
 use native.Mathlib.Omega.{arith}
 use lib.ListN.{length, getD}
 use lib.Ieee.{Float, nan}
@@ -20,7 +20,6 @@ use Rattle.column_laws.specs.Steps.{tileStart, listStart, RowsApplied, appliedB
 use Rattle.column_laws.proofs.Pairs.{length-applied}
 use Rattle.column_laws.proofs.Permutes.{length-start, finite-start}
 use Rattle.column_laws.proofs.Sound.{applied-all-finite}
-use Rattle.column_laws.proofs.Ends.{applied-same, applied-finite}
 use Rattle.progress.specs.Right.{ColumnPassed}
 use Rattle.progress.proofs.Stepped.{finite-put, finite-whole, step-goes, step-stops}
 
@@ -45,10 +44,9 @@ module _ (z : Sizes) (m : List Float) (l : List ℕ) (k c : ℕ) (y : List Float
   unfolding M.applied plan rightPart withRight tileOf rowsOf tile rows applyColumn applyComputes appliedBlock appliedComputes
   applied-is = refl
 
-  module _ (room : k * t + t ≤ length y) (mid mult after : List Float) (answer : Bool)
+  module _ (room : k * t + t ≤ length y) (f : ℕ) (hf : f ≡ tileStart N t k k) (mid after : List Float) (answer : Bool)
       (x : mid ≡ withPart (k * t) (t * 1) (applyStart t 1 c (part (listStart N t k k) t l) (part (k * t) (t * 1) y)) y)
-      (read : (r : ℕ) → c < r → r < t → getD mult (r - suc c) nan ≡ by r)
-      (p : RowsApplied t 1 c (k * t) (λ i. getD mult (i - suc c) nan) mid after answer) where
+      (p : RowsApplied t 1 c (k * t) (λ r. at t (part f (t * t) m) r c) mid after answer) where
     one : t * 1 ≡ t
     one = omega arith
 
@@ -62,12 +60,12 @@ module _ (z : Sizes) (m : List Float) (l : List ℕ) (k c : ℕ) (y : List Float
     part-mid = rw (one, begins) (part-put t nan (k * t) y found found-fits)
 
     answer-is : answer ≡ every finite (appliedComputes t 1 c by found)
-    answer-is = p .sound ∙ rw part-mid (applied-finite t 1 c (λ i. getD mult (i - suc c) nan) by read found)
+    answer-is = p .sound ∙ rw (part-mid, hf)
 
     after-is : answer ≡ true → after ≡ withPart (k * t) t (appliedBlock t 1 c by found) y
     after-is h =
         p .whole h
-        ∙ rw (part-mid, one, applied-same t 1 c (λ i. getD mult (i - suc c) nan) by read found, begins)
+        ∙ rw (part-mid, one, hf, begins)
         (put-put t nan (k * t) y found found-fits (appliedBlock t 1 c by found))
 
     pub column-applied : listStart N t k k + t ≤ length l → ((i : ℕ) → i < t → getD l (listStart N t k k + i) 0 < t) → allFinite y ≡ true

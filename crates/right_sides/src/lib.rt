@@ -5,10 +5,9 @@ ghost use Rattle.model.specs.Plan.{planOf};
 ghost use Rattle.model.specs.Task.{after, tasks};
 ghost use Rattle.model.specs.Solve.{going, applied, pass as passOf};
 ghost use Rattle.progress.specs.Right.{Solvable, RightSide, ColumnPassed, Passing, applyAll, pairAll, stagePassed};
-use apply_blocks::apply_rows;
+use apply_blocks::apply_right;
 use block_starts::start_block;
 use model::Sizes;
-use multipliers::read_column;
 use places::list_start;
 use places::tile_start;
 use progress::Progress;
@@ -31,12 +30,11 @@ fn apply_right_column(
 {
     let n = z.tiles;
     let t = z.side;
-    let d = tile_start(n, t, k, k);
+    let f = tile_start(n, t, k, k);
     let p = list_start(n, t, k, k);
     let a = k * t;
-    let l = read_column(matrix, d + ((c + 1) * t + c), t, t - (c + 1));
     start_block(y, lists, t, 1, a, p, c);
-    apply_rows(y, t, 1, a, c, l)
+    apply_right(y, matrix, t, f, a, c)
 }
 
 // T-2(k) on the right side y.

@@ -1,1 +1,4 @@
+pub mod Column
+pub mod Done
+pub mod Groups
 pub mod Updated

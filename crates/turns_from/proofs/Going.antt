@@ -24,7 +24,6 @@ use Rattle.worker.specs.Holding.{idle, holding}
 use Rattle.model.specs.Refusal.{damaged, badTiles, runAnswer}
 use Rattle.laws.proofs.Refusals.{passed}
 use Rattle.laws.proofs.Tests.{never, or-false, and-true-not}
-use Rattle.run_laws.proofs.NextWorker.{round}
 use Rattle.run_laws.proofs.Pointer.{NoneReady, none-after, none-after-take, none-kept}
 use Rattle.records.specs.Records.{recordsFrom, marksFrom, lent}
 use Rattle.records.proofs.Laws.{length-records, length-marks, marks-lent}
@@ -40,11 +39,11 @@ use Rattle.demand.proofs.Steps.{took-whole, advanced-whole}
 use Rattle.demand.proofs.Answers.{run-whole, run-accepted}
 use Rattle.next_task.specs.NextTask.{NoneBelow}
 use Rattle.next_task.specs.NextTask.{LowestReady}
-use Rattle.next_worker.specs.NextWorker.{NextBusy, busy-after, all-idle}
 use Rattle.task_columns.specs.Due.{ColumnDue}
 use Rattle.advancing.specs.Advancing.{Advanced}
 use Rattle.advancing.proofs.Laws.{due, state-after}
 use Rattle.turns_from.specs.Underway.{Underway}
+use Rattle.next_worker.proofs.Rounds.{NextBusy, busy-after}
 use Rattle.next_worker.proofs.Steps.{takes, works, passes, over, finishes, ends}
 
 pub record Going (z : Sizes) (budget : ℕ) (all : RunEnd) (ws₀ : List Worker) (m : List Float) (l : List ℕ) (r : List (List ℕ)) (ws : List Worker) (n w from : ℕ) : Type 0 where
@@ -170,48 +169,32 @@ module _ {z : Sizes} {budget : ℕ} {all : RunEnd} {ws₀ : List Worker} {m : Li
 
     -- ---- or its turn passes
 
-    module _ (none-left : length r ≤ p) (v : ℕ) (next : NextBusy ws W w v) where
+    module _ (none-left : length r ≤ p) where
       no-task : NoneReady (tasks (z .tiles)) (marksOf s) (count z)
       no-task q k = none-now q (omega (arith, records-long z m l r ws (g .whole)))
 
-      as-lent : (x : ℕ) (f : Bool) → getD ws (x % W) idle .busy ≡ f → worker s (x % W) .busy ≡ f
-      as-lent x f e = ap (λ (y : Worker). y .busy) (worker-lent m l r ws W (x % W) (mod-lt x (omega (arith, g .turn-of)))) ∙ e
+      as-lent : (x : ℕ) (f : Bool) → x < W → getD ws x idle .busy ≡ f → worker s x .busy ≡ f
+      as-lent x f h e = ap (λ (y : Worker). y .busy) (worker-lent m l r ws W x h) ∙ e
 
-      pub pass-goes : (v ≡ W → ⊥) → Going z budget all ws₀ m l r ws n v p
-      pass-goes d = go v next d
-        where
-          go : (v : ℕ) → NextBusy ws W w v → (v ≡ W → ⊥) → Going z budget all ws₀ m l r ws n v p
-          go v (all-idle quiet) d = absurd (d refl)
-          go v (busy-after e h b before) d = record {
+      pub pass-goes : (v : ℕ) → NextBusy ws W w v → Going z budget all ws₀ m l r ws n v p
+      pass-goes v (busy-after d h b before) =
+          let inside : (k : ℕ) → (w + k) % W < W = λ k. mod-lt (w + k) (omega (arith, g .turn-of)) in
+          record {
             whole = g .whole;
             none = low .none;
             reached = low .within;
             slots = g .slots;
-            turn-of = mod-lt (w + e) (omega (arith, g .turn-of));
+            turn-of = inside d;
             within = g .within;
-            left-to-do = passes z s (g .whole) no-task (budget - n) n w e h (as-lent (w + e) true b) (mod-lt (w + e) (omega (arith, g .turn-of)))
-                (λ k j. as-lent (w + k) false (before k j)) ∙ g .left-to-do;
+            left-to-do = passes z s (g .whole) no-task (budget - n) n w d h (as-lent ((w + d) % W) true (inside d) b) (inside d)
+                (λ k j. as-lent ((w + k) % W) false (inside k) (before k j)) ∙ g .left-to-do;
             others = g .others;
           }
 
-      -- the worker that it passes to is busy
-      pub pass-busy : (v ≡ W → ⊥) → getD ws v idle .busy ≡ true
-      pass-busy d = go v next d
-        where
-          go : (v : ℕ) → NextBusy ws W w v → (v ≡ W → ⊥) → getD ws v idle .busy ≡ true
-          go v (all-idle quiet) d = absurd (d refl)
-          go v (busy-after e h b before) d = b
-
       -- ---- or the run is over
 
-      pub run-over : v ≡ W → _≡_ {A = RunEnd} (record { answer = Finished n; left = s }) all
-      run-over e = sym (finishes z s (budget - n) n w (over z s (g .whole) no-task (quiet v next e))) ∙ g .left-to-do
-        where
-          quiet : (v : ℕ) → NextBusy ws W w v → v ≡ W → (x : ℕ) → x < W → worker s x .busy ≡ false
-          quiet v (busy-after e h b before) q x k = let y : (w + e) % W < W = mod-lt (w + e) (omega (arith, g .turn-of)) in absurd (omega arith)
-          quiet v (all-idle q) e x k =
-              let (d, j, i) = round W w x (g .turn-of) k in
-              subst (λ (y : ℕ). worker s y .busy ≡ false) i (as-lent (w + d) false (q d j))
+      pub run-over : ((x : ℕ) → x < W → getD ws x idle .busy ≡ false) → _≡_ {A = RunEnd} (record { answer = Finished n; left = s }) all
+      run-over quiet = sym (finishes z s (budget - n) n w (over z s (g .whole) no-task (λ x h. as-lent x false h (quiet x h)))) ∙ g .left-to-do
 
   -- ---- a busy worker does a column
 

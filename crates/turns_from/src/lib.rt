@@ -13,13 +13,12 @@ use model::Sizes;
 use next_task::lowest_ready;
 use next_task::search_start;
 use next_task::take_task;
-use next_worker::next_busy;
 use next_worker::worker_after;
 use unfinished::answer_after;
 use worker::Worker;
 
 // Workers take turns until every task is finished or the budget is spent, once `made` calls are made and the turn is worker `turn`'s. Below `low`,
-// and then below `from`, no task is ready, so a search begins there.
+// and then below `from`, no task is ready, so a search begins there. The search for the next busy worker stands here, since a call would copy all workers.
 pub fn turns_from(
     z: Sizes,
     matrix: &mut [f64],
@@ -42,7 +41,7 @@ pub fn turns_from(
     let mut n = made;
     let mut w = turn;
     let mut from = low;
-    while n < budget {
+    'turns: while n < budget {
         let h = left[w];
         if h.busy {
             let g = advance(z, matrix, lists, records, h);
@@ -64,14 +63,28 @@ pub fn turns_from(
             w = worker_after(z.workers, w);
             continue;
         }
-        let v = next_busy(left, z.workers, w);
-        if v == z.workers {
-            return RunReply {
-                answer: RunAnswer::Finished(n),
-                workers: left,
-            };
+        let mut v = w;
+        while v < z.workers {
+            let g = left[v];
+            if g.busy {
+                w = v;
+                continue 'turns;
+            }
+            v += 1;
         }
-        w = v;
+        let mut u = 0;
+        while u < w {
+            let g = left[u];
+            if g.busy {
+                w = u;
+                continue 'turns;
+            }
+            u += 1;
+        }
+        return RunReply {
+            answer: RunAnswer::Finished(n),
+            workers: left,
+        };
     }
     RunReply {
         answer: answer_after(records, n),

@@ -32,7 +32,7 @@ mul-exceeded-2 : tie.Need-mul-exceeded-2 Inv-loop μ-loop
 mul-exceeded-2 c = omega (arith, small _ _ (c .before .before .before .pre .0 .few-tiles) (c .before .before .before .pre .0 .small-side), place-room _ (c .before .before .before .args .z .side) _ _ (c .before .before .before .pre .2) (c .loop-test .taken))
 
 entry-limit-requires : tie.Need-entry-limit-requires Inv-loop μ-loop
-entry-limit-requires c κs = c .before .before .before .pre .0 .some-side
+entry-limit-requires c κs = (c .before .before .before .pre .0 .some-side, c .before .before .before .pre .0 .small-side)
 
 exceeded-requires : tie.Need-exceeded-requires Inv-loop μ-loop
 exceeded-requires c κs = omega (arith, c .before .before .before .before .pre .1, place-room _ (c .before .before .before .before .args .z .side) _ _ (c .before .before .before .before .pre .2) (c .before .loop-test .taken))

@@ -20,6 +20,12 @@ Inv-loop numbers x₀ x =
 abbrev μ-loop : tie.MeasureT-loop
 μ-loop numbers x₀ x = length numbers - x
 
+all-finite-requires : tie.Need-all-finite-requires Inv-loop μ-loop
+all-finite-requires c κs = search needs
+
+returns : tie.Need-returns Inv-loop μ-loop
+returns c = rw (sym (c .before .all-finite .ensures) ∙ c .if1 .taken)
+
 loop-holds : tie.Need-loop-holds Inv-loop μ-loop
 loop-holds c = (omega arith, lowest-begins _)
 
@@ -32,8 +38,8 @@ shared-slice-read-is-finite c = search needs
 is-finite-requires : tie.Need-is-finite-requires Inv-loop μ-loop
 is-finite-requires c κs = search needs
 
-returns : tie.Need-returns Inv-loop μ-loop
-returns c = lowest-stops _ _ _ _ (c .before .before .before .loop-test .taken) (c .before .before .before .before .loop .inv .1) (ap not (sym (c .before .is-finite .ensures)) ∙ c .if1 .taken)
+returns-2 : tie.Need-returns-2 Inv-loop μ-loop
+returns-2 c = lowest-stops _ _ _ _ (c .before .before .before .loop-test .taken) (c .before .before .before .before .loop .inv .1) (ap not (sym (c .before .is-finite .ensures)) ∙ c .if2 .taken)
 
 add-x : tie.Need-add-x Inv-loop μ-loop
 add-x c = search needs
@@ -42,10 +48,10 @@ loop-less : tie.Need-loop-less Inv-loop μ-loop
 loop-less c = search needs
 
 loop-again : tie.Need-loop-again Inv-loop μ-loop
-loop-again c = (omega arith, lowest-goes-on _ _ _ _ (c .before .before .before .loop-test .taken) (c .before .before .before .before .loop .inv .1) (ap not (sym (c .before .is-finite .ensures)) ∙ c .if1 .left))
+loop-again c = (omega arith, lowest-goes-on _ _ _ _ (c .before .before .before .loop-test .taken) (c .before .before .before .before .loop .inv .1) (ap not (sym (c .before .is-finite .ensures)) ∙ c .if2 .left))
 
-returns-2 : tie.Need-returns-2 Inv-loop μ-loop
-returns-2 c = lowest-ends _ _ _ _ (omega arith) (c .before .loop .inv .1)
+returns-3 : tie.Need-returns-3 Inv-loop μ-loop
+returns-3 c = lowest-ends _ _ _ _ (omega arith) (c .before .loop .inv .1)
 
 pub first-not-finite-spec : {M : Type 1} → statement M
 first-not-finite-spec =
@@ -53,12 +59,14 @@ first-not-finite-spec =
     (tie.spec
     Inv-loop
     μ-loop
+    all-finite-requires
+    returns
     loop-holds
     mul-is-finite
     shared-slice-read-is-finite
     is-finite-requires
-    returns
+    returns-2
     add-x
     loop-less
     loop-again
-    returns-2)
+    returns-3)

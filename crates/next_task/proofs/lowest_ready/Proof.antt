@@ -2,12 +2,12 @@
 use Prim.Native.Nat.{ℕ, _≤_, _<_, _-_}
 use mathlib.Core.Bool.{false}
 use mathlib.Core.Path.{_≡_, sym, _∙_}
-use borrow.Author.Count.{below-more}
 use native.Mathlib.Omega.{arith}
 use lib.ListN.{length}
 use Rattle.model.specs.Task.{tasks}
 use Rattle.model.specs.Links.{ready}
 use Rattle.records.specs.Records.{marksFrom}
+use Rattle.next_task.proofs.Passed.{passed-over}
 use Rattle.next_task.proofs.lowest_ready.Statement.{statement}
 use Rattle.next_task.proofs.lowest_ready.Tie as tie
 
@@ -30,14 +30,17 @@ returns c = record {
   found = λ l. sym (c .before .is-ready .ensures) ∙ c .if1 .taken;
 }
 
-add-p : tie.Need-add-p Inv-loop μ-loop
-add-p c = omega arith
+candidate-after-requires : tie.Need-candidate-after-requires Inv-loop μ-loop
+candidate-after-requires c κs = is-ready-requires (c .before .before) κs
 
 loop-less : tie.Need-loop-less Inv-loop μ-loop
-loop-less c = omega arith
+loop-less c = omega (arith, c .candidate-after .ensures .onward)
 
 loop-again : tie.Need-loop-again Inv-loop μ-loop
-loop-again c = (omega arith, below-more _ _ (c .before .before .before .loop .inv .1) (sym (c .before .is-ready .ensures) ∙ c .if1 .left))
+loop-again c =
+    let i = c .before .before .before .before .loop .inv in
+    let b = c .candidate-after .ensures in
+    (b .within, passed-over _ _ _ _ (i .1) (sym (c .before .before .is-ready .ensures) ∙ c .before .if1 .left) b)
 
 returns-2 : tie.Need-returns-2 Inv-loop μ-loop
 returns-2 c = record { none = c .before .loop .inv .1; within = c .before .loop .inv .0; found = λ l. absurd (omega arith) }
@@ -51,7 +54,7 @@ lowest-ready-spec =
     loop-holds
     is-ready-requires
     returns
-    add-p
+    candidate-after-requires
     loop-less
     loop-again
     returns-2)

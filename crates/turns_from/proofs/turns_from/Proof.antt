@@ -1,138 +1,207 @@
 -- The invariant: what is left to do from here ends as all from the first turn on. A turn of the loop is a turn of the run, or passes to the next busy worker.
 -- Assumes nothing.
-use Prim.Native.Nat.{_-_}
+use Prim.Native.Nat.{ℕ, _-_, _≤_, _<_}
+use mathlib.Core.Bool.{false}
+use mathlib.Core.Path.{_≡_, refl}
 use native.Mathlib.Omega.{arith}
+use borrow.Author.Count.{below-more}
 use borrow.Author.Needs.{needs}
+use lib.ListN.{getD}
+use Rattle.worker.specs.Holding.{idle}
 use Rattle.model.specs.Plan.{planOf}
 use Rattle.model.specs.Calls.{runFrom}
 use Rattle.records.specs.Records.{lent}
-use Rattle.turns_from.proofs.Going.{Going, starts, sizes, few-records, searched, take-goes, pass-goes, pass-busy, run-over, column-due, work-goes, run-ends, matrix-kept, lists-kept, records-kept, turnsLeft, call-less, pass-less}
+use Rattle.next_worker.proofs.Rounds.{found-above, found-below, both-parts, above-more}
+use Rattle.turns_from.proofs.Going.{Going, starts, sizes, few-records, searched, take-goes, pass-goes, run-over, column-due, work-goes, run-ends, matrix-kept, lists-kept, records-kept, turnsLeft, call-less, pass-less}
 use Rattle.turns_from.proofs.turns_from.Statement.{statement}
 use Rattle.turns_from.proofs.turns_from.Tie as tie
 
-abbrev Inv-loop : tie.InvT-loop
-Inv-loop z matrix₀ lists₀ records₀ budget made turn low left₀ n₀ w₀ from₀ matrix lists records left n w from =
+abbrev Inv-turns : tie.InvT-turns
+Inv-turns z matrix₀ lists₀ records₀ budget made turn low left₀ n₀ w₀ from₀ matrix lists records left n w from =
     Going z budget (runFrom (planOf z) (z .workers) (budget - n₀) n₀ w₀ (lent matrix₀ lists₀ records₀ left₀ (z .workers))) left₀ matrix lists records left n w from
 
+abbrev μ-turns : tie.MeasureT-turns
+μ-turns z matrix₀ lists₀ records₀ budget made turn low left₀ n₀ w₀ from₀ matrix lists records left n w from = turnsLeft budget n left w
+
+abbrev Inv-loop : tie.InvT-loop
+Inv-loop z matrix lists records budget made turn low left n w₀ from v₀ w v =
+    (w ≡ w₀) × (w₀ ≤ v) × (v ≤ z .workers) × ((x : ℕ) → w₀ ≤ x → x < v → getD left x idle .busy ≡ false)
+
 abbrev μ-loop : tie.MeasureT-loop
-μ-loop z matrix₀ lists₀ records₀ budget made turn low left₀ n₀ w₀ from₀ matrix lists records left n w from = turnsLeft budget n left w
+μ-loop z matrix lists records budget made turn low left n w₀ from v₀ w v = z .workers - v
 
-loop-holds : tie.Need-loop-holds Inv-loop μ-loop
-loop-holds c = starts _ _ _ _ _ (c .before .before .args .workers) _ _ _ (search needs) (c .before .before .pre)
+abbrev Inv-loop2 : tie.InvT-loop2
+Inv-loop2 z matrix lists records budget made turn low left n w₀ from v u₀ w u = (w ≡ w₀) × (u ≤ w₀) × ((x : ℕ) → x < u → getD left x idle .busy ≡ false)
 
-mul-h : tie.Need-mul-h Inv-loop μ-loop
-mul-h c = let i = c .before .loop .inv in omega (arith, i .turn-of, sizes i .few-workers)
+abbrev μ-loop2 : tie.MeasureT-loop2
+μ-loop2 z matrix lists records budget made turn low left n w₀ from v u₀ w u = w₀ - u
 
-array-copy-out-h : tie.Need-array-copy-out-h Inv-loop μ-loop
-array-copy-out-h c = let i = c .before .loop .inv in omega (arith, i .turn-of, sizes i .few-workers)
+turns-holds : tie.Need-turns-holds Inv-loop μ-loop Inv-loop2 μ-loop2 Inv-turns μ-turns
+turns-holds c = starts _ _ _ _ _ (c .before .before .args .workers) _ _ _ (search needs) (c .before .before .pre)
+
+mul-h : tie.Need-mul-h Inv-loop μ-loop Inv-loop2 μ-loop2 Inv-turns μ-turns
+mul-h c = let i = c .before .turns .inv in omega (arith, i .turn-of, sizes i .few-workers)
+
+array-copy-out-h : tie.Need-array-copy-out-h Inv-loop μ-loop Inv-loop2 μ-loop2 Inv-turns μ-turns
+array-copy-out-h c = let i = c .before .turns .inv in omega (arith, i .turn-of, sizes i .few-workers)
 
 -- ---- a column
 
-advance-requires : tie.Need-advance-requires Inv-loop μ-loop
-advance-requires c κs = column-due (c .before .before .before .before .before .before .loop .inv) (c .before .before .before .if1 .taken)
+advance-requires : tie.Need-advance-requires Inv-loop μ-loop Inv-loop2 μ-loop2 Inv-turns μ-turns
+advance-requires c κs = column-due (c .before .before .before .before .before .before .turns .inv) (c .before .before .before .if1 .taken)
 
-mul-left : tie.Need-mul-left Inv-loop μ-loop
-mul-left c = let i = c .before .before .before .before .before .before .before .before .before .before .before .before .loop .inv in omega (arith, i .turn-of, sizes i .few-workers)
+mul-left : tie.Need-mul-left Inv-loop μ-loop Inv-loop2 μ-loop2 Inv-turns μ-turns
+mul-left c = let i = c .before .before .before .before .before .before .before .before .before .before .before .before .turns .inv in omega (arith, i .turn-of, sizes i .few-workers)
 
-array-set-from-left : tie.Need-array-set-from-left Inv-loop μ-loop
-array-set-from-left c = let i = c .before .before .before .before .before .before .before .before .before .before .before .before .loop .inv in omega (arith, i .turn-of, sizes i .few-workers)
+array-set-from-left : tie.Need-array-set-from-left Inv-loop μ-loop Inv-loop2 μ-loop2 Inv-turns μ-turns
+array-set-from-left c = let i = c .before .before .before .before .before .before .before .before .before .before .before .before .turns .inv in omega (arith, i .turn-of, sizes i .few-workers)
 
-cast-search-start : tie.Need-cast-search-start Inv-loop μ-loop
+cast-search-start : tie.Need-cast-search-start Inv-loop μ-loop Inv-loop2 μ-loop2 Inv-turns μ-turns
 cast-search-start c = omega (arith, c .struct-known .given)
 
-search-start-requires : tie.Need-search-start-requires Inv-loop μ-loop
+search-start-requires : tie.Need-search-start-requires Inv-loop μ-loop Inv-loop2 μ-loop2 Inv-turns μ-turns
 search-start-requires c κs = omega (arith, c .struct-known .given)
 
-add-n : tie.Need-add-n Inv-loop μ-loop
-add-n c = omega (arith, c .before .before .before .before .before .before .before .before .before .before .before .before .before .loop-test .taken, c .before .before .before .before .before .before .before .before .before .before .before .before .before .before .before .before .before .fits .budget)
+add-n : tie.Need-add-n Inv-loop μ-loop Inv-loop2 μ-loop2 Inv-turns μ-turns
+add-n c = omega (arith, c .before .before .before .before .before .before .before .before .before .before .before .before .before .turns-test .taken, c .before .before .before .before .before .before .before .before .before .before .before .before .before .before .before .before .before .fits .budget)
 
-worker-after-requires : tie.Need-worker-after-requires Inv-loop μ-loop
-worker-after-requires c κs = c .before .before .before .before .before .before .before .before .before .before .before .before .before .before .loop .inv .turn-of
+worker-after-requires : tie.Need-worker-after-requires Inv-loop μ-loop Inv-loop2 μ-loop2 Inv-turns μ-turns
+worker-after-requires c κs = c .before .before .before .before .before .before .before .before .before .before .before .before .before .before .turns .inv .turn-of
 
-loop-less : tie.Need-loop-less Inv-loop μ-loop
-loop-less c = call-less _ _ _ _ _ _ (omega (arith, c .before .before .before .before .before .before .before .before .before .before .before .before .before .before .loop-test .taken))
+turns-less : tie.Need-turns-less Inv-loop μ-loop Inv-loop2 μ-loop2 Inv-turns μ-turns
+turns-less c = call-less _ _ _ _ _ _ (omega (arith, c .before .before .before .before .before .before .before .before .before .before .before .before .before .before .turns-test .taken))
 
-loop-again : tie.Need-loop-again Inv-loop μ-loop
-loop-again c =
-    work-goes (c .before .before .before .before .before .before .before .before .before .before .before .before .before .before .before .loop .inv) (c .before .before .before .before .before .before .before .before .before .before .before .before .if1 .taken) (c .before .before .before .before .before .before .before .before .advance .ensures) (omega (arith, c .before .before .before .before .before .before .before .before .before .before .before .before .before .before .loop-test .taken))
+turns-again : tie.Need-turns-again Inv-loop μ-loop Inv-loop2 μ-loop2 Inv-turns μ-turns
+turns-again c =
+    work-goes (c .before .before .before .before .before .before .before .before .before .before .before .before .before .before .before .turns .inv) (c .before .before .before .before .before .before .before .before .before .before .before .before .if1 .taken) (c .before .before .before .before .before .before .before .before .advance .ensures) (omega (arith, c .before .before .before .before .before .before .before .before .before .before .before .before .before .before .turns-test .taken))
     _ (c .before .search-start .ensures) _ (c .worker-after .ensures)
 
 -- ---- a take
 
-lowest-ready-requires : tie.Need-lowest-ready-requires Inv-loop μ-loop
-lowest-ready-requires c κs = searched (c .before .before .before .before .loop .inv)
+lowest-ready-requires : tie.Need-lowest-ready-requires Inv-loop μ-loop Inv-loop2 μ-loop2 Inv-turns μ-turns
+lowest-ready-requires c κs = searched (c .before .before .before .before .turns .inv)
 
-take-task-requires : tie.Need-take-task-requires Inv-loop μ-loop
-take-task-requires c κs = (c .before .if2 .taken, omega (arith, c .before .if2 .taken, few-records (c .before .before .before .before .before .before .before .loop .inv)))
+take-task-requires : tie.Need-take-task-requires Inv-loop μ-loop Inv-loop2 μ-loop2 Inv-turns μ-turns
+take-task-requires c κs = (c .before .if2 .taken, omega (arith, c .before .if2 .taken, few-records (c .before .before .before .before .before .before .before .turns .inv)))
 
-mul-left-2 : tie.Need-mul-left-2 Inv-loop μ-loop
-mul-left-2 c = let i = c .before .before .before .before .before .before .before .before .before .loop .inv in omega (arith, i .turn-of, sizes i .few-workers)
+mul-left-2 : tie.Need-mul-left-2 Inv-loop μ-loop Inv-loop2 μ-loop2 Inv-turns μ-turns
+mul-left-2 c = let i = c .before .before .before .before .before .before .before .before .before .turns .inv in omega (arith, i .turn-of, sizes i .few-workers)
 
-array-set-from-left-2 : tie.Need-array-set-from-left-2 Inv-loop μ-loop
-array-set-from-left-2 c = let i = c .before .before .before .before .before .before .before .before .before .loop .inv in omega (arith, i .turn-of, sizes i .few-workers)
+array-set-from-left-2 : tie.Need-array-set-from-left-2 Inv-loop μ-loop Inv-loop2 μ-loop2 Inv-turns μ-turns
+array-set-from-left-2 c = let i = c .before .before .before .before .before .before .before .before .before .turns .inv in omega (arith, i .turn-of, sizes i .few-workers)
 
-add-from : tie.Need-add-from Inv-loop μ-loop
-add-from c = omega (arith, c .before .before .before .if2 .taken, few-records (c .before .before .before .before .before .before .before .before .before .loop .inv))
+add-from : tie.Need-add-from Inv-loop μ-loop Inv-loop2 μ-loop2 Inv-turns μ-turns
+add-from c = omega (arith, c .before .before .before .if2 .taken, few-records (c .before .before .before .before .before .before .before .before .before .turns .inv))
 
-add-n-2 : tie.Need-add-n-2 Inv-loop μ-loop
-add-n-2 c = omega (arith, c .before .before .before .before .before .before .before .before .loop-test .taken, c .before .before .before .before .before .before .before .before .before .before .before .before .fits .budget)
+add-n-2 : tie.Need-add-n-2 Inv-loop μ-loop Inv-loop2 μ-loop2 Inv-turns μ-turns
+add-n-2 c = omega (arith, c .before .before .before .before .before .before .before .before .turns-test .taken, c .before .before .before .before .before .before .before .before .before .before .before .before .fits .budget)
 
-worker-after-requires-2 : tie.Need-worker-after-requires-2 Inv-loop μ-loop
-worker-after-requires-2 c κs = c .before .before .before .before .before .before .before .before .before .loop .inv .turn-of
+worker-after-requires-2 : tie.Need-worker-after-requires-2 Inv-loop μ-loop Inv-loop2 μ-loop2 Inv-turns μ-turns
+worker-after-requires-2 c κs = c .before .before .before .before .before .before .before .before .before .turns .inv .turn-of
 
-loop-less-2 : tie.Need-loop-less-2 Inv-loop μ-loop
-loop-less-2 c = call-less _ _ _ _ _ _ (omega (arith, c .before .before .before .before .before .before .before .before .before .loop-test .taken))
+turns-less-2 : tie.Need-turns-less-2 Inv-loop μ-loop Inv-loop2 μ-loop2 Inv-turns μ-turns
+turns-less-2 c = call-less _ _ _ _ _ _ (omega (arith, c .before .before .before .before .before .before .before .before .before .turns-test .taken))
 
-loop-again-2 : tie.Need-loop-again-2 Inv-loop μ-loop
-loop-again-2 c =
+turns-again-2 : tie.Need-turns-again-2 Inv-loop μ-loop Inv-loop2 μ-loop2 Inv-turns μ-turns
+turns-again-2 c =
     let t = c .before .before .take-task .ensures in
-    take-goes (c .before .before .before .before .before .before .before .before .before .before .loop .inv) _ (c .before .before .before .before .before .lowest-ready .ensures) (c .before .before .before .before .before .before .before .if1 .left) (c .before .before .before .before .if2 .taken) (omega (arith, c .before .before .before .before .before .before .before .before .before .loop-test .taken))
+    take-goes (c .before .before .before .before .before .before .before .before .before .before .turns .inv) _ (c .before .before .before .before .before .lowest-ready .ensures) (c .before .before .before .before .before .before .before .if1 .left) (c .before .before .before .before .if2 .taken) (omega (arith, c .before .before .before .before .before .before .before .before .before .turns-test .taken))
     _ (t .0) _ (t .1 .0) (t .1 .1) _ (c .worker-after2 .ensures)
 
--- ---- neither
+-- ---- neither: the first busy worker from this one on, or else below it
 
-next-busy-requires : tie.Need-next-busy-requires Inv-loop μ-loop
-next-busy-requires c κs = let i = c .before .before .before .before .before .before .loop .inv in (sizes i .few-workers, i .turn-of)
+loop-holds : tie.Need-loop-holds Inv-loop μ-loop Inv-loop2 μ-loop2 Inv-turns μ-turns
+loop-holds c = (refl, omega arith, omega (arith, c .before .before .before .before .before .before .turns .inv .turn-of), λ x l h. absurd (omega arith))
 
-same-length : tie.Need-same-length Inv-loop μ-loop
-same-length c = matrix-kept _ _ _ (c .before .before .before .before .before .before .before .before .before .before .before .before .args .workers) (c .before .before .before .before .before .before .before .before .before .before .before .before .pre .accepted) (c .before .before .before .before .before .before .before .before .before .loop .inv)
+mul-g : tie.Need-mul-g Inv-loop μ-loop Inv-loop2 μ-loop2 Inv-turns μ-turns
+mul-g c = let i = c .before .before .before .before .before .before .before .before .before .turns .inv in omega (arith, i .turn-of, sizes i .few-workers)
 
-same-length-2 : tie.Need-same-length-2 Inv-loop μ-loop
-same-length-2 c = lists-kept _ _ _ (c .before .before .before .before .before .before .before .before .before .before .before .before .args .workers) (c .before .before .before .before .before .before .before .before .before .before .before .before .pre .accepted) (c .before .before .before .before .before .before .before .before .before .loop .inv)
+array-copy-out-g : tie.Need-array-copy-out-g Inv-loop μ-loop Inv-loop2 μ-loop2 Inv-turns μ-turns
+array-copy-out-g c = let i = c .before .before .before .before .before .before .before .before .before .turns .inv in omega (arith, i .turn-of, sizes i .few-workers)
 
-same-length-3 : tie.Need-same-length-3 Inv-loop μ-loop
-same-length-3 c = records-kept _ _ _ (c .before .before .before .before .before .before .before .before .before .before .before .before .args .workers) (c .before .before .before .before .before .before .before .before .before .before .before .before .pre .accepted) (c .before .before .before .before .before .before .before .before .before .loop .inv)
+turns-less-3 : tie.Need-turns-less-3 Inv-loop μ-loop Inv-loop2 μ-loop2 Inv-turns μ-turns
+turns-less-3 c = pass-less _ _ _ _ _ (c .before .before .before .before .before .before .before .before .if1 .left) (c .if4 .taken)
 
-returns : tie.Need-returns Inv-loop μ-loop
+turns-again-3 : tie.Need-turns-again-3 Inv-loop μ-loop Inv-loop2 μ-loop2 Inv-turns μ-turns
+turns-again-3 c =
+    let i = c .before .before .before .before .before .before .before .before .before .before .before .turns .inv in
+    let a = c .before .before .before .before .loop .inv in
+    pass-goes i _ (c .before .before .before .before .before .before .lowest-ready .ensures) (c .before .before .before .before .before .before .before .before .if1 .left) (c .before .before .before .before .before .if2 .left)
+    _ (found-above _ _ _ (i .turn-of) _ (a .1) (c .before .before .if3 .taken) (c .if4 .taken) (a .3))
+
+add-v : tie.Need-add-v Inv-loop μ-loop Inv-loop2 μ-loop2 Inv-turns μ-turns
+add-v c = let i = c .before .before .before .before .before .before .before .before .before .before .before .turns .inv in omega (arith, c .before .before .if3 .taken, sizes i .few-workers)
+
+loop-less : tie.Need-loop-less Inv-loop μ-loop Inv-loop2 μ-loop2 Inv-turns μ-turns
+loop-less c = omega (arith, c .before .before .if3 .taken)
+
+loop-again : tie.Need-loop-again Inv-loop μ-loop Inv-loop2 μ-loop2 Inv-turns μ-turns
+loop-again c = let a = c .before .before .before .before .loop .inv in (a .0, omega arith, omega (arith, c .before .before .if3 .taken), above-more _ _ _ (a .3) (c .if4 .left))
+
+loop2-holds : tie.Need-loop2-holds Inv-loop μ-loop Inv-loop2 μ-loop2 Inv-turns μ-turns
+loop2-holds c = (refl, omega arith, λ x l. absurd (omega arith))
+
+mul-g-2 : tie.Need-mul-g-2 Inv-loop μ-loop Inv-loop2 μ-loop2 Inv-turns μ-turns
+mul-g-2 c = let i = c .before .before .before .before .before .before .before .before .before .before .before .turns .inv in omega (arith, i .turn-of, sizes i .few-workers, c .loop2-test .taken, c .before .loop2 .inv .0, c .before .before .before .before .loop .inv .0)
+
+array-copy-out-g-2 : tie.Need-array-copy-out-g-2 Inv-loop μ-loop Inv-loop2 μ-loop2 Inv-turns μ-turns
+array-copy-out-g-2 c = let i = c .before .before .before .before .before .before .before .before .before .before .before .turns .inv in omega (arith, i .turn-of, sizes i .few-workers, c .loop2-test .taken, c .before .loop2 .inv .0, c .before .before .before .before .loop .inv .0)
+
+turns-less-4 : tie.Need-turns-less-4 Inv-loop μ-loop Inv-loop2 μ-loop2 Inv-turns μ-turns
+turns-less-4 c = pass-less _ _ _ _ _ (c .before .before .before .before .before .before .before .before .before .before .if1 .left) (c .if5 .taken)
+
+turns-again-4 : tie.Need-turns-again-4 Inv-loop μ-loop Inv-loop2 μ-loop2 Inv-turns μ-turns
+turns-again-4 c =
+    let i = c .before .before .before .before .before .before .before .before .before .before .before .before .before .turns .inv in
+    let a = c .before .before .before .before .before .before .loop .inv in
+    let b = c .before .before .before .loop2 .inv in
+    pass-goes i _ (c .before .before .before .before .before .before .before .before .lowest-ready .ensures) (c .before .before .before .before .before .before .before .before .before .before .if1 .left) (c .before .before .before .before .before .before .before .if2 .left)
+    _ (found-below _ _ _ (i .turn-of) _ (omega (arith, c .before .before .loop2-test .taken, a .0, b .0)) (c .if5 .taken) (λ x k l. a .3 x k (omega (arith, l, c .before .before .before .before .if3 .left))) (b .2))
+
+add-u : tie.Need-add-u Inv-loop μ-loop Inv-loop2 μ-loop2 Inv-turns μ-turns
+add-u c = let i = c .before .before .before .before .before .before .before .before .before .before .before .before .before .turns .inv in omega (arith, i .turn-of, sizes i .few-workers, c .before .before .loop2-test .taken, c .before .before .before .loop2 .inv .0, c .before .before .before .before .before .before .loop .inv .0)
+
+loop2-less : tie.Need-loop2-less Inv-loop μ-loop Inv-loop2 μ-loop2 Inv-turns μ-turns
+loop2-less c = omega (arith, c .before .before .loop2-test .taken, c .before .before .before .loop2 .inv .0)
+
+loop2-again : tie.Need-loop2-again Inv-loop μ-loop Inv-loop2 μ-loop2 Inv-turns μ-turns
+loop2-again c = let b = c .before .before .before .loop2 .inv in (b .0, omega (arith, c .before .before .loop2-test .taken, b .0), below-more _ _ (b .2) (c .if5 .left))
+
+same-length : tie.Need-same-length Inv-loop μ-loop Inv-loop2 μ-loop2 Inv-turns μ-turns
+same-length c = matrix-kept _ _ _ (c .before .before .before .before .before .before .before .before .before .before .before .before .before .before .args .workers) (c .before .before .before .before .before .before .before .before .before .before .before .before .before .before .pre .accepted) (c .before .before .before .before .before .before .before .before .before .before .before .turns .inv)
+
+same-length-2 : tie.Need-same-length-2 Inv-loop μ-loop Inv-loop2 μ-loop2 Inv-turns μ-turns
+same-length-2 c = lists-kept _ _ _ (c .before .before .before .before .before .before .before .before .before .before .before .before .before .before .args .workers) (c .before .before .before .before .before .before .before .before .before .before .before .before .before .before .pre .accepted) (c .before .before .before .before .before .before .before .before .before .before .before .turns .inv)
+
+same-length-3 : tie.Need-same-length-3 Inv-loop μ-loop Inv-loop2 μ-loop2 Inv-turns μ-turns
+same-length-3 c = records-kept _ _ _ (c .before .before .before .before .before .before .before .before .before .before .before .before .before .before .args .workers) (c .before .before .before .before .before .before .before .before .before .before .before .before .before .before .pre .accepted) (c .before .before .before .before .before .before .before .before .before .before .before .turns .inv)
+
+returns : tie.Need-returns Inv-loop μ-loop Inv-loop2 μ-loop2 Inv-turns μ-turns
 returns c =
-    let i = c .before .before .before .before .before .before .before .before .before .loop .inv in
-    (run-over i _ (c .before .before .before .before .lowest-ready .ensures) (c .before .before .before .before .before .before .if1 .left) (c .before .before .before .if2 .left) _ (c .before .before .next-busy .ensures) (c .if3 .taken), i .others)
-
-loop-less-3 : tie.Need-loop-less-3 Inv-loop μ-loop
-loop-less-3 c =
-    pass-less _ _ _ _ _ (c .before .before .before .before .before .before .if1 .left)
-    (pass-busy (c .before .before .before .before .before .before .before .before .before .loop .inv) _ (c .before .before .before .before .lowest-ready .ensures) (c .before .before .before .before .before .before .if1 .left) (c .before .before .before .if2 .left) _ (c .before .before .next-busy .ensures) (c .if3 .left))
-
-loop-again-3 : tie.Need-loop-again-3 Inv-loop μ-loop
-loop-again-3 c =
-    pass-goes (c .before .before .before .before .before .before .before .before .before .loop .inv) _ (c .before .before .before .before .lowest-ready .ensures) (c .before .before .before .before .before .before .if1 .left) (c .before .before .before .if2 .left) _ (c .before .before .next-busy .ensures) (c .if3 .left)
+    let i = c .before .before .before .before .before .before .before .before .before .before .before .turns .inv in
+    let a = c .before .before .before .before .loop .inv in
+    let b = c .before .loop2 .inv in (
+      run-over i _ (c .before .before .before .before .before .before .lowest-ready .ensures) (c .before .before .before .before .before .before .before .before .if1 .left) (c .before .before .before .before .before .if2 .left)
+          (both-parts _ _ _ (λ x k l. a .3 x k (omega (arith, l, c .before .before .if3 .left))) (λ x k. b .2 x (omega (arith, k, c .loop2-test .left, a .0, b .0)))),
+      i .others,
+    )
 
 -- ---- the budget is spent
 
-answer-after-requires : tie.Need-answer-after-requires Inv-loop μ-loop
+answer-after-requires : tie.Need-answer-after-requires Inv-loop μ-loop Inv-loop2 μ-loop2 Inv-turns μ-turns
 answer-after-requires c κs = tt
 
-same-length-4 : tie.Need-same-length-4 Inv-loop μ-loop
-same-length-4 c = matrix-kept _ _ _ (c .before .before .before .before .before .before .args .workers) (c .before .before .before .before .before .before .pre .accepted) (c .before .before .before .loop .inv)
+same-length-4 : tie.Need-same-length-4 Inv-loop μ-loop Inv-loop2 μ-loop2 Inv-turns μ-turns
+same-length-4 c = matrix-kept _ _ _ (c .before .before .before .before .before .before .args .workers) (c .before .before .before .before .before .before .pre .accepted) (c .before .before .before .turns .inv)
 
-same-length-5 : tie.Need-same-length-5 Inv-loop μ-loop
-same-length-5 c = lists-kept _ _ _ (c .before .before .before .before .before .before .args .workers) (c .before .before .before .before .before .before .pre .accepted) (c .before .before .before .loop .inv)
+same-length-5 : tie.Need-same-length-5 Inv-loop μ-loop Inv-loop2 μ-loop2 Inv-turns μ-turns
+same-length-5 c = lists-kept _ _ _ (c .before .before .before .before .before .before .args .workers) (c .before .before .before .before .before .before .pre .accepted) (c .before .before .before .turns .inv)
 
-same-length-6 : tie.Need-same-length-6 Inv-loop μ-loop
-same-length-6 c = records-kept _ _ _ (c .before .before .before .before .before .before .args .workers) (c .before .before .before .before .before .before .pre .accepted) (c .before .before .before .loop .inv)
+same-length-6 : tie.Need-same-length-6 Inv-loop μ-loop Inv-loop2 μ-loop2 Inv-turns μ-turns
+same-length-6 c = records-kept _ _ _ (c .before .before .before .before .before .before .args .workers) (c .before .before .before .before .before .before .pre .accepted) (c .before .before .before .turns .inv)
 
-returns-2 : tie.Need-returns-2 Inv-loop μ-loop
-returns-2 c = let i = c .before .before .before .loop .inv in (run-ends i (omega (arith, c .before .before .loop-test .left)) _ (c .answer-after .ensures), i .others)
+returns-2 : tie.Need-returns-2 Inv-loop μ-loop Inv-loop2 μ-loop2 Inv-turns μ-turns
+returns-2 c = let i = c .before .before .before .turns .inv in (run-ends i (omega (arith, c .before .before .turns-test .left)) _ (c .answer-after .ensures), i .others)
 
 pub turns-from-spec : {M : Type 1} → statement M
 turns-from-spec =
@@ -140,7 +209,11 @@ turns-from-spec =
     (tie.spec
     Inv-loop
     μ-loop
-    loop-holds
+    Inv-loop2
+    μ-loop2
+    Inv-turns
+    μ-turns
+    turns-holds
     mul-h
     array-copy-out-h
     advance-requires
@@ -150,8 +223,8 @@ turns-from-spec =
     search-start-requires
     add-n
     worker-after-requires
-    loop-less
-    loop-again
+    turns-less
+    turns-again
     lowest-ready-requires
     take-task-requires
     mul-left-2
@@ -159,15 +232,28 @@ turns-from-spec =
     add-from
     add-n-2
     worker-after-requires-2
-    loop-less-2
-    loop-again-2
-    next-busy-requires
+    turns-less-2
+    turns-again-2
+    loop-holds
+    mul-g
+    array-copy-out-g
+    turns-less-3
+    turns-again-3
+    add-v
+    loop-less
+    loop-again
+    loop2-holds
+    mul-g-2
+    array-copy-out-g-2
+    turns-less-4
+    turns-again-4
+    add-u
+    loop2-less
+    loop2-again
     same-length
     same-length-2
     same-length-3
     returns
-    loop-less-3
-    loop-again-3
     answer-after-requires
     same-length-4
     same-length-5
