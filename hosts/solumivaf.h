@@ -7,18 +7,19 @@
  *   matrix    (N * t)^2 numbers: tile after tile, (0,0), (0,1) and so on, each tile row by row
  *   lists     N^2 * t bytes: a row list of t entries for each tile, in the same order
  *   records   N * (N + 1) * (2 * N + 1) / 6, one for each task
- *   busy, task, column   SOLUMIVAF_SLOTS each: slot v says whether worker v is busy, its task and its next column. The first W are the
- *             workers; the others are not looked at and stay as they are. A bool is one byte, 0 or 1, and no other value
+ *   busy, task, column   SOLUMIVAF_SLOTS each: slot v says whether worker v is busy, its task and its next column. The first `count` are the
+ *             workers lent, and W is their number; the others are not looked at and stay as they are. A bool is one byte, 0 or 1, and no
+ *             other value
  *   right, answers       N * t numbers each
  *   text      of a system to write: 7 + N^2 * (7 + 16 * t^2) bytes or more. Of a result: that, N * (N + 1) / 2 * (7 + 2 * t) and 9 more
- * A pointer and the length after it are one slice. A length that differs from the one stated is refusal 2.
+ * A pointer and the length after it are one slice. A length that differs from the one stated, or a count that differs from W, is refusal 2.
  *
  * Pointers are never null and are aligned for their type, also where a length is 0. What a call writes through one pointer may not be reached
  * through another of its pointers, and during the call by no other thread. A function keeps no pointer and allocates nothing.
  *
  * A refusal changes nothing, and has a number and a place:
  *    1  tiles, side or workers is out of range. In a file: on line 1, with that line as the place
- *    2  a length is not the one that the sizes call for
+ *    2  a length, or the count of the workers lent, is not the one that the sizes call for
  *    3  a number isn't finite: in the matrix at an opening, or on the right side of a solve; its offset. In a file: its line
  *    4  what was lent is damaged: a record is not its task's or has no known mark; tasks and workers do not hold each other; an entry of
  *       a list is too large; or a number that the call needs isn't finite
@@ -44,6 +45,9 @@
 #ifdef __cplusplus
 extern "C" {
 #endif
+
+/* The version of this interface: another one where a function or a struct that crosses has changed. */
+#define SOLUMIVAF_VERSION 2
 
 /* The most workers, and the number of worker slots. */
 #define SOLUMIVAF_SLOTS 32
@@ -83,34 +87,34 @@ typedef struct {
  * workers to idle; what these held before does not matter. */
 solumivaf_told solumivaf_open(size_t tiles, size_t side, size_t workers, const double *matrix, size_t matrix_length, uint8_t *lists,
                               size_t lists_length, solumivaf_record *records, size_t records_length, bool *busy, uint16_t *task,
-                              uint8_t *column);
+                              uint8_t *column, size_t count);
 
 /* Worker w takes task p. Writes the task's mark and the worker's slot. */
-solumivaf_told solumivaf_take(size_t tiles, size_t side, size_t workers, const double *matrix, size_t matrix_length,
-                              const uint8_t *lists, size_t lists_length, solumivaf_record *records, size_t records_length, bool *busy,
-                              uint16_t *task, uint8_t *column, size_t w, size_t p);
+solumivaf_told solumivaf_take(size_t tiles, size_t side, size_t workers, const double *matrix, size_t matrix_length, const uint8_t *lists,
+                              size_t lists_length, solumivaf_record *records, size_t records_length, bool *busy, uint16_t *task,
+                              uint8_t *column, size_t count, size_t w, size_t p);
 
 /* Worker w does the next column of its task. Writes tiles and a list of that task and the worker's slot, and where the task ends its mark. */
 solumivaf_told solumivaf_column(size_t tiles, size_t side, size_t workers, double *matrix, size_t matrix_length, uint8_t *lists,
                                 size_t lists_length, solumivaf_record *records, size_t records_length, bool *busy, uint16_t *task,
-                                uint8_t *column, size_t w);
+                                uint8_t *column, size_t count, size_t w);
 
 /* Takes and columns, worker after worker from 0 on, until all tasks are finished or `budget` calls are made. Any budget is allowed: UINT64_MAX
  * runs to the end. Writes what these calls write. */
 solumivaf_told solumivaf_run(size_t tiles, size_t side, size_t workers, double *matrix, size_t matrix_length, uint8_t *lists,
                              size_t lists_length, solumivaf_record *records, size_t records_length, bool *busy, uint16_t *task,
-                             uint8_t *column, uint64_t budget);
+                             uint8_t *column, size_t count, uint64_t budget);
 
 /* The outcome by the marks and the diagonal, or the lowest unfinished task. Writes nothing. */
 solumivaf_told solumivaf_outcome(size_t tiles, size_t side, size_t workers, const double *matrix, size_t matrix_length,
                                  const uint8_t *lists, size_t lists_length, const solumivaf_record *records, size_t records_length,
-                                 const bool *busy, const uint16_t *task, const uint8_t *column);
+                                 const bool *busy, const uint16_t *task, const uint8_t *column, size_t count);
 
 /* Solves a factored system for one right side. Writes only the answers, and these only where nothing is refused. */
-solumivaf_told solumivaf_solve(size_t tiles, size_t side, size_t workers, const double *matrix, size_t matrix_length,
-                               const uint8_t *lists, size_t lists_length, const solumivaf_record *records, size_t records_length,
-                               const bool *busy, const uint16_t *task, const uint8_t *column, const double *right,
-                               size_t right_length, double *answers, size_t answers_length);
+solumivaf_told solumivaf_solve(size_t tiles, size_t side, size_t workers, const double *matrix, size_t matrix_length, const uint8_t *lists,
+                               size_t lists_length, const solumivaf_record *records, size_t records_length, const bool *busy,
+                               const uint16_t *task, const uint8_t *column, size_t count, const double *right, size_t right_length,
+                               double *answers, size_t answers_length);
 
 /* Reads a system file. Writes the matrix, which has the length that the text's first line calls for. */
 solumivaf_read solumivaf_read_system(const uint8_t *text, size_t text_length, double *matrix, size_t matrix_length);

@@ -9,7 +9,7 @@ from call_walks import ROOT, SLICE, Walk, answers, callee, exit_steps, lists, ma
 
 CRATE = "bench_structs"
 WIDTH = {"usize": "w64", "u64": "w64", "u16": "w16", "u8": "w8"}
-ARRAY = "Array Wk.the-row 32"
+WORKERS = "Wk.the-row"
 SIZES = "LL.vals Sz.the-type Sz′.the-laws"
 
 
@@ -24,7 +24,9 @@ def values(p):
     return SIZES + " z" if p.kind == "sizes" else "vint %s %s ∷ []" % (WIDTH[p.kind], p.name)
 
 
-def own_number(p):
+def own_value(p):
+    if p.kind == "sizes":
+        return "owned ! Sz.the-row (Is Sz.the-row) (LL.makes Sz.the-type Sz′.the-plain 𝓤 H A) z _ z-is $ fjoin ! $ "
     return "owned ! %s (Is %s) (uint-makes 𝓤 H A W %s) %s _ (refl, %s-fits) $ fjoin ! $ " % (p.kind, p.kind, WIDTH[p.kind], p.name, p.name)
 
 
@@ -143,7 +145,8 @@ class Call:
         owned = self.token_items + ["‵ (finally %s γ%s %s)" % (SLICE[p.name][2], SLICE[p.name][0], v) for p, v in self.ends] + ["‵ (%s .own r (v ∷ []))" % self.result]
         items = " ∷ ".join(owned) + " ∷ []"
         last = {p.name: v for p, v in self.ends}
-        s.append("  exits : (r : ℕ) (v : Val) %s → (%s) → %s\n      → ent 𝓤 (⋆ 𝓤 H A (%s)) (Post v)\n" % (" ".join("(%s : List %s)" % (v, SLICE[p.name][1]) for p, v in self.ends), self.call["fact"], " → ".join("length %s ≡ length %s" % (v, SLICE[p.name][3]) for p, v in self.ends), items))
+        same = "".join(" → length %s ≡ length %s" % (v, SLICE[p.name][3]) for p, v in self.ends)
+        s.append("  exits : (r : ℕ) (v : Val) %s → (%s)%s\n      → ent 𝓤 (⋆ 𝓤 H A (%s)) (Post v)\n" % (" ".join("(%s : List %s)" % (v, SLICE[p.name][1]) for p, v in self.ends), self.call["fact"], same, items))
         s.append("  exits r v %s e %s =\n" % (" ".join(v for _, v in self.ends), " ".join("len" + SLICE[p.name][0] for p in self.muts)))
         s.append(exit_steps(self, items, [last.get(p.name, "tt") for p in self.params], ["len" + SLICE[p.name][0] if p in self.muts else "tt" for p in self.params], self.muts))
 
@@ -152,17 +155,17 @@ class Call:
         s = self.s
         self.made, self.slots = nested([p.name for p in self.made_of]), self.call["slots"]
         s.append("  -- `%s`\n  abbrev to-mk : Make 𝓤 H A mem run .Ghost\n  to-mk = ((tt, tt, tt, %s, %s), tt)\n\n" % (self.maker, self.made, nested([values(p) for p in self.made_of])))
-        s.append("  goes-mk : ent 𝓤 (sem 𝓤 H A ftrue) (Make 𝓤 H A mem run .pre to-mk)\n  goes-mk = unasked 𝓤 (qed W (‵ ftrue ∷ []) ∵ frame ! $ nothing ! $ %sdone !)\n\n" % "".join(own_number(p) for p in reversed(self.made_of)))
-        s.append("  said-mk : (t : List Worker) → ent 𝓤 (ensured 𝓤 H A mk.ended (mk.clauses 𝓤 H A mem run) tt %s tt t) (fact 𝓤 (t ≡ %s))\n  said-mk t = exE 𝓤 _ (λ ws. snd∗ 𝓤 (sem 𝓤 H A (lasts mk.ended tt %s ws)) (fact 𝓤 (t ≡ %s)))\n\n" % (self.made, self.slots, self.made, self.slots))
+        s.append("  goes-mk : ent 𝓤 (sem 𝓤 H A ftrue) (Make 𝓤 H A mem run .pre to-mk)\n  goes-mk = unasked 𝓤 (qed W (‵ ftrue ∷ []) ∵ frame ! $ nothing ! $ %sdone !)\n\n" % "".join(own_value(p) for p in reversed(self.made_of)))
+        s.append("  said-mk : (t : Workers) → ent 𝓤 (ensured 𝓤 H A mk.ended (mk.clauses 𝓤 H A mem run) tt %s tt t) (fact 𝓤 (t ≡ %s))\n  said-mk t = exE 𝓤 _ (λ ws. snd∗ 𝓤 (sem 𝓤 H A (lasts mk.ended tt %s ws)) (fact 𝓤 (t ≡ %s)))\n\n" % (self.made, self.slots, self.made, self.slots))
 
     def core(self):
         """how the call is made"""
         s = self.s
         self.order = self.params[:4] + [None] + self.told_of
         self.given = lambda t: nested([t if p is None else reference(p) if p.kind == "slice" else "z" if p.kind == "sizes" else p.name for p in self.order])
-        s.append("  -- `%s_call::%s`\n  abbrev to-co : List Worker → Val → Core 𝓤 H A mem run .Ghost\n  to-co t v = ((%s, %s, tt, %s, %s), tt)\n\n" % (self.name, self.name, self.lifetimes, self.shares, self.given("t"), nested(["v ∷ []" if p is None else values(p) for p in self.order])))
-        s.append("  goes-co : (t : List Worker) (v : Val) → ent 𝓤 (sep 𝓤 %s (sep 𝓤 %s (sem 𝓤 H A (%s .own t (v ∷ []))))) (Core 𝓤 H A mem run .pre (to-co t v))\n" % (seps(["(A .lft κ%s q%s)" % (k, k) for k in self.indices]), seps(["(sem 𝓤 H A %s)" % x for x in self.borrows]), ARRAY))
-        s.append("  goes-co t v =\n      unasked 𝓤 (qed W ((%s) ∷ (%s) ∷ ‵ (%s .own t (v ∷ [])) ∷ []) ∵ " % (" ⊛ ".join(self.token_items), " ⊛ ".join("‵ " + x for x in self.borrows), ARRAY))
+        s.append("  -- `%s_call::%s`\n  abbrev to-co : Workers → Val → Core 𝓤 H A mem run .Ghost\n  to-co t v = ((%s, %s, tt, %s, %s), tt)\n\n" % (self.name, self.name, self.lifetimes, self.shares, self.given("t"), nested(["v ∷ []" if p is None else values(p) for p in self.order])))
+        s.append("  goes-co : (t : Workers) (v : Val) → ent 𝓤 (sep 𝓤 %s (sep 𝓤 %s (sem 𝓤 H A (%s .own t (v ∷ []))))) (Core 𝓤 H A mem run .pre (to-co t v))\n" % (seps(["(A .lft κ%s q%s)" % (k, k) for k in self.indices]), seps(["(sem 𝓤 H A %s)" % x for x in self.borrows]), WORKERS))
+        s.append("  goes-co t v =\n      unasked 𝓤 (qed W ((%s) ∷ (%s) ∷ ‵ (%s .own t (v ∷ [])) ∷ []) ∵ " % (" ⊛ ".join(self.token_items), " ⊛ ".join("‵ " + x for x in self.borrows), WORKERS))
         c = Walk()
         c.ctx = ["tokens", "borrows", "array"]
         c.apart("tokens", list(self.tokens))
@@ -179,11 +182,11 @@ class Call:
             if p.kind == "slice":
                 c.passes(SLICE[p.name][4])
             else:
-                c.emit(own_number(p))
+                c.emit(own_value(p))
         for x in ("array", "Rec", "Lis", "Mat"):
             c.passes(x)
         s.append("".join(c.out).replace(" $ \n", " $\n").rstrip() + "\n      owned ! Sz.the-row (Is Sz.the-row) (LL.makes Sz.the-type Sz′.the-plain 𝓤 H A) z _ z-is $ fjoin ! $ done !)\n\n")
-        s.append("  abbrev Told : (t : List Worker) (r : %s) %s → Type 0\n  Told t r %s = %s\n\n" % (self.reply, " ".join("(%s : List %s)" % (v, SLICE[p.name][1]) for p, v in self.ends), " ".join(v for _, v in self.ends), self.call["told"]))
+        s.append("  abbrev Told : (t : Workers) (r : %s) %s → Type 0\n  Told t r %s = %s\n\n" % (self.reply, " ".join("(%s : List %s)" % (v, SLICE[p.name][1]) for p, v in self.ends), " ".join(v for _, v in self.ends), self.call["told"]))
 
     def tell(self):
         """how the reply is told"""
@@ -258,7 +261,7 @@ class Call:
         g.use(1, "pre", "raw (Make 𝓤 H A mem run .pre to-mk)", "goes-mk")
         g.emit("calls-at ! fm (Make 𝓤 H A mem run) known-mk to-mk %s (λ w₀. " % g.opds([self.at[p.name] for p in self.made_of]))
         g.line()
-        g.use(1, "post", "later (some (λ (t : List Worker). (‵ ftrue ⊛ ‵ (%s .own t (w₀ ∷ []))) ⊛ raw (ensured 𝓤 H A mk.ended (mk.clauses 𝓤 H A mem run) tt %s tt t)))" % (ARRAY, self.made), "id⊢ 𝓤 _")
+        g.use(1, "post", "later (some (λ (t : Workers). (‵ ftrue ⊛ ‵ (%s .own t (w₀ ∷ []))) ⊛ raw (ensured 𝓤 H A mk.ended (mk.clauses 𝓤 H A mem run) tt %s tt t)))" % (WORKERS, self.made), "id⊢ 𝓤 _")
         g.emit("await ! tt $ pick ! (λ t₀. ")
         g.split("back", "ensured")
         g.move("ensured")
@@ -266,9 +269,9 @@ class Call:
         g.gone("heard ! (t₀ ≡ %s) (λ e₀. " % self.slots)
         g.split("true", "array")
         g.gone("drop ! $ ")
-        g.emit("peeks ! (%s) (Is (%s)) (shows 𝓤 H A (%s)) t₀ (w₀ ∷ []) (λ is₀. " % (ARRAY, ARRAY, ARRAY))
+        g.emit("peeks ! (%s) (Is (%s)) (shows 𝓤 H A (%s)) t₀ (w₀ ∷ []) (λ is₀. " % (WORKERS, WORKERS, WORKERS))
         g.line()
-        g.emit("land ! (from ! (stop !)) (init ! %d refl (array-lawful 𝓤 H A W Wk.the-row (LL.lawful Wk.the-type Wk′.the-laws 𝓤 H A W) 32 .typed t₀ _ is₀ .0)) $ " % g.at("L%d" % self.local["slots"]))
+        g.emit("land ! (from ! (stop !)) (init ! %d refl (LL.lawful Wk.the-type Wk′.the-laws 𝓤 H A W .typed t₀ _ is₀ .0)) $ " % g.at("L%d" % self.local["slots"]))
         g.line()
         self.lend(("answers",))
 
@@ -304,7 +307,7 @@ class Call:
         g.move("fact")
         g.gone("heard ! (%s) (λ e₁. " % told("ws₁"))
         g.line()
-        for p in self.order[:max(self.order.index(p) for p in self.muts) + 1]:
+        for p in self.order[:max([self.order.index(p) + 1 for p in self.muts], default=0)]:
             g.move("lasts")
             g.split("last", "lasts", "f")
             if p in self.muts:
@@ -320,7 +323,7 @@ class Call:
         g.split("tokens", "reply")
         g.move("reply")
         g.emit("peeks ! Rp.the-row (Is Rp.the-row) (shows 𝓤 H A Rp.the-row) t₁ (w₁ ∷ []) (λ is₁. ")
-        g.emit("land ! (from ! (stop !)) (init ! %d refl (%s .typed t₁ _ is₁ .0)) $ " % (g.at("L%d" % self.local["reply"]), "EL.lawful Rp.the-type Rp′.the-laws 𝓤 H A W tt" if self.reply == "Answer" else "LL.lawful Rp.the-type Rp′.the-laws 𝓤 H A W"))
+        g.emit("land ! (from ! (stop !)) (init ! %d refl (%s .typed t₁ _ is₁ .0)) $ " % (g.at("L%d" % self.local["reply"]), "EL.lawful Rp.the-type Rp′.the-laws 𝓤 H A W tt" if self.reply.endswith("Answer") else "LL.lawful Rp.the-type Rp′.the-laws 𝓤 H A W"))
         g.line()
 
     def tells_reply(self):
@@ -390,43 +393,48 @@ use Rattle.model.proofs.REPLY as Rp
 use Rattle.model.proofs.REPLY.Laws as Rp′
 use Rattle.model.specs.Buffer.{Buffers}
 use Rattle.model.specs.Calls.{Lent}
-use Rattle.model.specs.Refusal.{answerNumber, openCall, takeCall, columnCall, runCall}
+use Rattle.model.specs.Refusal.{answerNumber, openCall, takeCall, columnCall, runCall, outcomeCall}
 use Rattle.model.specs.Solve.{solveCall}
-use Rattle.bench_structs.specs.Bench.{idles, oneHolding, callsOf}
-use Rattle.bench_structs.proofs.Laws.{replies, ran, solves}
+use Rattle.bench_structs.specs.Bench.{idles, oneHolding, callsOf, outcomeTells}
+use Rattle.bench_structs.proofs.Laws.{replies, ran, solves, outcome-told}
 """
 
 
-def changes(call, m, l, law="replies", slots="idles", number="answerNumber"):
+def changes(call, m, l, law="replies", slots="idles (z .workers)", number="answerNumber"):
     """What a call's reply says, what the function's contract says, and how the one follows from the other. A take leaves matrix and lists."""
-    left = "%s (whole ms ls ys %s (z .workers))" % (call, slots if slots == "idles" else "(%s)" % slots)
+    left = "%s (whole ms ls ys (%s))" % (call, slots)
     fact = ["(r ≡ %s (%s .answer))" % (number, left), "(zs ≡ %s .left .records)" % left]
-    follows = "%s ms %s ls %s ys (%s) (z .workers) t₀ (%s) e₀ t₂ (%s) t₁ (e₁ .0) e₂" % (law, m if m == "ms" else "(%s)" % nth("ws₁", 1), l if l == "ls" else "(%s)" % nth("ws₁", 2), nth("ws₁", 3), slots, call)
+    follows = "%s ms %s ls %s ys (%s) t₀ (%s) e₀ t₂ (%s) t₁ (e₁ .0) e₂" % (law, m if m == "ms" else "(%s)" % nth("ws₁", 1), l if l == "ls" else "(%s)" % nth("ws₁", 2), nth("ws₁", 3), slots, call)
     if (m, l) == ("ms", "ls"):
         follows = "let x = %s in (x .0, x .2)" % follows
     else:
         fact.insert(1, "(_≡_ {A = Buffers} (record { matrix = %s; lists = %s }) (%s .left .buffers))" % (m, l, left))
-    told = "(record { answer = r .answer; left = whole %s %s zs (r .workers) (z .workers) } ≡ %s (whole ms ls ys t (z .workers))) × (dropped (z .workers) (r .workers) ≡ dropped (z .workers) t)" % (m, l, call)
+    told = "(record { answer = r .answer; left = whole %s %s zs (r .workers) } ≡ %s (whole ms ls ys t)) × OthersKept t (r .workers)" % (m, l, call)
     return dict(fact=" × ".join(fact), told=told, law=follows, slots=slots, number=number + " (%s .answer)")
 
 
-IDLE = ("idle_workers", [])
 W, P, TASK, COLUMN, BUDGET = number("w", "usize"), number("p", "usize"), number("p", "u16"), number("c", "u8"), number("budget", "u64")
 RIGHT, ANSWERS = right(), answers()
-SOLVED = "solveCall z (whole ms ls ys %s (z .workers)) bs us"
+IDLE = ("idle_workers", [sizes()])
+OUTCOME = "outcomeCall z (whole ms ls ys %s)"
+SOLVED = "solveCall z (whole ms ls ys %s) bs us"
 CALLS = [
     dict(name="open", params=[sizes(), matrix(False), lists(True), records(True)], passes=[], made=IDLE, reply="CallReply", result="u8", tell="number_in",
          locals=dict(top=10, reply=5, lists=6, records=8, slots=10), **changes("openCall z", "ms", "ls′")),
     dict(name="take", params=[sizes(), matrix(False), lists(False), records(True), W, P], passes=[W, P], made=IDLE, reply="CallReply", result="u8", tell="number_in",
          locals=dict(top=10, reply=7, records=8, slots=10), **changes("takeCall z w p", "ms", "ls")),
-    dict(name="column", params=[sizes(), matrix(True), lists(True), records(True), W, TASK, COLUMN], passes=[W], made=("one_holding", [TASK, COLUMN]), reply="CallReply", result="u8", tell="number_in",
-         locals=dict(top=15, reply=8, matrix=9, lists=11, records=13, slots=15), **changes("columnCall z w", "ms′", "ls′", slots="oneHolding p c")),
+    dict(name="column", params=[sizes(), matrix(True), lists(True), records(True), W, TASK, COLUMN], passes=[W], made=("one_holding", [sizes(), TASK, COLUMN]), reply="CallReply", result="u8", tell="number_in",
+         locals=dict(top=15, reply=8, matrix=9, lists=11, records=13, slots=15), **changes("columnCall z w", "ms′", "ls′", slots="oneHolding (z .workers) p c")),
     dict(name="run", params=[sizes(), matrix(True), lists(True), records(True), BUDGET], passes=[BUDGET], made=IDLE, reply="RunReply", result="u64", tell="calls_in",
          locals=dict(top=13, reply=6, matrix=7, lists=9, records=11, slots=13), **changes("runCall z budget", "ms′", "ls′", law="ran", number="callsOf")),
+    dict(name="outcome", params=[sizes(), matrix(False), lists(False), records(False)], passes=[], made=IDLE, reply="OutcomeAnswer", result="u8", tell="outcome_number",
+         locals=dict(top=6, reply=5, slots=6), slots="idles (z .workers)", number="outcomeTells %s",
+         fact="r ≡ outcomeTells (%s)" % (OUTCOME % "(idles (z .workers))"), told="r ≡ " + OUTCOME % "t",
+         law="outcome-told ms ls ys t₀ (idles (z .workers)) e₀ t₂ (outcomeCall z) t₁ e₁ e₂"),
     dict(name="solve", params=[sizes(), matrix(False), lists(False), records(False), RIGHT, ANSWERS], passes=[RIGHT, ANSWERS], made=IDLE, reply="Answer", result="u8", tell="number_of",
-         locals=dict(top=10, reply=7, slots=8, answers=9), slots="idles", number="answerNumber %s",
-         fact="(r ≡ answerNumber (%s .answer)) × (us′ ≡ %s .left)" % ((SOLVED % "idles",) * 2), told="record { answer = r; left = us′ } ≡ " + SOLVED % "t",
-         law="solves ms ls ys (z .workers) t₀ idles e₀ t₂ (λ (s : Lent). solveCall z s bs us) t₁ (%s) e₁ e₂" % nth("ws₁", 6)),
+         locals=dict(top=10, reply=7, slots=8, answers=9), slots="idles (z .workers)", number="answerNumber %s",
+         fact="(r ≡ answerNumber (%s .answer)) × (us′ ≡ %s .left)" % ((SOLVED % "(idles (z .workers))",) * 2), told="record { answer = r; left = us′ } ≡ " + SOLVED % "t",
+         law="solves ms ls ys t₀ (idles (z .workers)) e₀ t₂ (λ (s : Lent). solveCall z s bs us) t₁ (%s) e₁ e₂" % nth("ws₁", 6)),
 ]
 
 if __name__ == "__main__":

@@ -74,7 +74,7 @@ def records(mut):
 
 
 def workers():
-    return Param("slots", "workers")
+    return Param("wk", "workers")
 
 
 def number(name, ty):
@@ -254,8 +254,8 @@ def save(root, crate, function, text):
         file.write(text)
 
 
-TYPES = {"sizes": "Sizes", "workers": "List Worker", "usize": "ℕ", "u64": "ℕ"}
-CALL_ARGS = {"lk": "(length ys, tt)", "pt": "(p, (n, tt))", "th": "(slots, (w, tt))"}
+TYPES = {"sizes": "Sizes", "workers": "Workers", "usize": "ℕ", "u64": "ℕ"}
+CALL_ARGS = {"lk": "(length ys, tt)", "pt": "(p, (n, tt))", "th": "(wk, (w, tt))"}
 
 
 class Call:
@@ -304,12 +304,12 @@ class Call:
             self.mod_params.append("(z : Sizes) (z-is : Is Sz.the-row z (LL.vals Sz.the-type Sz′.the-laws z))")
             self.actuals.append("(a%s) (are%s)" % (path, path))
         elif p.kind == "workers":
-            self.vals_.append("array-vals (LL.vals Wk.the-type Wk′.the-laws) slots")
-            self.vals_fn.append("array-vals (LL.vals Wk.the-type Wk′.the-laws)")
-            self.tells_fn.append("array-tells Wk.the-row (LL.vals Wk.the-type Wk′.the-laws) (LL.tells Wk.the-type Wk′.the-laws) 32")
-            slot = "(arrayOf (plain (λ _. Wk.the-row)) 32)"
-            self.rows.append("Array Wk.the-row 32")
-            self.mod_params.append("(slots : List Worker) (slots-is : Is (Array Wk.the-row 32) slots (array-vals (LL.vals Wk.the-type Wk′.the-laws) slots))")
+            self.vals_.append("LL.vals Wk.the-type Wk′.the-laws wk")
+            self.vals_fn.append("LL.vals Wk.the-type Wk′.the-laws")
+            self.tells_fn.append("LL.tells Wk.the-type Wk′.the-laws")
+            slot = "(plain (λ _. Wk.the-row))"
+            self.rows.append("Wk.the-row")
+            self.mod_params.append("(wk : Workers) (wk-is : Is Wk.the-row wk (LL.vals Wk.the-type Wk′.the-laws wk))")
             self.actuals.append("(a%s) (are%s)" % (path, path))
         else:
             self.vals_.append("vint w64 %s ∷ []" % p.name)
@@ -338,8 +338,8 @@ class Call:
     def lends(self):
         """what is owned at the start, and what the part gets: the flat slice and n stand where the records stood"""
         # the part's parameters: the flat slice and n stand where the records stood
-        self.part_args = ["z", "m", "ll", "(fl l ε X)", "n", "slots"] + self.arg[5:]
-        self.part_vals = ["LL.vals Sz.the-type Sz′.the-laws z", "s₁ ∷ []", "s₂ ∷ []", "s₅ l ∷ []", "vint w64 n ∷ []", "array-vals (LL.vals Wk.the-type Wk′.the-laws) slots"] + self.vals_[5:]
+        self.part_args = ["z", "m", "ll", "(fl l ε X)", "n", "wk"] + self.arg[5:]
+        self.part_vals = ["LL.vals Sz.the-type Sz′.the-laws z", "s₁ ∷ []", "s₂ ∷ []", "s₅ l ∷ []", "vint w64 n ∷ []", "LL.vals Wk.the-type Wk′.the-laws wk"] + self.vals_[5:]
         self.mat, self.lis = self.params[1], self.params[2]
         self.more = [p for p in self.slices if p.name in ("right", "answers")]
         self.ans = any(p.name == "answers" for p in self.more)
@@ -361,8 +361,8 @@ class Call:
         # with answers, the call's definition says what is left in them, and is told the right side and the answers last
         said = (lambda r: "record { answer = %s; left = us′ }" % r) if self.ans else (lambda r: r)
         self.told_too = "".join(" " + SLICE[p.name][3] for p in self.more)
-        self.part_fact = lambda r, m_, l_, x_: ("(record { answer = %s .answer; left = lent %s %s (upTo n %s) (%s .workers) (z .workers) } ≡ %s (lent ms ls (upTo n X) slots (z .workers))) × (dropped (z .workers) (%s .workers) ≡ dropped (z .workers) slots)" % (r, m_, l_, x_, r, said_of, r)) if self.has_store else "%s ≡ %s (lent ms ls (upTo n X) slots (z .workers))%s" % (said(r), said_of, self.told_too)
-        self.whole_fact = lambda r, m_, l_, y_: ("(record { answer = %s .answer; left = whole %s %s %s (%s .workers) (z .workers) } ≡ %s (whole ms ls ys slots (z .workers))) × (dropped (z .workers) (%s .workers) ≡ dropped (z .workers) slots)" % (r, m_, l_, y_, r, said_of, r)) if self.has_store else "%s ≡ %s (whole ms ls ys slots (z .workers))%s" % (said(r), said_of, self.told_too)
+        self.part_fact = lambda r, m_, l_, x_: ("(record { answer = %s .answer; left = allLent %s %s (upTo n %s) (%s .workers) } ≡ %s (allLent ms ls (upTo n X) wk)) × OthersKept wk (%s .workers)" % (r, m_, l_, x_, r, said_of, r)) if self.has_store else "%s ≡ %s (allLent ms ls (upTo n X) wk)%s" % (said(r), said_of, self.told_too)
+        self.whole_fact = lambda r, m_, l_, y_: ("(record { answer = %s .answer; left = whole %s %s %s (%s .workers) } ≡ %s (whole ms ls ys wk)) × OthersKept wk (%s .workers)" % (r, m_, l_, y_, r, said_of, r)) if self.has_store else "%s ≡ %s (whole ms ls ys wk)%s" % (said(r), said_of, self.told_too)
 
     def head(self):
         """what the walk uses, and the contracts that it cites"""
@@ -408,7 +408,7 @@ class Call:
             d.append(("s" + k, "Val", "sliceVal (b%s, o%s) (length %s)" % (k, k, xs)))
         d.append(("s₅ : ℕ → Val", None, "s₅ l = sliceVal (l, 0) N"))
         d.append(("zv", "Val", "LL.val Sz.the-type Sz′.the-laws z"))
-        d.append(("wv", "Val", "only (array-vals (LL.vals Wk.the-type Wk′.the-laws) slots)"))
+        d.append(("wv", "Val", "LL.val Wk.the-type Wk′.the-laws wk"))
         d.append(("vs", product(["List Val"] * len(self.params)), nested(self.vals_)))
         d.append(("n", "ℕ", "cond (ltb (length ys) %s) (length ys) %s" % (COUNT, COUNT), "how many records are copied, and the copies before"))
         d.append(("X₀", "List (List ℕ)", "replicate N (replicate 5 0)"))
@@ -513,7 +513,7 @@ class Call:
                 c.passes(SLICE[p.name][4])
             else:
                 c.emit("owned ! %s (Is %s) (uint-makes 𝓤 H A W w64) %s _ (refl, %s-fits) $ fjoin ! $ " % (p.kind, p.kind, p.name, p.name))
-        c.emit("owned ! (Array Wk.the-row 32) (Is (Array Wk.the-row 32)) (array-makes 𝓤 H A W Wk.the-row (LL.makes Wk.the-type Wk′.the-plain 𝓤 H A) 32) slots _ slots-is $ fjoin ! $\n      owned ! usize (Is usize) (uint-makes 𝓤 H A W w64) n _ (refl, n-fits) $ fjoin ! $ ")
+        c.emit("owned ! Wk.the-row (Is Wk.the-row) (LL.makes Wk.the-type Wk′.the-plain 𝓤 H A) wk _ wk-is $ fjoin ! $\n      owned ! usize (Is usize) (uint-makes 𝓤 H A W w64) n _ (refl, n-fits) $ fjoin ! $ ")
         for x in ("flat", "Lis", "Mat"):
             c.passes(x)
         s.append("".join(c.out).replace(" $ \n", " $\n").rstrip() + "\n      owned ! Sz.the-row (Is Sz.the-row) (LL.makes Sz.the-type Sz′.the-plain 𝓤 H A) z _ z-is $ fjoin ! $ done !\n\n")
@@ -525,9 +525,9 @@ class Call:
         """how `task_held` and `past` are called"""
         s = self.s
         if self.held:
-            s.append("  -- `task_held`\n  abbrev p : ℕ\n  p = getD slots w idle .task\n\n  abbrev to-th : Task 𝓤 H A mem run .Ghost\n  to-th = ((tt, tt, tt, (slots, (w, tt)), (array-vals (LL.vals Wk.the-type Wk′.the-laws) slots, (vint w64 w ∷ [], tt))), tt)\n\n")
-            s.append("  goes-th : ent 𝓤 (sem 𝓤 H A ftrue) (Task 𝓤 H A mem run .pre to-th)\n  goes-th = unasked 𝓤 (qed W (‵ ftrue ∷ []) ∵ frame ! $ nothing ! $ owned ! usize (Is usize) (uint-makes 𝓤 H A W w64) w _ (refl, w-fits) $ fjoin ! $ owned ! (Array Wk.the-row 32) (Is (Array Wk.the-row 32)) (array-makes 𝓤 H A W Wk.the-row (LL.makes Wk.the-type Wk′.the-plain 𝓤 H A) 32) slots _ slots-is $ fjoin ! $ done !)\n\n")
-            s.append("  said-th : (t : ℕ) → ent 𝓤 (ensured 𝓤 H A th.ended (th.clauses 𝓤 H A mem run) tt (slots, (w, tt)) tt t) (fact 𝓤 (t ≡ p))\n  said-th t = exE 𝓤 _ (λ ws. snd∗ 𝓤 (sem 𝓤 H A (lasts th.ended tt (slots, (w, tt)) ws)) (fact 𝓤 (t ≡ p)))\n\n")
+            s.append("  -- `task_held`\n  abbrev p : ℕ\n  p = getD (wk .slots) w idle .task\n\n  abbrev to-th : Task 𝓤 H A mem run .Ghost\n  to-th = ((tt, tt, tt, (wk, (w, tt)), (LL.vals Wk.the-type Wk′.the-laws wk, (vint w64 w ∷ [], tt))), tt)\n\n")
+            s.append("  goes-th : ent 𝓤 (sem 𝓤 H A ftrue) (Task 𝓤 H A mem run .pre to-th)\n  goes-th = unasked 𝓤 (qed W (‵ ftrue ∷ []) ∵ frame ! $ nothing ! $ owned ! usize (Is usize) (uint-makes 𝓤 H A W w64) w _ (refl, w-fits) $ fjoin ! $ owned ! Wk.the-row (Is Wk.the-row) (LL.makes Wk.the-type Wk′.the-plain 𝓤 H A) wk _ wk-is $ fjoin ! $ done !)\n\n")
+            s.append("  said-th : (t : ℕ) → ent 𝓤 (ensured 𝓤 H A th.ended (th.clauses 𝓤 H A mem run) tt (wk, (w, tt)) tt t) (fact 𝓤 (t ≡ p))\n  said-th t = exE 𝓤 _ (λ ws. snd∗ 𝓤 (sem 𝓤 H A (lasts th.ended tt (wk, (w, tt)) ws)) (fact 𝓤 (t ≡ p)))\n\n")
         if self.uses_past:
             pa = "(p-fits : p < 2 ^ 64) → " if self.held else ""
             pv = "p-fits " if self.held else ""
@@ -539,17 +539,19 @@ class Call:
         """how `store` is called"""
         s = self.s
         if self.has_store:
-            self.frm, self.end = ("p", "past-p") if self.uses_past else ("0", "n")
-            pa = "p < 2 ^ 64 → " if self.held else ""
-            pv = "p-fits " if self.held else ""
-            frm_fits = "p-fits" if self.uses_past else "lit< tt"
-            s.append("  -- `store`\n  abbrev to-st : ℕ → ℕ → GName → List (List ℕ) → Store 𝓤 H A mem run .Ghost\n  to-st l ν ε X = (((κ₃, (ν ∷ [], tt)), (q₃, (fullShare, tt)), tt, (rs γ₃, (fl l ε X, (%s, (%s, tt)))), (s₃ ∷ [], (s₅ l ∷ [], (vint w64 %s ∷ [], (vint w64 %s ∷ [], tt))))), tt)\n\n" % (self.frm, self.end, self.frm, self.end))
+            # the store starts at p, or at a literal, which the walk reads from the code
+            self.frm, self.end = ("p", "past-p") if self.uses_past else ("start", "n")
+            self.given, given_type = ("", "") if self.uses_past else ("start ", "ℕ → ")
+            pa = "p < 2 ^ 64 → " if self.held else "" if self.uses_past else "(start : ℕ) → start < 2 ^ 64 → "
+            pv = "p-fits " if self.held else "" if self.uses_past else "start start-fits "
+            frm_fits = "p-fits" if self.uses_past else "start-fits"
+            s.append("  -- `store`%s\n  abbrev to-st : %sℕ → ℕ → GName → List (List ℕ) → Store 𝓤 H A mem run .Ghost\n  to-st %sl ν ε X = (((κ₃, (ν ∷ [], tt)), (q₃, (fullShare, tt)), tt, (rs γ₃, (fl l ε X, (%s, (%s, tt)))), (s₃ ∷ [], (s₅ l ∷ [], (vint w64 %s ∷ [], (vint w64 %s ∷ [], tt))))), tt)\n\n" % ("" if self.uses_past else ", from where the code starts it", given_type, self.given, self.frm, self.end, self.frm, self.end))
             end_le = ("le-trans past-short n-there", "le-trans past-short n-short") if self.uses_past else ("n-there", "n-short")
             end_fits = "lt-of-le-of-lt past-short n-fits" if self.uses_past else "n-fits"
-            s.append("  goes-st : %s(l ν : ℕ) (ε : GName) (X : List (List ℕ)) → length X ≡ N → ent 𝓤 (sep 𝓤 (sep 𝓤 (A .lft κ₃ q₃) (A .lft (ν ∷ []) fullShare)) (sep 𝓤 (sem 𝓤 H A Rec) (sem 𝓤 H A (Imm l ν ε X)))) (Store 𝓤 H A mem run .pre (to-st l ν ε X))\n" % pa)
+            s.append("  goes-st : %s(l ν : ℕ) (ε : GName) (X : List (List ℕ)) → length X ≡ N → ent 𝓤 (sep 𝓤 (sep 𝓤 (A .lft κ₃ q₃) (A .lft (ν ∷ []) fullShare)) (sep 𝓤 (sem 𝓤 H A Rec) (sem 𝓤 H A (Imm l ν ε X)))) (Store 𝓤 H A mem run .pre (to-st %sl ν ε X))\n" % (pa, self.given))
             s.append("  goes-st %sl ν ε X long =\n      qed W ((‵ (flft κ₃ q₃) ⊛ ‵ (flft (ν ∷ []) fullShare)) ∷ ‵ Rec ∷ ‵ (Imm l ν ε X) ∷ []) ∵ says ! (%s, subst (λ (k : ℕ). %s ≤ k) (sym long) (%s)) $ split ! $\n" % (pv, end_le[0], self.end, end_le[1]))
             s.append("      nothing ! $ move ! (2 ∷ 0 ∷ []) $ join ! $ move ! (1 ∷ 0 ∷ []) $ join ! $ frame ! $ nothing ! $ owned ! usize (Is usize) (uint-makes 𝓤 H A W w64) %s _ (refl, %s) $ fjoin ! $ owned ! usize (Is usize) (uint-makes 𝓤 H A W w64) %s _ (refl, %s) $ fjoin ! $\n      move ! (2 ∷ 0 ∷ []) $ fjoin ! $ move ! (1 ∷ 0 ∷ []) $ fjoin ! $ done !\n\n" % (self.end, end_fits, self.frm, frm_fits))
-            s.append("  abbrev Stored : List (List ℕ) → List TaskRecord → Type 0\n  Stored X zs = zs ≡ copied (%s - %s) %s (recordsFrom X) ys\n\n" % (self.end, self.frm, self.frm))
+            s.append("  abbrev Stored : %sList (List ℕ) → List TaskRecord → Type 0\n  Stored %sX zs = zs ≡ copied (%s - %s) %s (recordsFrom X) ys\n\n" % (given_type, self.given, self.end, self.frm, self.frm))
         s.append("  unit-typed : (w : Val) → w ∷ [] ≡ vunit ∷ [] → Holds (hasTy tyUnit w) × WT w\n  unit-typed w is = subst (λ (v : Val). Holds (hasTy tyUnit v) × WT v) (sym (ap only is)) (tt, tt)\n\n")
 
     def enters(self):
@@ -575,7 +577,7 @@ class Call:
             elif p.kind == "sizes":
                 g.emit("pass1 ! (init ! %d refl (LL.lawful Sz.the-type Sz′.the-laws 𝓤 H A W .typed z _ z-is .0)) $ " % pos)
             elif p.kind == "workers":
-                g.emit("pass1 ! (init ! %d refl (array-lawful 𝓤 H A W Wk.the-row (LL.lawful Wk.the-type Wk′.the-laws 𝓤 H A W) 32 .typed slots _ slots-is .0)) $ " % pos)
+                g.emit("pass1 ! (init ! %d refl (LL.lawful Wk.the-type Wk′.the-laws 𝓤 H A W .typed wk _ wk-is .0)) $ " % pos)
             else:
                 g.emit("pass1 ! (init ! %d refl (tt, record { fits = %s-fits })) $ " % (pos, p.name))
         g.emit("pass0 ! $ ")
@@ -871,13 +873,13 @@ class Call:
         if self.uses_past:
             self.pure_call("Past", "pt", "to-pt", ("goes-pt " + pf).strip(), [self.L["p"], self.CNT], self.LEN, "past-p", "said-pt", "w₄", "store", "is₄")
         g.move("Arr")
-        g.emit("peeks ! (Array B N) (Is (Array B N)) (shows 𝓤 H A (Array B N)) %s (val₅ %s ∷ []) (λ good₂. " % (self.X2, self.X2))
+        g.emit("peeks ! (Array B N) (Is (Array B N)) (shows 𝓤 H A (Array B N)) %s (val₅ %s ∷ []) (λ good₂. %s" % (self.X2, self.X2, "" if self.uses_past else "let start : ℕ = _ in "))
         self.lend("Imm", self.X2, which="shares-local", slot="named 1")
         g.move("κ₃", "ν")
         g.join("κν")
         g.move("κν", "Rec", "lent")
-        to = "(to-st %s ν ε %s)" % (self.lh, self.X2)
-        g.use(3, "pre", "raw (Store 𝓤 H A mem run .pre %s)" % to, "goes-st %s%s ν ε %s (good₂ .1 .0 .1)" % (pf, self.lh, self.X2))
+        to = "(to-st %s%s ν ε %s)" % (self.given, self.lh, self.X2)
+        g.use(3, "pre", "raw (Store 𝓤 H A mem run .pre %s)" % to, "goes-st %s%s ν ε %s (good₂ .1 .0 .1)" % (pf if self.uses_past else "start (lit< tt) ", self.lh, self.X2))
         g.emit("calls-at ! fm (Store 𝓤 H A mem run) known-st %s %s (λ w₃. " % (to, g.opds([self.L["rec"] + 1, self.L["imm"] + 1, self.L["p"] if self.uses_past else "(lit ! tt)", self.LEN if self.uses_past else self.CNT])))
         g.line()
 
@@ -891,11 +893,11 @@ class Call:
         g.split("back", "ens")
         g.move("ens")
         g.line()
-        g.use(1, "ens", "some (λ (zs : List TaskRecord × (Unit {0} × (Unit {0} × (Unit {0} × Unit {0})))). ‵ (lasts st.ended %s %s zs) ⊛ raw (fact 𝓤 (Stored %s (zs .0))))" % (gl, ga, self.X2), "id⊢ 𝓤 _")
+        g.use(1, "ens", "some (λ (zs : List TaskRecord × (Unit {0} × (Unit {0} × (Unit {0} × Unit {0})))). ‵ (lasts st.ended %s %s zs) ⊛ raw (fact 𝓤 (Stored %s%s (zs .0))))" % (gl, ga, self.given, self.X2), "id⊢ 𝓤 _")
         g.emit("pick ! (λ zs. ")
         g.split("lasts", "fact")
         g.move("fact")
-        g.gone("heard ! (Stored %s (zs .0)) (λ e₃. " % self.X2)
+        g.gone("heard ! (Stored %s%s (zs .0)) (λ e₃. " % (self.given, self.X2))
         g.line()
         g.split("last", "lasts", "f")
         g.split("finR", "same", "f")
@@ -932,9 +934,9 @@ class Call:
         ms_v = "(ws₂ .1 .0)" if self.mat.mut else "ms"
         ls_v = "(ws₂ .1 .1 .0)" if self.lis.mut else "ls"
         if self.has_store:
-            law = "(%s z ms ls ys slots %s X₀ %s %s %s %s %s t₂ (zs .0) (good₁ .1 .0 .1) (good₂ .1 .0 .1) e₁ (e₂ .0) e₃, e₂ .1)" % (self.call["law"], " ".join(self.extra), self.X1, ms_v, ls_v, self.X2, "")
+            law = "(%s z ms ls ys wk %s X₀ %s %s %s %s %s t₂ (zs .0) (good₁ .1 .0 .1) (good₂ .1 .0 .1) e₁ (e₂ .0) e₃, e₂ .1)" % (self.call["law"], " ".join(self.extra), self.X1, ms_v, ls_v, self.X2, "")
         else:
-            law = "(e₂ ∙ %s z ms ls ys slots%s X₀ %s (good₁ .1 .0 .1) e₁)" % (self.call["law"], self.told_too, self.X1)
+            law = "(e₂ ∙ %s z ms ls ys wk%s X₀ %s (good₁ .1 .0 .1) e₁)" % (self.call["law"], self.told_too, self.X1)
         g.emit("by ! (exits t₂ w₂ %s %s %s)" % (" ".join(fin_vals), law.replace("  ", " "), " ".join(lens_)))
         s.append(g.text() + "\n\n")
 

@@ -1,5 +1,5 @@
-"""Tests of the declarations that hosts link by: hosts/solumivaf.h, hosts/solumivaf/src/raw.rs and those in bench/src have the functions that
-crates host_* and bench_* export, and the structs that cross, with the same names, order and types."""
+"""Tests of the declarations that hosts link by: hosts/solumivaf.h, hosts/solumivaf/src/raw.rs, those in bench/src and in a test of hosts/solumivaf
+have the functions that crates host_* and bench_* export, and the structs that cross, with the same names, order and types."""
 import re
 import unittest
 
@@ -7,7 +7,7 @@ from loading import text_of
 
 C = {"size_t": "usize", "double": "f64", "uint8_t": "u8", "uint16_t": "u16", "uint64_t": "u64", "solumivaf_record": "Record", "solumivaf_told": "Told",
      "solumivaf_read": "Read"}
-RATTLE = {"[u8; 5]": "Record", "TaskRecord": "Record", "ReadTold": "Read"}
+RATTLE = {"TaskRecord": "Record", "ReadTold": "Read"}
 
 
 def parameters(text):
@@ -19,7 +19,7 @@ def exported(crate):
     for name, listed, told in re.findall(r'pub extern "C" fn (\w+)\(([^)]*)\) -> (\w+)', text_of("crates", crate, "src", "lib.rt")):
         passed = []
         for own, kind in (part.split(": ", 1) for part in parameters(listed)):
-            lent = re.fullmatch(r"&(mut )?\[(.+?)(; 32)?\]", kind)
+            lent = re.fullmatch(r"&(mut )?\[(.+?)(; SLOTS)?\]", kind)
             element = RATTLE.get(lent.group(2), lent.group(2)) if lent else kind
             passed.append((own, "*%s %s" % ("mut" if lent.group(1) else "const", element) if lent else element))
             if lent and not lent.group(3):
@@ -55,6 +55,10 @@ class Hosts(unittest.TestCase):
         self.assertEqual(list(declared_in_c(text_of("hosts", "solumivaf.h"))), library)
         self.assertEqual(list(declared_in_rust(text_of("hosts", "solumivaf", "src", "raw.rs"))), library)
 
+    def test_version(self):
+        header = re.search(r"^#define SOLUMIVAF_VERSION (\d+)$", text_of("hosts", "solumivaf.h"), re.M).group(1)
+        self.assertIn("pub const VERSION: u32 = %s;" % header, text_of("hosts", "solumivaf", "src", "lib.rs"))
+
     def test_structs(self):
         rattle = text_of("crates", "host_answers", "src", "lib.rt") + text_of("crates", "model", "src", "lib.rt")
         for own, name, c_name in (("Told", "Told", "solumivaf_told"), ("ReadTold", "Read", "solumivaf_read"), ("TaskRecord", "Record", "solumivaf_record")):
@@ -65,8 +69,10 @@ class Hosts(unittest.TestCase):
 
     def test_benchmark(self):
         for crate, source, count in (("bench_host", "main.rs", 4), ("bench_structs", "structs.rs", 5)):
-            self.assertEqual(len(exports(crate)), count)
-            self.assertEqual(list(declared_in_rust(text_of("bench", "src", source))), exports(crate))
+            timed = [function for function in exports(crate) if function[0] != "bench_outcome"]
+            self.assertEqual(len(timed), count)
+            self.assertEqual(list(declared_in_rust(text_of("bench", "src", source))), timed)
+        self.assertEqual(list(declared_in_rust(text_of("hosts", "solumivaf", "tests", "structs.rs"))), exports("bench_structs"))
 
 
 if __name__ == "__main__":

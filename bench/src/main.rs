@@ -273,6 +273,7 @@ fn kernels(table: &mut Table, t: usize, rounds: usize) {
 /// Opens the system and runs it: the count of the calls made.
 fn factorize(s: &Shape, workers: usize, budget: u64, x: &mut Lent) -> u64 {
     let sizes = sizes(s, workers);
+    x.to.workers.count = workers;
     x.to.open(sizes).unwrap();
     match x.to.run(sizes, budget).unwrap() {
         Run::Finished(calls) | Run::Spent(calls) => calls,
@@ -305,6 +306,7 @@ fn plain_take<V: Version>(s: &Shape, workers: usize, p: usize, x: &mut Lent) {
 
 #[inline(never)]
 fn rattle_take(s: &Shape, workers: usize, p: usize, x: &mut Lent) {
+    x.to.workers.count = workers;
     assert_eq!(x.to.take(sizes(s, workers), 0, p), Ok(()));
 }
 
@@ -317,6 +319,7 @@ fn plain_column<V: Version>(s: &Shape, workers: usize, p: usize, c: usize, x: &m
 
 #[inline(never)]
 fn rattle_column(s: &Shape, workers: usize, x: &mut Lent) {
+    x.to.workers.count = workers;
     assert_eq!(x.to.column(sizes(s, workers), 0), Ok(()));
 }
 

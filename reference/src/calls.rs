@@ -10,7 +10,7 @@ use crate::tile::{fill, work_column, Shape};
 /// Checks sizes, lengths and elements, then makes lists, records and workers new.
 pub fn opening(sizes: Sizes, lent: &mut Lent) -> Result<(), Refusal> {
     let (shape, workers) = accept_sizes(sizes)?;
-    accept_lengths(shape, lent)?;
+    accept_lengths(shape, workers, lent)?;
     if let Some(offset) = first_not_finite(&lent.matrix) {
         return refuse(3, offset as u64);
     }
@@ -50,7 +50,7 @@ pub fn is_ready(shape: Shape, records: &[Record], number: usize) -> bool {
 /// Gives a ready task to an idle worker.
 pub fn take(sizes: Sizes, lent: &mut Lent, worker: u64, task: u64) -> Result<(), Refusal> {
     let (shape, workers) = accept_sizes(sizes)?;
-    accept_lengths(shape, lent)?;
+    accept_lengths(shape, workers, lent)?;
     accept_state(shape, workers, lent)?;
     if worker >= workers as u64 || lent.workers[worker as usize].busy {
         return refuse(5, worker);
@@ -73,7 +73,7 @@ fn make_take(lent: &mut Lent, worker: usize, task: usize) {
 /// Has a busy worker do the next column of its task.
 pub fn column(sizes: Sizes, lent: &mut Lent, worker: u64) -> Result<(), Refusal> {
     let (shape, workers) = accept_sizes(sizes)?;
-    accept_lengths(shape, lent)?;
+    accept_lengths(shape, workers, lent)?;
     accept_state(shape, workers, lent)?;
     if worker >= workers as u64 {
         return refuse(5, worker);
@@ -112,7 +112,7 @@ fn make_column(shape: Shape, lent: &mut Lent, worker: usize) {
     lent.workers[worker] = IDLE;
 }
 
-/// Something the task touches has a latest lower-numbered writer that is failed or spoiled.
+/// Of the tasks that last wrote what this one touches, one is failed or spoiled.
 fn is_spoiled(shape: Shape, records: &[Record], number: usize) -> bool {
     for &writer in &table(shape.tiles).writers[number] {
         if records[writer].mark == FAILED || records[writer].mark == SPOILED {
@@ -132,7 +132,7 @@ pub enum Run {
 /// Workers take turns from 0 until all tasks are finished or the budget is used.
 pub fn run(sizes: Sizes, lent: &mut Lent, budget: u64) -> Result<Run, Refusal> {
     let (shape, workers) = accept_sizes(sizes)?;
-    accept_lengths(shape, lent)?;
+    accept_lengths(shape, workers, lent)?;
     accept_state(shape, workers, lent)?;
     accept_elements(lent)?;
     let mut count = 0;

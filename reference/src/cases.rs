@@ -42,7 +42,7 @@ impl Case {
         };
         let records =
             (0..table(2).tasks.len()).map(|number| record_of(shape, number, mark(number))).collect();
-        Lent { matrix: self.matrix.clone(), lists: self.lists.clone(), records, workers }
+        Lent { matrix: self.matrix.clone(), lists: self.lists.clone(), records, count: 1, workers }
     }
 
     pub fn script(&self) -> String {

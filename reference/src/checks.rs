@@ -22,16 +22,17 @@ pub fn accept_sizes(sizes: Sizes) -> Result<(Shape, usize), Refusal> {
     Ok((shape, sizes.workers as usize))
 }
 
-/// Matrix, lists and records have the lengths that N and t call for.
-pub fn lengths_fit(shape: Shape, lent: &Lent) -> bool {
+/// Matrix, lists and records have the lengths that N and t call for, and W workers are lent.
+pub fn lengths_fit(shape: Shape, workers: usize, lent: &Lent) -> bool {
     lent.matrix.len() == shape.matrix_length()
         && lent.lists.len() == shape.lists_length()
         && lent.records.len() == table(shape.tiles).tasks.len()
+        && lent.count == workers as u64
 }
 
-/// Refusal 2 for matrix, lists and records.
-pub fn accept_lengths(shape: Shape, lent: &Lent) -> Result<(), Refusal> {
-    if !lengths_fit(shape, lent) {
+/// Refusal 2 for matrix, lists, records and workers.
+pub fn accept_lengths(shape: Shape, workers: usize, lent: &Lent) -> Result<(), Refusal> {
+    if !lengths_fit(shape, workers, lent) {
         return refuse(2, 0);
     }
     Ok(())

@@ -47,17 +47,19 @@ pub struct Worker {
 
 pub const IDLE: Worker = Worker { busy: false, task: 0, column: 0 };
 
+/// What is lent; of the worker slots as many as the count says, which is a length like the others.
 #[derive(Clone)]
 pub struct Lent {
     pub matrix: Vec<f64>,
     pub lists: Vec<u8>,
     pub records: Vec<Record>,
+    pub count: u64,
     pub workers: [Worker; SLOTS],
 }
 
 impl Lent {
     pub fn nothing() -> Lent {
-        Lent { matrix: Vec::new(), lists: Vec::new(), records: Vec::new(), workers: [IDLE; SLOTS] }
+        Lent { matrix: Vec::new(), lists: Vec::new(), records: Vec::new(), count: 0, workers: [IDLE; SLOTS] }
     }
 
     /// Appends everything lent in the digits of a lend line, without its command.
@@ -70,6 +72,7 @@ impl Lent {
         for record in &self.records {
             put_bytes(out, &[record.kind, record.k, record.i, record.j, record.mark]);
         }
+        put(out, self.count, 8);
         for worker in &self.workers {
             put(out, worker.busy as u64, 2);
             put(out, worker.task as u64, 4);
@@ -79,14 +82,15 @@ impl Lent {
 
     pub fn get(fields: &mut Fields) -> Lent {
         let matrix = fields.counted_numbers();
-        let count = fields.take(8) as usize;
-        let lists = fields.bytes(count);
-        let count = fields.take(8) as usize;
+        let entries = fields.take(8) as usize;
+        let lists = fields.bytes(entries);
+        let tasks = fields.take(8) as usize;
         let mut records = Vec::new();
-        for _ in 0..count {
+        for _ in 0..tasks {
             let b = fields.bytes(5);
             records.push(Record { kind: b[0], k: b[1], i: b[2], j: b[3], mark: b[4] });
         }
+        let count = fields.take(8);
         let mut workers = [IDLE; SLOTS];
         for slot in 0..SLOTS {
             let busy = fields.take(2) != 0;
@@ -94,7 +98,7 @@ impl Lent {
             let column = fields.take(2) as u8;
             workers[slot] = Worker { busy, task, column };
         }
-        Lent { matrix, lists, records, workers }
+        Lent { matrix, lists, records, count, workers }
     }
 
     /// The digest of everything lent.
@@ -108,6 +112,7 @@ impl Lent {
                 digest.mix(byte as u64);
             }
         }
+        digest.mix(self.count);
         for worker in &self.workers {
             digest.mix(worker.busy as u64);
             digest.mix(worker.task as u64);

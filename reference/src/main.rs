@@ -24,7 +24,7 @@ fn main() {
         Some("vectors") => script(Options {
             seed: seed(&arguments),
             calls: option(&arguments, "--calls", 3200),
-            max_bytes: option(&arguments, "--max-bytes", 1_600_000),
+            max_bytes: option(&arguments, "--max-bytes", 1_770_000),
         }),
         _ => {
             eprintln!("reference: see README.md for the subcommands");

@@ -15,13 +15,14 @@ pub fn record_of(shape: Shape, number: usize, mark: u8) -> Record {
 }
 
 /// The right lengths around a matrix; what lists, records and workers hold is of no account to opening.
-pub fn before_opening(rng: &mut Rng, shape: Shape, matrix: Vec<f64>) -> Lent {
+pub fn before_opening(rng: &mut Rng, shape: Shape, workers: usize, matrix: Vec<f64>) -> Lent {
     let count = table(shape.tiles).tasks.len();
     let junk = rng.percent(40);
     let mut lent = Lent {
         matrix,
         lists: vec![0; shape.lists_length()],
         records: vec![Record { kind: 0, k: 0, i: 0, j: 0, mark: 0 }; count],
+        count: workers as u64,
         workers: [IDLE; SLOTS],
     };
     if junk {
@@ -51,6 +52,7 @@ pub fn odd_state(rng: &mut Rng, shape: Shape, workers: usize, family: usize, all
         matrix: numbers(rng, family, shape.matrix_length()),
         lists: random_lists(rng, shape),
         records: Vec::new(),
+        count: workers as u64,
         workers: [IDLE; SLOTS],
     };
     let no_failure = rng.percent(50);

@@ -2,11 +2,10 @@
 //! its stage, states in which one task decides whether another is ready or spoiled, and elements that are
 //! not finite in a part that a task does not use.
 
-use crate::cases::random_lists;
 use crate::crafted::{couple_overflows, overflows};
 use crate::families::{not_finite, numbers};
-use crate::lent::{Lent, Worker, DONE, FAILED, IDLE, SLOTS, SPOILED, TAKEN, WAITING};
-use crate::oddities::{before_opening, record_of};
+use crate::lent::{DONE, FAILED, SPOILED, TAKEN, WAITING};
+use crate::oddities::before_opening;
 use crate::tasks::table;
 use crate::tile::Shape;
 use crate::writer::Writer;
@@ -43,7 +42,7 @@ impl Writer {
 
     fn open_system(&mut self, shape: Shape, matrix: &[f64]) {
         self.start(shape, 2);
-        let lent = before_opening(&mut self.rng, shape, matrix.to_vec());
+        let lent = before_opening(&mut self.rng, shape, 2, matrix.to_vec());
         self.lend(&lent);
         self.open();
     }
@@ -151,21 +150,6 @@ impl Writer {
         let lent = self.marked(|other| if other == task { TAKEN } else { mark(other) });
         self.lend(&lent);
         self.column(0);
-    }
-
-    /// A state of these marks; workers from 0 on hold the taken tasks and stand at column 0.
-    fn marked(&mut self, mark: impl Fn(usize) -> u8) -> Lent {
-        let count = table(self.shape.tiles).tasks.len();
-        let mut workers = [IDLE; SLOTS];
-        for (worker, task) in (0..count).filter(|&task| mark(task) == TAKEN).enumerate() {
-            workers[worker] = Worker { busy: true, task: task as u16, column: 0 };
-        }
-        Lent {
-            matrix: numbers(&mut self.rng, 0, self.shape.matrix_length()),
-            lists: random_lists(&mut self.rng, self.shape),
-            records: (0..count).map(|task| record_of(self.shape, task, mark(task))).collect(),
-            workers,
-        }
     }
 
     /// T-2(0,1) and T-3(0,1) under work side by side, with one element that is not finite: below, on and

@@ -71,8 +71,8 @@ pub enum Ending {
 
 /// The outcome call.
 pub fn ending(sizes: Sizes, lent: &Lent) -> Result<Ending, Refusal> {
-    let (shape, _) = accept_sizes(sizes)?;
-    accept_lengths(shape, lent)?;
+    let (shape, workers) = accept_sizes(sizes)?;
+    accept_lengths(shape, workers, lent)?;
     Ok(match lowest_unfinished(lent) {
         Some(number) => Ending::Unfinished(number),
         None => Ending::Ended(outcome(shape, &lent.matrix, &marks(lent))),
@@ -82,7 +82,7 @@ pub fn ending(sizes: Sizes, lent: &Lent) -> Result<Ending, Refusal> {
 /// Solves for one right side; the answers are written only when nothing is refused.
 pub fn solve(sizes: Sizes, lent: &Lent, right: &[f64], answers: &mut [f64]) -> Result<(), Refusal> {
     let (shape, workers) = accept_sizes(sizes)?;
-    accept_lengths(shape, lent)?;
+    accept_lengths(shape, workers, lent)?;
     if right.len() != shape.rows() || answers.len() != shape.rows() {
         return refuse(2, 0);
     }

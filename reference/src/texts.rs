@@ -6,6 +6,7 @@ use crate::families::numbers;
 use crate::judge::{text_line, PROGRAM, RESULT, SYSTEM};
 use crate::loops::published_loops;
 use crate::rng::Rng;
+use crate::solve::Outcome;
 use crate::tile::Shape;
 use crate::write::{result_text, system_text};
 
@@ -25,7 +26,8 @@ pub fn all_texts(seed: u64) -> Vec<String> {
     for text in large_programs(&mut rng) {
         lines.push(text_line(PROGRAM, text.as_bytes()));
     }
-    lines.extend(long_results(&mut rng));
+    lines.extend(long_texts(&mut rng));
+    lines.extend(wide_results(&mut rng));
     for _ in 0..RANDOM_TEXTS {
         lines.push(random_text(&mut rng));
     }
@@ -73,7 +75,8 @@ fn crafted_headers() -> Vec<String> {
         "010001", "010100", "011101", "010111", "01FFFF", "010000", "010210", "010410", "010401", "010310",
         "011003", "010704", "010707", "011010", "020000", "030000", "040000", "050000", "060000", "000000",
         "FF0000", "0A0201", "01020", "0102011", "01020100", "01", "0", "", "0102 1", "01020a", "0102\r1",
-        "g10201", "010201\r", " 010201", "03000000", "04000000", "05000000", "010102", "020201",
+        "g10201", "110201", "F10201", "010201\r", " 010201", "03000000", "04000000", "05000000", "010102",
+        "020201",
     ] {
         texts.push(with(&TWO, 1, header));
     }
@@ -102,6 +105,8 @@ fn crafted_systems() -> Vec<String> {
         "0300003FF0000000000000",
         "0400003FF0000000000000",
         "0500003FF0000000000000",
+        "1200003FF0000000000000",
+        "F200003FF0000000000000",
         "0200003ff0000000000000",
         "0200003FF000000000000",
         "0200003FF00000000000000",
@@ -130,15 +135,27 @@ fn crafted_systems() -> Vec<String> {
 }
 
 /// Lines tried in place of the lists and the outcome of a result with t = 1.
-const SHORT_LINES: [&str; 24] = [
+const SHORT_LINES: [&str; 30] = [
     "03000005", "03000002", "03000001", "03000000", "03010000", "03010001", "03010100", "03110000",
-    "030000FF", "04000000", "04000001", "04010000", "04010003", "0401FFFF", "04020000", "0402FFFF",
-    "04030000", "04FF0000", "05010001", "05000000", "06000000", "00000000", "01000000", "02000000",
+    "030000FF", "03000010", "04000000", "04000001", "04000010", "04000100", "04001000", "04010000",
+    "04010003", "0401FFFF", "04020000", "0402FFFF", "04030000", "04100000", "04FF0000", "05010001",
+    "05000000", "06000000", "00000000", "01000000", "02000000", "10000000",
 ];
+
+/// Outcomes whose place has one digit other than 0, or four others.
+const PLACES: [&str; 8] =
+    ["0401000A", "04010010", "04020010", "04010100", "04020B00", "04011000", "0402F000", "04019ABC"];
 
 fn crafted_results() -> Vec<String> {
     let mut texts = vec![joined(&TWO_RESULT), joined(&PAIR_RESULT), joined(&TWO), String::new()];
     for line in SHORT_LINES {
+        texts.push(with(&TWO_RESULT, 6, line));
+        texts.push(with(&TWO_RESULT, 9, line));
+    }
+    for line in PLACES {
+        texts.push(with(&TWO_RESULT, 9, line));
+    }
+    for line in ["13000000", "F3000000", "14000000", "A4000000"] {
         texts.push(with(&TWO_RESULT, 6, line));
         texts.push(with(&TWO_RESULT, 9, line));
     }
@@ -172,6 +189,9 @@ fn crafted_results() -> Vec<String> {
     for header in ["010001", "010100", "011101", "010111", "010202", "020201", "060201", "01020"] {
         texts.push(with(&TWO_RESULT, 1, header));
     }
+    for alone in ["010707", "010410", "011010"] {
+        texts.push(format!("{alone}\n"));
+    }
     texts.push(with(&TWO_RESULT, 2, "0200007FF0000000000000"));
     texts.push(with(&TWO_RESULT, 5, "020101FFF8000000000000"));
     texts
@@ -180,7 +200,7 @@ fn crafted_results() -> Vec<String> {
 /// The greatest system the program takes, and smaller ones.
 fn large_programs(rng: &mut Rng) -> Vec<String> {
     let mut texts = Vec::new();
-    for (tiles, side) in [(16, 3), (4, 4), (16, 1)] {
+    for (tiles, side) in [(16, 3), (4, 4), (16, 1), (1, 16), (3, 16), (2, 11)] {
         let shape = Shape { tiles, side };
         let matrix = numbers(rng, 0, shape.matrix_length());
         texts.push(system_text(shape, &matrix));
@@ -188,8 +208,8 @@ fn large_programs(rng: &mut Rng) -> Vec<String> {
     texts
 }
 
-/// Results of many lines, damaged beyond line 255.
-fn long_results(rng: &mut Rng) -> Vec<String> {
+/// A system and results of many lines, damaged beyond line 255.
+fn long_texts(rng: &mut Rng) -> Vec<String> {
     let shape = Shape { tiles: 13, side: 1 };
     let matrix = numbers(rng, 1, shape.matrix_length());
     let last = published_loops(shape, &matrix);
@@ -201,6 +221,25 @@ fn long_results(rng: &mut Rng) -> Vec<String> {
         lines.push(text_line(RESULT, &whole(&parts)));
         parts.truncate(line - 1);
         lines.push(text_line(RESULT, &whole(&parts)));
+    }
+    let mut numbers = [1.0; 256];
+    numbers[255] = f64::INFINITY;
+    let text = system_text(Shape { tiles: 16, side: 1 }, &numbers);
+    lines.push(text_line(SYSTEM, text.as_bytes()));
+    lines
+}
+
+/// Results of one large tile, whose entries have digits above 9 or two digits: up to t, and one above it.
+fn wide_results(rng: &mut Rng) -> Vec<String> {
+    let mut lines = Vec::new();
+    for side in [11, 16] {
+        let shape = Shape { tiles: 1, side };
+        let matrix = numbers(rng, 4, shape.matrix_length());
+        for most in [side, side + 1] {
+            let lists: Vec<u8> = (0..side).map(|c| (most - c) as u8).collect();
+            let text = result_text(shape, &matrix, &lists, Outcome::Singular(16 + side as u16));
+            lines.push(text_line(RESULT, text.as_bytes()));
+        }
     }
     lines
 }

@@ -165,7 +165,7 @@ fn couple_column(
     Some(())
 }
 
-/// T-4: whole rows of A(k,j) and A(i,j) exchanged by entry c, then all rows of A(i,j) updated.
+/// T-4: entry c says which row of A(i,j), if any, changes places with row c of A(k,j); then every row of A(i,j) is updated.
 fn pair_column(shape: Shape, matrix: &mut [f64], lists: &[u8], task: Task, c: usize) -> Option<()> {
     let t = shape.side;
     let (k, i, j) = (task.k, task.i, task.j);

@@ -1,5 +1,5 @@
-//! Writes scripts for the player by playing them: walks through random and crafted systems, the parts of
-//! the diagonal tile, odd and damaged states, wrong sizes and lengths.
+//! Writes scripts for the player by playing them: the edges of what calls are told and answer, walks through random
+//! and crafted systems, the parts of the diagonal tile, odd and damaged states, wrong sizes and lengths.
 
 use crate::crafted::{all_crafted, Crafted};
 use crate::families::{not_finite, numbers, FAMILIES};
@@ -12,7 +12,7 @@ use crate::writer::{Options, Writer};
 /// The bytes of the lend line of a shape with its right lengths.
 fn lend_bytes(shape: Shape) -> usize {
     let count = table(shape.tiles).tasks.len();
-    3 + 24 + 16 * shape.matrix_length() + 2 * shape.lists_length() + 10 * count + 8 * SLOTS
+    3 + 32 + 16 * shape.matrix_length() + 2 * shape.lists_length() + 10 * count + 8 * SLOTS
 }
 
 /// The whole script.
@@ -20,6 +20,7 @@ pub fn script(options: Options) -> String {
     let mut writer = Writer::new(options);
     writer.nothing_lent();
     writer.large_systems();
+    writer.edges();
     writer.crafted_systems();
     writer.diagonal_parts();
     writer.damaged_systems();
@@ -80,7 +81,7 @@ impl Writer {
     fn crafted_system(&mut self, crafted: &Crafted) {
         let workers = self.rng.between(1, 4);
         self.start(crafted.shape, workers);
-        let lent = before_opening(&mut self.rng, crafted.shape, crafted.matrix.clone());
+        let lent = before_opening(&mut self.rng, crafted.shape, workers, crafted.matrix.clone());
         self.lend(&lent);
         self.open();
         self.walk(30, 8);
@@ -96,7 +97,7 @@ impl Writer {
     fn walk_system(&mut self, shape: Shape, workers: usize, family: usize, steps: usize) {
         self.start(shape, workers);
         let matrix = numbers(&mut self.rng, family, shape.matrix_length());
-        let lent = before_opening(&mut self.rng, shape, matrix);
+        let lent = before_opening(&mut self.rng, shape, workers, matrix);
         self.lend(&lent);
         if self.rng.percent(30) {
             self.wrong_sizes();

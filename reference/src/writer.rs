@@ -1,8 +1,10 @@
 //! A script in the making: its lines, played as they are written, and single steps of a walk.
 
 use crate::calls::is_ready;
+use crate::cases::random_lists;
 use crate::families::{not_finite, number, numbers};
-use crate::lent::{Lent, Sizes};
+use crate::lent::{Lent, Sizes, Worker, IDLE, SLOTS, TAKEN};
+use crate::oddities::record_of;
 use crate::rng::Rng;
 use crate::script::{call_line, lend_line, solve_line, Player, COLUMN, OPENING, OUTCOME, RUN, TAKE};
 use crate::tasks::table;
@@ -115,6 +117,22 @@ impl Writer {
     pub fn start(&mut self, shape: Shape, workers: usize) {
         self.shape = shape;
         self.workers = workers;
+    }
+
+    /// A state of these marks, with entries that fit; workers from 0 on hold the taken tasks and stand at column 0.
+    pub fn marked(&mut self, mark: impl Fn(usize) -> u8) -> Lent {
+        let count = table(self.shape.tiles).tasks.len();
+        let mut workers = [IDLE; SLOTS];
+        for (worker, task) in (0..count).filter(|&task| mark(task) == TAKEN).enumerate() {
+            workers[worker] = Worker { busy: true, task: task as u16, column: 0 };
+        }
+        Lent {
+            matrix: numbers(&mut self.rng, 0, self.shape.matrix_length()),
+            lists: random_lists(&mut self.rng, self.shape),
+            records: (0..count).map(|task| record_of(self.shape, task, mark(task))).collect(),
+            count: self.workers as u64,
+            workers,
+        }
     }
 }
 

@@ -1,8 +1,8 @@
 //! The document's example byte for byte, the ranks of the file refusals, lent lengths, short texts.
 
 use reference::calls::{opening, run};
-use reference::hex::put;
-use reference::judge::{judge_line, result_again, system_again};
+use reference::hex::{put, put_bytes};
+use reference::judge::{judge_line, result_again, system_again, text_line, PROGRAM};
 use reference::lent::{Refusal, Sizes};
 use reference::oddities::before_opening;
 use reference::read::{read_result, read_system};
@@ -10,7 +10,7 @@ use reference::rng::Rng;
 use reference::solve::Outcome;
 use reference::texts::all_texts;
 use reference::tile::Shape;
-use reference::write::{program_text, result_text, write_result, write_system};
+use reference::write::{loops_text, program_text, result_text, write_result, write_system};
 
 const SYSTEM: &str = "010201
 0200003FF0000000000000
@@ -37,6 +37,14 @@ fn the_example() {
     assert_eq!(result_again(RESULT.as_bytes()), RESULT);
 }
 
+/// The program's input as a line for the judge: the bytes that it prints.
+#[test]
+fn the_example_judged() {
+    let mut printed = String::new();
+    put_bytes(&mut printed, RESULT.as_bytes());
+    assert_eq!(judge_line(&text_line(PROGRAM, SYSTEM.as_bytes())), printed);
+}
+
 /// The same by calls with one worker.
 #[test]
 fn the_example_by_calls() {
@@ -44,7 +52,7 @@ fn the_example_by_calls() {
     let told = Sizes { tiles: 2, side: 1, workers: 1 };
     let mut matrix = vec![0.0; 4];
     read_system(SYSTEM.as_bytes(), &mut matrix).expect("a system");
-    let mut lent = before_opening(&mut Rng::new(1), shape, matrix);
+    let mut lent = before_opening(&mut Rng::new(1), shape, 1, matrix);
     opening(told, &mut lent).expect("a good system");
     run(told, &mut lent, u64::MAX).expect("a run");
     assert_eq!(result_text(shape, &lent.matrix, &lent.lists, Outcome::Good), RESULT);
@@ -114,6 +122,7 @@ fn the_limit_of_the_program() {
     assert_eq!(program_text(b"010310\n"), "050E0002\n");
     assert_eq!(program_text(b"010410"), "050C0001\n");
     assert_eq!(system_again(b"010410\n"), "050E0002\n");
+    assert_eq!(loops_text(b"010410\n"), "050E0002\n");
 }
 
 #[test]
@@ -146,6 +155,43 @@ fn short_texts() {
     assert_eq!(write_system(2, 2, &matrix, &mut []), Err(Refusal { number: 2, place: 0 }));
     assert_eq!(write_system(0, 2, &matrix, &mut []), Err(Refusal { number: 1, place: 0 }));
     assert_eq!(write_system(2, 1, &matrix, &mut []), Err(Refusal { number: 15, place: 0 }));
+}
+
+/// Sizes before lengths, lengths before room.
+#[test]
+fn writings_in_order() {
+    let refused = |number| Err(Refusal { number, place: 0 });
+    let (matrix, lists) = ([4.0, 4.0, 0.25, 1.0], [0, 0, 1, 0]);
+    for (tiles, side, numbers, entries, room, number) in [
+        (17, 1, 4, 4, 200, 1),
+        (2, 0, 4, 4, 200, 1),
+        (258, 1, 4, 4, 200, 1),
+        (2, (1 << 32) + 1, 4, 4, 200, 1),
+        (0, 1, 3, 4, 0, 1),
+        (2, 1, 3, 4, 200, 2),
+        (2, 1, 4, 3, 200, 2),
+        (2, 1, 3, 3, 0, 2),
+        (2, 1, 4, 3, 0, 2),
+        (2, 1, 4, 4, 0, 15),
+    ] {
+        let (matrix, lists) = (&matrix[..numbers], &lists[..entries]);
+        let mut text = vec![b'x'; room];
+        let written = write_result(tiles, side, matrix, lists, Outcome::Good, &mut text);
+        assert_eq!(written, refused(number));
+        if entries == 4 {
+            assert_eq!(write_system(tiles, side, matrix, &mut text), refused(number));
+        }
+        assert!(text.iter().all(|&byte| byte == b'x'));
+    }
+}
+
+/// A writer looks neither at entries nor at places.
+#[test]
+fn any_entry_is_written() {
+    let mut text = [0; 68];
+    let written = write_result(1, 1, &[1.0], &[0xFA], Outcome::Overflow(0xA00B), &mut text);
+    assert_eq!(written, Ok(48));
+    assert_eq!(&text[..48], b"010101\n0200003FF0000000000000\n030000FA\n0401A00B\n");
 }
 
 /// Every refusal number of the readers is met many times, and every accepted text comes back.

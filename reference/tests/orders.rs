@@ -18,7 +18,7 @@ fn told(shape: Shape, workers: usize) -> Sizes {
 }
 
 fn opened(rng: &mut Rng, shape: Shape, workers: usize, matrix: &[f64]) -> Lent {
-    let mut lent = before_opening(rng, shape, matrix.to_vec());
+    let mut lent = before_opening(rng, shape, workers, matrix.to_vec());
     opening(told(shape, workers), &mut lent).expect("a good system");
     lent
 }

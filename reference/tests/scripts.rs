@@ -81,10 +81,10 @@ fn seeds_repeat() {
 
 #[test]
 fn a_script_stays_within_its_bytes() {
-    for max_bytes in [20_000, 100_000, 1_600_000] {
+    for max_bytes in [20_000, 100_000, 1_770_000] {
         let made = script(Options { seed: 6, calls: 3200, max_bytes });
         assert!(made.len() <= max_bytes);
-        if max_bytes == 1_600_000 {
+        if max_bytes == 1_770_000 {
             assert!(made.lines().count() >= 3000);
             assert!(made.lines().any(|line| line.starts_with("1000010000")));
         }

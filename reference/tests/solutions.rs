@@ -20,7 +20,7 @@ fn answers_fit_their_right_side() {
             system[shape.global(row, (row + 1) % n)] += 4.0;
         }
         let right = numbers(&mut rng, 0, n);
-        let mut lent = before_opening(&mut rng, shape, system.clone());
+        let mut lent = before_opening(&mut rng, shape, 3, system.clone());
         opening(told, &mut lent).expect("a good system");
         run(told, &mut lent, u64::MAX).expect("a run");
         let mut answers = vec![0.0; n];

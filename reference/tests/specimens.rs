@@ -21,6 +21,7 @@ fn opened(tiles: usize, side: usize, rows: &[f64]) -> (Sizes, Lent) {
         matrix: tile_order(shape, rows),
         lists: vec![9; shape.lists_length()],
         records: vec![Record { kind: 7, k: 7, i: 7, j: 7, mark: 7 }; table(tiles).tasks.len()],
+        count: 1,
         workers: [IDLE; SLOTS],
     };
     opening(told, &mut lent).expect("a good system");

@@ -1,12 +1,11 @@
 -- The column of a worker at work is due; and the state after it. Assumes nothing.
 use Prim.Native.Nat.{ℕ, suc, _+_, _-_, _*_, _≤_, _<_}
 use mathlib.Core.Bool.{false, cond}
-use mathlib.Core.Path.{_≡_, refl, sym, ap, _∙_}
+use mathlib.Core.Path.{_≡_, refl, sym, ap, _∙_, subst}
 use mathlib.Core.List.{List}
 use native.Mathlib.Omega.{arith}
 use lib.Ieee.{Float}
-use lib.ListN.{length, getD, set, take}
-use lib.Seq.{take-set-lt}
+use lib.ListN.{length, getD, set}
 use borrow.Author.Tests.{eq-eqb, ne-eqb, lt-ltb}
 use Rattle.model.specs.declared.Sizes.{Sizes}
 use Rattle.worker.specs.declared.Worker.{Worker}
@@ -19,7 +18,8 @@ use Rattle.worker.specs.Holding.{idle, holding}
 use Rattle.model.specs.Refusal.{entryLimit, damaged}
 use Rattle.links.proofs.Order.{Within, within-1, within-2, within-3, within-4}
 use Rattle.column_laws.specs.Placed.{Placed, EntriesFit}
-use Rattle.records.specs.Records.{recordsFrom, lent}
+use Rattle.records.specs.Records.{recordsFrom, crew, lent}
+use Rattle.records.proofs.Laws.{crew-set}
 use Rattle.checks.specs.Checks.{Sized}
 use Rattle.run_laws.proofs.Undamaged.{entry-fits}
 use Rattle.call_laws.proofs.Undamaged.{worker-lent, record-named, task-inside, record-inside, recorded, worker-holds}
@@ -55,19 +55,19 @@ module _ (z : Sizes) where
     entries a (within-4 k i j h g f e) = λ x hx. omega (arith, entry i k x (omega arith) (omega arith) hx, limit-below i k h)
 
 -- the column of a worker at work is due
-module _ (z : Sizes) (w : ℕ) (m : List Float) (l : List ℕ) (r : List (List ℕ)) (ws : List Worker) (long : length ws ≡ 32) (d : Working z w m l r ws) where
+module _ (z : Sizes) (w : ℕ) (m : List Float) (l : List ℕ) (r : List (List ℕ)) (ws : List Worker) (d : Working z w m l r ws) where
   abbrev h : Worker
   h = getD ws w idle
 
   pub holds : (h .task < length (tasks (z .tiles))) × (h .column < z .side)
   holds =
-      let k = worker-holds z m l r ws w (omega (arith, d .sound .sizes .few-workers)) (d .sound .undamaged) (d .exists) (d .busy) in
+      let k = worker-holds z m l r ws w (d .sound .undamaged) (d .exists) (d .busy) in
       (k .0, k .2)
 
   pub due : ColumnDue z (h .task) (h .column) m l r
   due =
       let p = h .task in
-      let v = task-inside z m l r ws (d .sound .sizes) (d .sound .records-fit) (d .sound .undamaged) p (holds .0) in
+      let v = task-inside z m l r ws (d .sound .sizes) (d .sound .lengths .records-fit) (d .sound .undamaged) p (holds .0) in
       record {
         sizes = d .sound .sizes;
         workable = record {
@@ -75,21 +75,20 @@ module _ (z : Sizes) (w : ℕ) (m : List Float) (l : List ℕ) (r : List (List �
           tiles-most = d .sound .sizes .few-tiles;
           side-some = d .sound .sizes .some-side;
           side-most = d .sound .sizes .small-side;
-          matrix-long = d .sound .matrix-fits;
-          lists-long = d .sound .lists-fit;
+          lengths = d .sound .lengths .buffers;
           placed = placed (z .tiles) (task (tasks (z .tiles)) p) v;
           column = holds .1;
           entries = entries z m l r ws (d .sound .sizes) (d .sound .undamaged) (task (tasks (z .tiles)) p) v;
           tiles-finite = d .tiles-finite;
         };
-        recorded = recorded z m l r ws (d .sound .sizes) (d .sound .records-fit) (d .sound .undamaged) p (holds .0);
-        named = record-named z m l r ws (d .sound .sizes) (d .sound .records-fit) (d .sound .undamaged) p (holds .0);
-        inside = record-inside z m l r ws (d .sound .sizes) (d .sound .records-fit) (d .sound .undamaged) p (holds .0);
+        recorded = recorded z m l r ws (d .sound .sizes) (d .sound .lengths .records-fit) (d .sound .undamaged) p (holds .0);
+        named = record-named z m l r ws (d .sound .sizes) (d .sound .lengths .records-fit) (d .sound .undamaged) p (holds .0);
+        inside = record-inside z m l r ws (d .sound .sizes) (d .sound .lengths .records-fit) (d .sound .undamaged) p (holds .0);
       }
 
 -- ---- the state after worker w's column
 
-module _ (z : Sizes) (m : List Float) (l : List ℕ) (r : List (List ℕ)) (ws : List Worker) (w : ℕ) (here : w < z .workers) where
+module _ (z : Sizes) (m : List Float) (l : List ℕ) (r : List (List ℕ)) (ws : List Worker) (w : ℕ) (long : z .workers ≤ length ws) (here : w < z .workers) where
   abbrev old : Lent
   old = lent m l r ws (z .workers)
 
@@ -98,7 +97,7 @@ module _ (z : Sizes) (m : List Float) (l : List ℕ) (r : List (List ℕ)) (ws :
   moved v x = record {
     buffers = x .left;
     records = marked (v .task) (x .mark) (recordsFrom r);
-    workers = set (take (z .workers) ws) w (cond (finished (x .mark)) idle (holding (v .task) (suc (v .column))));
+    workers = set (crew ws (z .workers)) w (cond (finished (x .mark)) idle (holding (v .task) (suc (v .column))));
   }
 
   advanced-is : moved (worker old w) (columnOf (planOf z) old (worker old w .task) (worker old w .column)) ≡ advanced (planOf z) w old
@@ -114,8 +113,13 @@ module _ (z : Sizes) (m : List Float) (l : List ℕ) (r : List (List ℕ)) (ws :
       (λ x. record {
         buffers = record { matrix = m'; lists = l' };
         records = g x;
-        workers = (take-set-lt (z .workers) ws w h' here ∙ ap (λ y. set (take (z .workers) ws) w y) i) x;
+        workers = (crew-set ws (z .workers) w h' long here ∙ ap (λ y. set (crew ws (z .workers)) w y) i) x;
       })
       ∙ ap (moved h) f
       ∙ ap (λ v. moved v (columnOf (planOf z) old (v .task) (v .column))) (e ∙ sym (worker-lent m l r ws (z .workers) w here))
       ∙ advanced-is
+
+-- told by their count, where it is the one that the sizes say
+pub recounted : (z : Sizes) (w count : ℕ) (m m' : List Float) (l l' : List ℕ) (r r' : List (List ℕ)) (ws ws' : List Worker) → count ≡ z .workers
+    → lent m' l' r' ws' (z .workers) ≡ advanced (planOf z) w (lent m l r ws (z .workers)) → lent m' l' r' ws' count ≡ advanced (planOf z) w (lent m l r ws count)
+recounted z w count m m' l l' r r' ws ws' e f = subst (λ (k : ℕ). lent m' l' r' ws' k ≡ advanced (planOf z) w (lent m l r ws k)) (sym e) f

@@ -5,21 +5,21 @@ use mathlib.Core.Path.{_≡_, refl, sym, _∙_}
 use mathlib.Core.List.{List}
 use lib.Dec.{eqb}
 use lib.Ieee.{Float}
-use lib.ListN.{length, take}
+use lib.ListN.{length}
 use borrow.Author.Tests.{eqb-true, not-false}
 use Rattle.model.specs.declared.Sizes.{Sizes}
 use Rattle.worker.specs.declared.Worker.{Worker}
 use Rattle.model.specs.declared.Answer.{Answer}
 use Rattle.model.specs.declared.Answer.the-variants.{Accepted, Refused}
+use Rattle.model.specs.Lengths.{LentFits}
 use Rattle.model.specs.Task.{tasks}
 use Rattle.model.specs.Plan.{plan, planOf, order}
 use Rattle.model.specs.Calls.{Lent}
 use Rattle.model.specs.Refusal.{Reply, refuse, replied, badLengths}
 use Rattle.laws.proofs.Tests.{never, and-left, and-right}
-use Rattle.records.specs.Records.{recordsFrom, lent}
-use Rattle.records.proofs.Laws.{length-records}
+use Rattle.records.specs.Records.{recordsFrom, crew, lent}
+use Rattle.records.proofs.Laws.{length-records, length-crew}
 use Rattle.answers.specs.Answers.{accepts}
-use Rattle.checks.specs.Checks.{MatrixFits, ListsFit, RecordsFit}
 
 -- ---- one row of the table
 
@@ -47,24 +47,36 @@ not-accepted (Refused n x) b old new e q = refl
 
 -- ---- lengths
 
--- what is lent is as long as the sizes say
-pub record Fit (z : Sizes) (m : List Float) (l : List ℕ) (r : List (List ℕ)) : Type 0 where
-  pub matrix-fits : MatrixFits z m
-  pub lists-fit : ListsFit z l
-  pub records-fit : RecordsFit z r
+module _ (z : Sizes) (m : List Float) (l : List ℕ) (r : List (List ℕ)) (slots : List Worker) (c : ℕ)
+    (e : badLengths (planOf z) (z .workers) (lent m l r slots c) ≡ false) where
+  abbrev M : Bool
+  M = eqb (length m) (z .tiles * z .side * (z .tiles * z .side))
 
-pub lengths-fit : (z : Sizes) (m : List Float) (l : List ℕ) (r : List (List ℕ)) (slots : List Worker)
-    → badLengths (planOf z) (z .workers) (lent m l r slots (z .workers)) ≡ false → Fit z m l r
-unfolding badLengths lent plan order
-lengths-fit z m l r slots e =
-    let M = eqb (length m) (z .tiles * z .side * (z .tiles * z .side)) in
-    let L = eqb (length l) (z .tiles * z .tiles * z .side) in
-    let R = eqb (length (recordsFrom r)) (length (tasks (z .tiles))) in
-    let W = eqb (length (take (z .workers) slots)) (z .workers) in
-    let three = and-left (M && L && R) W (not-false (M && L && R && W) e) in
-    let two = and-left (M && L) R three in
-    record {
-      matrix-fits = eqb-true (length m) (z .tiles * z .side * (z .tiles * z .side)) (and-left M L two);
-      lists-fit = eqb-true (length l) (z .tiles * z .tiles * z .side) (and-right M L two);
-      records-fit = sym (length-records r) ∙ eqb-true (length (recordsFrom r)) (length (tasks (z .tiles))) (and-right (M && L) R three);
-    }
+  abbrev L : Bool
+  L = eqb (length l) (z .tiles * z .tiles * z .side)
+
+  abbrev R : Bool
+  R = eqb (length (recordsFrom r)) (length (tasks (z .tiles)))
+
+  abbrev W : Bool
+  W = eqb (length (crew slots c)) (z .workers)
+
+  all-fit : (M && L && R && W) ≡ true
+  unfolding badLengths lent plan order
+  all-fit = not-false (M && L && R && W) e
+
+  pub lengths-fit : LentFits z m l r
+  lengths-fit =
+      let three = and-left (M && L && R) W all-fit in
+      let two = and-left (M && L) R three in
+      record {
+        buffers = record {
+          matrix-fits = eqb-true (length m) (z .tiles * z .side * (z .tiles * z .side)) (and-left M L two);
+          lists-fit = eqb-true (length l) (z .tiles * z .tiles * z .side) (and-right M L two);
+        };
+        records-fit = sym (length-records r) ∙ eqb-true (length (recordsFrom r)) (length (tasks (z .tiles))) (and-right (M && L) R three);
+      }
+
+  -- the workers are as many as the sizes say
+  pub count-fits : c ≡ z .workers
+  count-fits = sym (length-crew slots c) ∙ eqb-true (length (crew slots c)) (z .workers) (and-right (M && L && R) W all-fit)

@@ -1,7 +1,8 @@
 -- The rows from last to first, as loops do them. Assumes nothing.
 use mathlib.Core.Path.{_≡_, refl, sym, _∙_, ap}
-use mathlib.Core.List.{List, [], _∷_, reverse, reverse-append}
-use Prim.Native.Nat.{ℕ, suc}
+use mathlib.Core.List.{List, [], _∷_, _++_, reverse, reverse-append}
+use Prim.Native.Nat.{ℕ, zero, suc, _+_, _-_, _<_, _≤_}
+use native.Mathlib.Omega.{arith}
 use lib.ListN.{set}
 use lib.Ieee.{Float}
 use Rattle.model.specs.declared.Row.{Row}
@@ -14,12 +15,24 @@ use Rattle.progress.specs.declared.Progress.{Progress}
 use Rattle.progress.specs.declared.Progress.the-variants.{Going, Stopped}
 use Rattle.progress.specs.Right.{passedOf}
 use Rattle.progress.proofs.Turns.{turns-stop}
-use Rattle.laws.proofs.Runs.{below-last}
-use Rattle.backward.specs.Rows.{backBelow}
+use Rattle.laws.proofs.Runs.{below-last, inTurn-append}
+use Rattle.backward.specs.Rows.{backBelow, backBetween}
 
 -- the last number comes first
 reverse-below : (k : ℕ) → reverse (below (suc k)) ≡ k ∷ reverse (below k)
 reverse-below k = ap reverse (below-last k) ∙ reverse-append (below k) (k ∷ [])
+
+-- two runs, one after the other
+run-append : (k a b : ℕ) → run k (a + b) ≡ run k a ++ run (k + a) b
+unfolding run
+run-append k zero b =
+    let n : zero + b ≡ b = omega arith in
+    let e : k ≡ k + zero = omega arith in
+    ap (run k) n ∙ ap (λ (x : ℕ). run x b) e
+run-append k (suc a) b =
+    let n : suc a + b ≡ suc (a + b) = omega arith in
+    let e : suc k + a ≡ k + suc a = omega arith in
+    ap (run k) n ∙ ap (λ (xs : List ℕ). k ∷ xs) (run-append (suc k) a b ∙ ap (λ (x : ℕ). run (suc k) a ++ run x b) e)
 
 module _ (z : Plan) (s : Buffers) where
   back-keeps : (x e : ℕ) → back z s x (stopped e) ≡ stopped e
@@ -57,3 +70,40 @@ module _ (z : Plan) (s : Buffers) where
     pub tile-stops : (x : ℕ) → r ≡ Stopped x → stopped x ≡ whole
     unfolding passedOf
     tile-stops x q = sym (back-stopped k x) ∙ sym (ap (λ (x : Progress). backBelow z s k (passedOf x y)) q) ∙ e
+
+  -- ---- the rows done so far
+
+  pub between-none : (n : ℕ) (p : Passed) → p ≡ backBetween z s n n p
+  unfolding backBetween run inTurn
+  between-none n p = let e : n - n ≡ 0 = omega arith in ap (λ (k : ℕ). inTurn (back z s) (reverse (run n k)) p) (sym e)
+
+  -- those from k on are those from j on, and then those from k to j - 1
+  pub between-joined : (k j n : ℕ) (p : Passed) → k ≤ j → j ≤ n → backBetween z s k j (backBetween z s j n p) ≡ backBetween z s k n p
+  unfolding backBetween
+  between-joined k j n p h g =
+      let e : n - k ≡ (j - k) + (n - j) = omega arith in
+      let f : k + (j - k) ≡ j = omega arith in
+      sym (
+      ap (λ (x : ℕ). inTurn (back z s) (reverse (run k x)) p) e
+      ∙ ap (λ (xs : List ℕ). inTurn (back z s) (reverse xs) p) (run-append k (j - k) (n - j) ∙ ap (λ (x : ℕ). run k (j - k) ++ run x (n - j)) f)
+      ∙ ap (λ (xs : List ℕ). inTurn (back z s) xs p) (reverse-append (run k (j - k)) (run j (n - j)))
+      ∙ inTurn-append (back z s) (reverse (run j (n - j))) (reverse (run k (j - k))) p)
+
+  one-row : (k : ℕ) (p : Passed) → back z s k p ≡ backBetween z s k (suc k) p
+  unfolding backBetween run inTurn
+  one-row k p = let e : suc k - k ≡ 1 = omega arith in ap (λ (n : ℕ). inTurn (back z s) (reverse (run k n)) p) (sym e)
+
+  -- row k yields the number v
+  pub between-row : (k n : ℕ) (y : List Float) (p : Passed) (r : Row) → r ≡ row z s k y → (v : Float) → r ≡ Number v → k < n
+      → going y ≡ backBetween z s (suc k) n p → going (set y k v) ≡ backBetween z s k n p
+  unfolding back put
+  between-row k n y p r e v q h g =
+      ap (put z s k y) (sym q ∙ e)
+      ∙ one-row k (going y)
+      ∙ ap (backBetween z s k (suc k)) g
+      ∙ between-joined k (suc k) n p (omega arith) (omega arith)
+
+  -- the rows of a tile, those below j, after those from j on
+  pub tile-between : (k j n : ℕ) (y after : List Float) (p : Passed) → k ≤ j → j ≤ n → going y ≡ backBetween z s j n p
+      → going after ≡ backBetween z s k j (going y) → going after ≡ backBetween z s k n p
+  tile-between k j n y after p h g e f = f ∙ ap (backBetween z s k j) e ∙ between-joined k j n p h g

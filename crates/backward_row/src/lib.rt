@@ -1,4 +1,4 @@
-// One backward row of a solve: it yields its number, or the fact that it left the finite range.
+// One backward row of a solve: the number that it computes, or that some number on the way is not finite.
 ghost use mathlib.Core.Path.{_≡_};
 ghost use mathlib.Core.List.{List};
 ghost use Prim.Native.Nat.{ℕ, _+_, _*_, _<_};

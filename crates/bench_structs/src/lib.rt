@@ -1,17 +1,21 @@
-// What bench/ calls from Rust over task records that are structs: an opening, a take, a column, a run and a solve. Workers are made here: all
-// idle, or one that holds a task.
+// What bench/ and a test of hosts/ call from Rust over task records that are structs: an opening, a take, a column, a run, the outcome and a solve.
+// Workers are made here: all idle, or one that holds a task.
 ghost use mathlib.Core.Path.{_≡_};
-ghost use Rattle.model.specs.Refusal.{answerNumber, openCall, takeCall, columnCall, runCall};
+ghost use Rattle.model.specs.Refusal.{answerNumber, openCall, takeCall, columnCall, runCall, outcomeCall};
 ghost use Rattle.model.specs.Solve.{solveCall};
 ghost use Rattle.copies.specs.Whole.{whole};
-ghost use Rattle.bench_structs.specs.Bench.{idles, oneHolding, callsOf};
+ghost use Rattle.bench_structs.specs.Bench.{idles, oneHolding, callsOf, knownTells, outcomeTells};
 use model::Answer;
 use model::CallReply;
+use model::Outcome;
+use model::OutcomeAnswer;
 use model::RunAnswer;
 use model::RunReply;
 use model::Sizes;
 use model::TaskRecord;
+use worker::SLOTS;
 use worker::Worker;
+use worker::Workers;
 
 // The refusal's number: 0 where the call is accepted.
 fn number_of(answer: Answer) -> u8
@@ -48,25 +52,54 @@ fn calls_in(reply: RunReply) -> u64
     calls_of(answer)
 }
 
+fn known_number(outcome: Outcome) -> u8
+    ensures { λ r. ⌜ r ≡ knownTells outcome ⌝ }
+{
+    match outcome {
+        Outcome::Good => 128,
+        Outcome::Overflow(_) => 129,
+        Outcome::Singular(_) => 130,
+    }
+}
+
+// What an outcome call answers: 128 good, 129 overflow, 130 singular, 131 unfinished, or the refusal's number.
+fn outcome_number(answer: OutcomeAnswer) -> u8
+    ensures { λ r. ⌜ r ≡ outcomeTells answer ⌝ }
+{
+    match answer {
+        OutcomeAnswer::Known(o) => known_number(o),
+        OutcomeAnswer::Unfinished(_) => 131,
+        OutcomeAnswer::OutcomeRefused(number, _) => number,
+    }
+}
+
 // All workers idle.
-fn idle_workers() -> [Worker; 32]
-    ensures { λ r. ⌜ r ≡ idles ⌝ }
+fn idle_workers(z: Sizes) -> Workers
+    ensures { λ r. ⌜ r ≡ idles (z .workers) ⌝ }
 {
     let h = Worker::idle();
-    [h; 32]
+    let slots = [h; SLOTS];
+    Workers {
+        slots,
+        count: z.workers,
+    }
 }
 
 // Worker 0 holds task p with column c the next, and all others are idle.
-fn one_holding(p: u16, c: u8) -> [Worker; 32]
-    ensures { λ r. ⌜ r ≡ oneHolding p c ⌝ }
+fn one_holding(z: Sizes, p: u16, c: u8) -> Workers
+    ensures { λ r. ⌜ r ≡ oneHolding (z .workers) p c ⌝ }
 {
-    let mut slots = idle_workers();
+    let h = Worker::idle();
+    let mut slots = [h; SLOTS];
     slots[0] = Worker {
         busy: true,
         task: p,
         column: c,
     };
-    slots
+    Workers {
+        slots,
+        count: z.workers,
+    }
 }
 
 // An opening with idle workers: 0, or the refusal's number.
@@ -77,11 +110,11 @@ pub extern "C" fn bench_open(
     lists: &mut [u8],
     records: &mut [TaskRecord],
 ) -> u8
-    ensures { λ r. ⌜ (r ≡ answerNumber (openCall z (whole (now (matrix .entry)) (now (lists .entry)) (now (records .entry)) idles (z .workers)) .answer))
-        × (record { matrix = now (matrix .entry); lists = now (lists .exit) } ≡ openCall z (whole (now (matrix .entry)) (now (lists .entry)) (now (records .entry)) idles (z .workers)) .left .buffers)
-        × (now (records .exit) ≡ openCall z (whole (now (matrix .entry)) (now (lists .entry)) (now (records .entry)) idles (z .workers)) .left .records) ⌝ }
+    ensures { λ r. ⌜ (r ≡ answerNumber (openCall z (whole (now (matrix .entry)) (now (lists .entry)) (now (records .entry)) (idles (z .workers))) .answer))
+        × (record { matrix = now (matrix .entry); lists = now (lists .exit) } ≡ openCall z (whole (now (matrix .entry)) (now (lists .entry)) (now (records .entry)) (idles (z .workers))) .left .buffers)
+        × (now (records .exit) ≡ openCall z (whole (now (matrix .entry)) (now (lists .entry)) (now (records .entry)) (idles (z .workers))) .left .records) ⌝ }
 {
-    let reply = open_call::open(z, matrix, lists, records, idle_workers());
+    let reply = open_call::open(z, matrix, lists, records, idle_workers(z));
     number_in(reply)
 }
 
@@ -95,10 +128,10 @@ pub extern "C" fn bench_take(
     w: usize,
     p: usize,
 ) -> u8
-    ensures { λ r. ⌜ (r ≡ answerNumber (takeCall z w p (whole (now (matrix .entry)) (now (lists .entry)) (now (records .entry)) idles (z .workers)) .answer))
-        × (now (records .exit) ≡ takeCall z w p (whole (now (matrix .entry)) (now (lists .entry)) (now (records .entry)) idles (z .workers)) .left .records) ⌝ }
+    ensures { λ r. ⌜ (r ≡ answerNumber (takeCall z w p (whole (now (matrix .entry)) (now (lists .entry)) (now (records .entry)) (idles (z .workers))) .answer))
+        × (now (records .exit) ≡ takeCall z w p (whole (now (matrix .entry)) (now (lists .entry)) (now (records .entry)) (idles (z .workers))) .left .records) ⌝ }
 {
-    let reply = take_call::take(z, matrix, lists, records, idle_workers(), w, p);
+    let reply = take_call::take(z, matrix, lists, records, idle_workers(z), w, p);
     number_in(reply)
 }
 
@@ -113,11 +146,11 @@ pub extern "C" fn bench_column(
     p: u16,
     c: u8,
 ) -> u8
-    ensures { λ r. ⌜ (r ≡ answerNumber (columnCall z w (whole (now (matrix .entry)) (now (lists .entry)) (now (records .entry)) (oneHolding p c) (z .workers)) .answer))
-        × (record { matrix = now (matrix .exit); lists = now (lists .exit) } ≡ columnCall z w (whole (now (matrix .entry)) (now (lists .entry)) (now (records .entry)) (oneHolding p c) (z .workers)) .left .buffers)
-        × (now (records .exit) ≡ columnCall z w (whole (now (matrix .entry)) (now (lists .entry)) (now (records .entry)) (oneHolding p c) (z .workers)) .left .records) ⌝ }
+    ensures { λ r. ⌜ (r ≡ answerNumber (columnCall z w (whole (now (matrix .entry)) (now (lists .entry)) (now (records .entry)) (oneHolding (z .workers) p c)) .answer))
+        × (record { matrix = now (matrix .exit); lists = now (lists .exit) } ≡ columnCall z w (whole (now (matrix .entry)) (now (lists .entry)) (now (records .entry)) (oneHolding (z .workers) p c)) .left .buffers)
+        × (now (records .exit) ≡ columnCall z w (whole (now (matrix .entry)) (now (lists .entry)) (now (records .entry)) (oneHolding (z .workers) p c)) .left .records) ⌝ }
 {
-    let reply = column_call::column(z, matrix, lists, records, one_holding(p, c), w);
+    let reply = column_call::column(z, matrix, lists, records, one_holding(z, p, c), w);
     number_in(reply)
 }
 
@@ -130,12 +163,26 @@ pub extern "C" fn bench_run(
     records: &mut [TaskRecord],
     budget: u64,
 ) -> u64
-    ensures { λ r. ⌜ (r ≡ callsOf (runCall z budget (whole (now (matrix .entry)) (now (lists .entry)) (now (records .entry)) idles (z .workers)) .answer))
-        × (record { matrix = now (matrix .exit); lists = now (lists .exit) } ≡ runCall z budget (whole (now (matrix .entry)) (now (lists .entry)) (now (records .entry)) idles (z .workers)) .left .buffers)
-        × (now (records .exit) ≡ runCall z budget (whole (now (matrix .entry)) (now (lists .entry)) (now (records .entry)) idles (z .workers)) .left .records) ⌝ }
+    ensures { λ r. ⌜ (r ≡ callsOf (runCall z budget (whole (now (matrix .entry)) (now (lists .entry)) (now (records .entry)) (idles (z .workers))) .answer))
+        × (record { matrix = now (matrix .exit); lists = now (lists .exit) } ≡ runCall z budget (whole (now (matrix .entry)) (now (lists .entry)) (now (records .entry)) (idles (z .workers))) .left .buffers)
+        × (now (records .exit) ≡ runCall z budget (whole (now (matrix .entry)) (now (lists .entry)) (now (records .entry)) (idles (z .workers))) .left .records) ⌝ }
 {
-    let reply = run_call::run(z, matrix, lists, records, idle_workers(), budget);
+    let reply = run_call::run(z, matrix, lists, records, idle_workers(z), budget);
     calls_in(reply)
+}
+
+// The outcome with idle workers, as a number.
+#[no_mangle]
+pub extern "C" fn bench_outcome(
+    z: Sizes,
+    matrix: &[f64],
+    lists: &[u8],
+    records: &[TaskRecord],
+) -> u8
+    ensures { λ r. ⌜ r ≡ outcomeTells (outcomeCall z (whole (now (matrix .entry)) (now (lists .entry)) (now (records .entry)) (idles (z .workers)))) ⌝ }
+{
+    let answer = outcome_call::outcome(z, matrix, lists, records, idle_workers(z));
+    outcome_number(answer)
 }
 
 // A solve with idle workers: 0, or the refusal's number.
@@ -148,9 +195,9 @@ pub extern "C" fn bench_solve(
     right: &[f64],
     answers: &mut [f64],
 ) -> u8
-    ensures { λ r. ⌜ (r ≡ answerNumber (solveCall z (whole (now (matrix .entry)) (now (lists .entry)) (now (records .entry)) idles (z .workers)) (now (right .entry)) (now (answers .entry)) .answer))
-        × (now (answers .exit) ≡ solveCall z (whole (now (matrix .entry)) (now (lists .entry)) (now (records .entry)) idles (z .workers)) (now (right .entry)) (now (answers .entry)) .left) ⌝ }
+    ensures { λ r. ⌜ (r ≡ answerNumber (solveCall z (whole (now (matrix .entry)) (now (lists .entry)) (now (records .entry)) (idles (z .workers))) (now (right .entry)) (now (answers .entry)) .answer))
+        × (now (answers .exit) ≡ solveCall z (whole (now (matrix .entry)) (now (lists .entry)) (now (records .entry)) (idles (z .workers))) (now (right .entry)) (now (answers .entry)) .left) ⌝ }
 {
-    let answer = solve_call::solve(z, matrix, lists, records, idle_workers(), right, answers);
+    let answer = solve_call::solve(z, matrix, lists, records, idle_workers(z), right, answers);
     number_of(answer)
 }

@@ -5,10 +5,10 @@ use mathlib.Core.Path.{_≡_, _∙_}
 use mathlib.Core.List.{List}
 use native.Mathlib.Omega.{arith}
 use lib.Ieee.{Float}
-use lib.ListN.{length, getD, take, length-take, List·getD-eq-default}
-use lib.Seq.{getD-take, length-take-le}
+use lib.ListN.{length, getD}
 use Rattle.model.specs.declared.Sizes.{Sizes}
 use Rattle.worker.specs.declared.Worker.{Worker}
+use Rattle.model.specs.Lengths.{RecordsFit}
 use Rattle.model.specs.Task.{tasks}
 use Rattle.model.specs.Plan.{plan, planOf}
 use Rattle.model.specs.Links.{task, mark, taken}
@@ -16,10 +16,10 @@ use Rattle.model.specs.Calls.{marksOf, worker}
 use Rattle.worker.specs.Holding.{idle}
 use Rattle.model.specs.Refusal.{damaged}
 use Rattle.records.specs.Records.{recordsFrom, marksFrom, blank, lent}
-use Rattle.records.proofs.Laws.{length-records}
+use Rattle.records.proofs.Laws.{length-records, length-crew, worker-at, no-worker}
 use Rattle.links.proofs.Order.{Within, length-tasks, task-within}
 use Rattle.marks.specs.Marks.{Recorded}
-use Rattle.checks.specs.Checks.{Sized, RecordsFit, Inside, taskFrom}
+use Rattle.checks.specs.Checks.{Sized, Inside, taskFrom}
 use Rattle.run_laws.proofs.Undamaged.{Due, Held, due-any, held}
 use Rattle.call_laws.proofs.Named.{named, inside}
 
@@ -28,16 +28,16 @@ use Rattle.call_laws.proofs.Named.{named, inside}
 module _ (m : List Float) (l : List ℕ) (r : List (List ℕ)) (ws : List Worker) (W w : ℕ) where
   pub worker-lent : w < W → worker (lent m l r ws W) w ≡ getD ws w idle
   unfolding worker lent
-  worker-lent h = getD-take W ws w idle h
+  worker-lent h = worker-at ws W w h
 
   -- beyond the workers lent there is none, and it reads as idle
   pub worker-beyond : W ≤ w → worker (lent m l r ws W) w ≡ idle
   unfolding worker lent
-  worker-beyond h = List·getD-eq-default (take W ws) idle (rw (length-take W ws) (omega arith))
+  worker-beyond h = no-worker ws W w h
 
-  pub workers-long : W ≤ length ws → length (lent m l r ws W .workers) ≡ W
+  pub workers-long : length (lent m l r ws W .workers) ≡ W
   unfolding lent
-  workers-long h = length-take-le W ws h
+  workers-long = length-crew ws W
 
 -- ---- records
 
@@ -72,12 +72,12 @@ module _ (z : Sizes) (m : List Float) (l : List ℕ) (r : List (List ℕ)) (ws :
 -- ---- a busy worker
 
 module _ (z : Sizes) (m : List Float) (l : List ℕ) (r : List (List ℕ)) (ws : List Worker) (w : ℕ)
-    (few : z .workers ≤ length ws) (fine : damaged (planOf z) (lent m l r ws (z .workers)) ≡ false) (here : w < z .workers) (busy : getD ws w idle .busy ≡ true) where
+    (fine : damaged (planOf z) (lent m l r ws (z .workers)) ≡ false) (here : w < z .workers) (busy : getD ws w idle .busy ≡ true) where
   -- its task exists and is marked taken, and its column is below t
   pub worker-holds : (getD ws w idle .task < length (tasks (z .tiles))) × (mark (marksFrom r) (getD ws w idle .task) ≡ taken) × (getD ws w idle .column < z .side)
   unfolding plan marksOf lent marksFrom
   worker-holds =
       let e = worker-lent m l r ws (z .workers) w here in
-      let h = held (planOf z) (lent m l r ws (z .workers)) fine w (rw (workers-long m l r ws (z .workers) w few) here) (rw e busy) in
+      let h = held (planOf z) (lent m l r ws (z .workers)) fine w (rw (workers-long m l r ws (z .workers) w) here) (rw e busy) in
       let k : Held (planOf z) (lent m l r ws (z .workers)) (getD ws w idle) = rw e at h in
       (k .exists, k .is-taken, k .column-fits)

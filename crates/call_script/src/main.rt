@@ -2,6 +2,8 @@
 // reference program. Right side and answers of a solve have at most 300 numbers.
 ghost use mathlib.Core.Path.{_≡_};
 ghost use lib.ListN.{length};
+use records::RECORD;
+use records::Record;
 
 // ---- room for the script, and for what its lines lend
 
@@ -17,10 +19,10 @@ fn list_room() -> [u8; 4200]
     [0; 4200]
 }
 
-fn record_room() -> [[u8; 5]; 1500]
+fn record_room() -> [Record; 1500]
     ensures { λ r. ⌜ 1500 ≡ length r ⌝ }
 {
-    [[0; 5]; 1500]
+    [[0; RECORD]; 1500]
 }
 
 fn side_room() -> [f64; 300]
@@ -56,11 +58,11 @@ fn play_script(text: &mut [u8]) {
 }
 
 // The same with a room of fixed length.
-fn play_in(text: &mut [u8; 2400000]) {
+fn play_in(text: &mut [u8; 2500000]) {
     play_script(text);
 }
 
 fn main() {
-    let mut text = [0u8; 2400000];
+    let mut text = [0u8; 2500000];
     play_in(&mut text);
 }

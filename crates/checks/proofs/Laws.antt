@@ -1,15 +1,14 @@
 -- What the sizes and the lengths say, in the form that the code tests them, and where a tile ends. Assumes nothing.
 use Prim.Native.Nat.{ℕ, _+_, _*_, _≤_, _<_}
-use mathlib.Core.Path.{_≡_, refl}
-use mathlib.Core.Bool.{Bool, true, false, not, _&&_}
+use mathlib.Core.Path.{_≡_}
+use mathlib.Core.Bool.{true, false, not, _&&_}
 use mathlib.Core.List.{List}
 use native.Mathlib.Nat.{mul-le-mul, mul-le-mul-right}
 use native.Mathlib.Omega.{arith}
 use lib.Dec.{eqb, leb}
 use lib.Ieee.{Float}
-use lib.ListN.{length, take}
-use lib.Seq.{length-take-le}
-use borrow.Author.Tests.{eqb-true, leb-true, eq-eqb, not-false}
+use lib.ListN.{length}
+use borrow.Author.Tests.{leb-true, not-false}
 use Rattle.model.specs.declared.Sizes.{Sizes}
 use Rattle.worker.specs.declared.Worker.{Worker}
 use Rattle.model.specs.Task.{tasks}
@@ -18,8 +17,8 @@ use Rattle.model.specs.Refusal.{inside, badSizes, badLengths}
 use Rattle.laws.proofs.Tests.{and-left, and-right}
 use Rattle.laws.proofs.Blocks.{in-block}
 use Rattle.records.specs.Records.{lent}
-use Rattle.records.proofs.Laws.{length-records}
-use Rattle.checks.specs.Checks.{Sized, MatrixFits, ListsFit, RecordsFit}
+use Rattle.records.proofs.Laws.{length-records, length-crew}
+use Rattle.checks.specs.Checks.{Sized}
 
 -- ---- sizes
 
@@ -47,40 +46,19 @@ small n t h g =
     let b : n * n ≤ 256 = mul-le-mul h h in
     (a, mul-le-mul a a, b, mul-le-mul b g, mul-le-mul g g)
 
-module _ (z : Sizes) (m : List Float) (l : List ℕ) (r : List (List ℕ)) (s : Sized z) (slots : List Worker) (e : length slots ≡ 32) where
+module _ (z : Sizes) (m : List Float) (l : List ℕ) (r : List (List ℕ)) (slots : List Worker) (c : ℕ) where
   abbrev N : ℕ
   N = z .tiles
 
   abbrev t : ℕ
   t = z .side
 
-  -- of 32 slots as many are lent as the sizes say
-  pub lengths-are : {k : ℕ} → k ≡ length (tasks N) → not (eqb (length m) (N * t * (N * t)) && eqb (length l) (N * (N * t)) && eqb (length r) k)
-      ≡ badLengths (planOf z) (z .workers) (lent m l r slots (z .workers))
+  pub lengths-are : {k : ℕ} → k ≡ length (tasks N) → not (eqb (length m) (N * t * (N * t)) && eqb (length l) (N * (N * t)) && eqb (length r) k && eqb c (z .workers))
+      ≡ badLengths (planOf z) (z .workers) (lent m l r slots c)
   unfolding badLengths lent plan order
   lengths-are f =
-      let w : length (take (z .workers) slots) ≡ z .workers = length-take-le (z .workers) slots (omega (arith, s)) in
       let v : N * (N * t) ≡ N * N * t = omega arith in
-      rw (f, v, length-records r, eq-eqb (length (take (z .workers) slots)) (z .workers) w)
-      (last (eqb (length m) (N * t * (N * t)) && eqb (length l) (N * N * t) && eqb (length r) (length (tasks N))))
-    where
-      last : (b : Bool) → not b ≡ not (b && true)
-      last true = refl
-      last false = refl
-
--- slices that refusal 2 lets pass have the lengths stated
-module _ (z : Sizes) (m : List Float) (l : List ℕ) (r : List (List ℕ)) (slots : List Worker) where
-  pub fits : badLengths (planOf z) (z .workers) (lent m l r slots (z .workers)) ≡ false → MatrixFits z m × ListsFit z l × RecordsFit z r
-  unfolding badLengths lent plan order
-  fits e =
-      let a = eqb (length m) (z .tiles * z .side * (z .tiles * z .side)) in
-      let b = eqb (length l) (z .tiles * z .tiles * z .side) in
-      let c = eqb (length r) (length (tasks (z .tiles))) in
-      let d = eqb (length (take (z .workers) slots)) (z .workers) in
-      let all : (a && b && c && d) ≡ true = not-false (a && b && c && d) (rw (length-records r) at e) in
-      let abc = and-left (a && b && c) d all in
-      let ab = and-left (a && b) c abc in
-      (eqb-true _ _ (and-left a b ab), eqb-true _ _ (and-right a b ab), eqb-true _ _ (and-right (a && b) c abc))
+      rw (f, v, length-records r, length-crew slots c)
 
 -- ---- tiles
 

@@ -28,9 +28,9 @@ use Rattle.states.specs.States.{stateAnswer, Undamaged}
 use Rattle.states.proofs.Laws.{sound, goes-on, stops}
 use Rattle.call_laws.proofs.Undamaged.{worker-lent, worker-beyond, workers-long, worker-holds, record-named, record-inside}
 
-module _ (z : Sizes) (m : List Float) (l : List ℕ) (r : List (List ℕ)) (ws : List Worker) (w : ℕ) where
+module _ (z : Sizes) (m : List Float) (l : List ℕ) (r : List (List ℕ)) (ws : List Worker) (count w : ℕ) where
   abbrev old : Lent
-  old = lent m l r ws (z .workers)
+  old = lent m l r ws count
 
   abbrev buffers : Buffers
   buffers = record { matrix = m; lists = l }
@@ -55,17 +55,17 @@ module _ (z : Sizes) (m : List Float) (l : List ℕ) (r : List (List ℕ)) (ws :
     unfolding columnAnswer
     state-stops q = e ∙ stops z old bad (badTiles (planOf z) w old) damaged-is-bad else-tiles from-5 (ap accepts (sym e) ∙ sym f ∙ q)
 
-    module _ (q : b ≡ true) (long : length ws ≡ 32) where
+    module _ (q : b ≡ true) where
+      counted : count ≡ z .workers
+      counted = sound z m l r ws count (sym e ∙ is-accepted a b f q) .0
+
       pub is-sound : Undamaged z m l r ws
-      is-sound = sound z m l r ws (sym e ∙ is-accepted a b f q)
+      is-sound = sound z m l r ws count (sym e ∙ is-accepted a b f q) .1
 
       -- refusal 4 is left for the tiles
       after-2 : refuse 4 0 (badTiles (planOf z) w old) from-5 ≡ columnAnswer z w old
       unfolding columnAnswer
       after-2 = goes-on z old bad (badTiles (planOf z) w old) damaged-is-bad else-tiles from-5 (sym e ∙ is-accepted a b f q)
-
-      counted : length (old .workers) ≡ z .workers
-      counted = workers-long m l r ws (z .workers) w (omega (arith, is-sound .sizes .few-workers))
 
       -- a worker without a task has no tiles
       idle-passes : worker old w .busy ≡ false → badTiles (planOf z) w old ≡ false
@@ -78,12 +78,15 @@ module _ (z : Sizes) (m : List Float) (l : List ℕ) (r : List (List ℕ)) (ws :
       pub no-worker : z .workers ≤ w → Refused 5 w ≡ columnAnswer z w old
       unfolding noWorker
       no-worker x =
-          refused-5 (ap (λ (v : Worker). v .busy) (worker-beyond m l r ws (z .workers) w x))
-          (or-left (noWorker w old) (not (worker old w .busy)) (le-leb (length (old .workers)) w (omega (arith, counted))))
+          refused-5 (ap (λ (v : Worker). v .busy) (worker-beyond m l r ws count w (omega (arith, counted))))
+          (or-left (noWorker w old) (not (worker old w .busy)) (le-leb (length (old .workers)) w (omega (arith, workers-long m l r ws count w, counted))))
 
       module _ (x : w < z .workers) where
+        its-slot : worker old w ≡ getD ws w idle
+        its-slot = worker-lent m l r ws count w (omega (arith, counted))
+
         busy-is : worker old w .busy ≡ getD ws w idle .busy
-        busy-is = ap (λ (v : Worker). v .busy) (worker-lent m l r ws (z .workers) w x)
+        busy-is = ap (λ (v : Worker). v .busy) its-slot
 
         pub idle-worker : getD ws w idle .busy ≡ false → Refused 5 w ≡ columnAnswer z w old
         idle-worker y = refused-5 (busy-is ∙ y) (or-right (noWorker w old) (not (worker old w .busy)) (ap not (busy-is ∙ y)))
@@ -93,17 +96,17 @@ module _ (z : Sizes) (m : List Float) (l : List ℕ) (r : List (List ℕ)) (ws :
           p = getD ws w idle .task
 
           pub task-exists : p < length (tasks (z .tiles))
-          task-exists = worker-holds z m l r ws w (omega (arith, is-sound .sizes .few-workers)) (is-sound .undamaged) x y .0
+          task-exists = worker-holds z m l r ws w (is-sound .undamaged) x y .0
 
           pub tiles-there : Inside (z .tiles) (getD (recordsFrom r) p blank)
-          tiles-there = record-inside z m l r ws (is-sound .sizes) (is-sound .records-fit) (is-sound .undamaged) p task-exists
+          tiles-there = record-inside z m l r ws (is-sound .sizes) (is-sound .lengths .records-fit) (is-sound .undamaged) p task-exists
 
           module _ (t : Bool) (u : t ≡ not (finiteTiles (planOf z) (taskFrom (getD (recordsFrom r) p blank)) buffers)) where
             tiles-are : t ≡ badTiles (planOf z) w old
             unfolding badTiles lent plan
             tiles-are =
-                rw (worker-lent m l r ws (z .workers) w x, y)
-                (u ∙ ap (λ k. not (finiteTiles (planOf z) k buffers)) (record-named z m l r ws (is-sound .sizes) (is-sound .records-fit) (is-sound .undamaged) p task-exists))
+                rw (its-slot, y)
+                (u ∙ ap (λ k. not (finiteTiles (planOf z) k buffers)) (record-named z m l r ws (is-sound .sizes) (is-sound .lengths .records-fit) (is-sound .undamaged) p task-exists))
 
             pub tiles-bad : t ≡ true → Refused 4 0 ≡ columnAnswer z w old
             tiles-bad v = sym (refuses 4 0 (badTiles (planOf z) w old) from-5 (sym tiles-are ∙ v)) ∙ after-2
@@ -112,7 +115,7 @@ module _ (z : Sizes) (m : List Float) (l : List ℕ) (r : List (List ℕ)) (ws :
             unfolding noWorker
             tiles-good v =
                 sym (passes 4 0 (badTiles (planOf z) w old) from-5 (sym tiles-are ∙ v)
-                ∙ passes 5 w bad-worker Accepted (rw (lt-leb (length (old .workers)) w (omega (arith, counted)), busy-is ∙ y))) ∙ after-2
+                ∙ passes 5 w bad-worker Accepted (rw (lt-leb (length (old .workers)) w (omega (arith, workers-long m l r ws count w, counted)), busy-is ∙ y))) ∙ after-2
 
   -- ---- an accepted column
 
@@ -122,19 +125,19 @@ module _ (z : Sizes) (m : List Float) (l : List ℕ) (r : List (List ℕ)) (ws :
   finite-then o t = subst (λ (v : Worker). finiteTiles (planOf z) (task (tasks (z .tiles)) (v .task)) buffers ≡ true) o t
 
   -- the state is sound, and worker w exists, is busy and has finite tiles
-  pub accepted-then : length ws ≡ 32 → columnAnswer z w old ≡ Accepted
-      → Undamaged z m l r ws × (w < z .workers) × (getD ws w idle .busy ≡ true) × (finiteTiles (planOf z) (task (tasks (z .tiles)) (getD ws w idle .task)) buffers ≡ true)
+  pub accepted-then : columnAnswer z w old ≡ Accepted
+      → (count ≡ z .workers) × Undamaged z m l r ws × (w < z .workers) × (getD ws w idle .busy ≡ true) × (finiteTiles (planOf z) (task (tasks (z .tiles)) (getD ws w idle .task)) buffers ≡ true)
   unfolding columnAnswer stateAnswer noWorker badTiles
-  accepted-then long e =
+  accepted-then e =
       let a = passed 1 0 (badSizes z) _ e in
       let b = passed 2 0 (badLengths (planOf z) (z .workers) old) (refuse 4 0 bad from-5) (a .1) in
       let c = passed 4 0 bad from-5 (b .1) in
       let d = passed 5 w bad-worker Accepted (c .1) in
       let u = or-false-left (damaged (planOf z) old) (badTiles (planOf z) w old) (c .0) in
-      let s = sound z m l r ws (passes 1 0 (badSizes z) _ (a .0) ∙ passes 2 0 (badLengths (planOf z) (z .workers) old) _ (b .0) ∙ passes 4 0 (damaged (planOf z) old) Accepted u) in
-      let g = workers-long m l r ws (z .workers) w (omega (arith, s .sizes .few-workers)) in
-      let x : w < z .workers = omega (arith, g, leb-false (length (old .workers)) w (or-false-left (noWorker w old) (not (worker old w .busy)) (d .0))) in
-      let o = worker-lent m l r ws (z .workers) w x in
+      let (n, s) = sound z m l r ws count (passes 1 0 (badSizes z) _ (a .0) ∙ passes 2 0 (badLengths (planOf z) (z .workers) old) _ (b .0) ∙ passes 4 0 (damaged (planOf z) old) Accepted u) in
+      let g = workers-long m l r ws count w in
+      let x : w < z .workers = omega (arith, g, n, leb-false (length (old .workers)) w (or-false-left (noWorker w old) (not (worker old w .busy)) (d .0))) in
+      let o = worker-lent m l r ws count w (omega (arith, n)) in
       let y = not-false (worker old w .busy) (or-false-right (noWorker w old) (not (worker old w .busy)) (d .0)) in
       let t = and-true-not (worker old w .busy) _ y (or-false-right (damaged (planOf z) old) (badTiles (planOf z) w old) (c .0)) in
-      (s, x, ap (λ (v : Worker). v .busy) (sym o) ∙ y, finite-then o t)
+      (n, s, x, ap (λ (v : Worker). v .busy) (sym o) ∙ y, finite-then o t)

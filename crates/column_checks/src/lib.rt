@@ -1,14 +1,15 @@
 // The refusals of a column call.
 ghost use mathlib.Core.Path.{_≡_};
 ghost use Rattle.model.specs.Refusal.{columnAnswer};
-ghost use Rattle.records.specs.Records.{lent};
+ghost use Rattle.records.specs.Records.{allLent};
 use answers::accepted;
 use model::Answer;
 use model::Sizes;
+use records::Record;
 use records::record_at;
 use states::state_answer;
 use task_tiles::bad_tiles;
-use worker::Worker;
+use worker::Workers;
 
 // What a column call of worker w answers. 5 is tested before 4's tiles: a worker that is idle or doesn't exist has no tiles to test, and a busy one
 // is never refused with 5.
@@ -16,11 +17,11 @@ pub fn column_answer(
     z: Sizes,
     matrix: &[f64],
     lists: &[u8],
-    records: &[[u8; 5]],
-    workers: [Worker; 32],
+    records: &[Record],
+    workers: Workers,
     w: usize,
 ) -> Answer
-    ensures { λ r. ⌜ r ≡ columnAnswer z w (lent (now (matrix .entry)) (now (lists .entry)) (now (records .entry)) workers (z .workers)) ⌝ }
+    ensures { λ r. ⌜ r ≡ columnAnswer z w (allLent (now (matrix .entry)) (now (lists .entry)) (now (records .entry)) workers) ⌝ }
 {
     let state = state_answer(z, matrix, lists, records, workers);
     if !accepted(state) {
@@ -29,7 +30,8 @@ pub fn column_answer(
     if z.workers <= w {
         return Answer::Refused(5, w);
     }
-    let h = workers[w];
+    let slots = workers.slots;
+    let h = slots[w];
     if !h.busy {
         return Answer::Refused(5, w);
     }

@@ -16,16 +16,16 @@ use Rattle.column_laws.specs.Workable.{Workable}
 
 module _ {z : Sizes} {a : Task} {c : ℕ} {m : List Float} {l : List ℕ} (w : Workable z a c m l) where
   numbers-few : length m ≤ 65536
-  numbers-few = omega (arith, w .matrix-long, matrix-most (z .tiles) (z .side) (w .tiles-most) (w .side-most))
+  numbers-few = omega (arith, w .lengths .matrix-fits, matrix-most (z .tiles) (z .side) (w .tiles-most) (w .side-most))
 
   lists-few : length l ≤ 4096
-  lists-few = omega (arith, w .lists-long, lists-most (z .tiles) (z .side) (w .tiles-most) (w .side-most))
+  lists-few = omega (arith, w .lengths .lists-fit, lists-most (z .tiles) (z .side) (w .tiles-most) (w .side-most))
 
   tile-room : (i j : ℕ) → i < z .tiles → j < z .tiles → tileStart (z .tiles) (z .side) i j + z .side * z .side ≤ length m
-  tile-room i j hi hj = omega (arith, w .matrix-long, place-room (z .tiles) (z .side * z .side) i j hi hj)
+  tile-room i j hi hj = omega (arith, w .lengths .matrix-fits, place-room (z .tiles) (z .side * z .side) i j hi hj)
 
   list-room : (i j : ℕ) → i < z .tiles → j < z .tiles → listStart (z .tiles) (z .side) i j + z .side ≤ length l
-  list-room i j hi hj = omega (arith, w .lists-long, place-room (z .tiles) (z .side) i j hi hj)
+  list-room i j hi hj = omega (arith, w .lengths .lists-fit, place-room (z .tiles) (z .side) i j hi hj)
 
 -- ---- T-1
 

@@ -4,19 +4,20 @@ use mathlib.Core.List.{List}
 use mathlib.Core.Logic.{_⊎_}
 use lib.ListN.{length}
 use lib.Ieee.{Float}
+use Rattle.model.specs.Limits.{mostSide}
 use Rattle.laws.specs.Apart.{Apart}
 
 -- t rows of width w from a on
 pub record Block (t w a : ℕ) (m : List Float) : Type 0 where
-  pub rows-most : t ≤ 16
-  pub width-most : w ≤ 16
+  pub rows-most : t ≤ mostSide
+  pub width-most : w ≤ mostSide
   pub few : length m ≤ 65536
   pub room : a + t * w ≤ length m
 
 -- two such blocks that share no number
 pub record TwoBlocks (t w u d : ℕ) (m : List Float) : Type 0 where
-  pub rows-most : t ≤ 16
-  pub width-most : w ≤ 16
+  pub rows-most : t ≤ mostSide
+  pub width-most : w ≤ mostSide
   pub few : length m ≤ 65536
   pub upper-room : u + t * w ≤ length m
   pub lower-room : d + t * w ≤ length m
@@ -24,8 +25,8 @@ pub record TwoBlocks (t w u d : ℕ) (m : List Float) : Type 0 where
 
 -- rows of width t from `start` on, and the row at `top`, which is none of them
 pub record Rows (rows t c start top : ℕ) (m : List Float) : Type 0 where
-  pub rows-most : rows ≤ 16
-  pub width-most : t ≤ 16
+  pub rows-most : rows ≤ mostSide
+  pub width-most : t ≤ mostSide
   pub column : c < t
   pub few : length m ≤ 65536
   pub room : start + rows * t ≤ length m

@@ -12,11 +12,12 @@ ghost use Rattle.records.specs.Records.{marksFrom};
 use marks::is_finished;
 use model::ColumnEnd;
 use model::Sizes;
+use records::Record;
 use spoiling::is_spoiled;
 use worker::Worker;
 
 // Whether task p, called for at column c, is spoiled: that is seen at its first column.
-pub fn spoiled_at(z: Sizes, records: &[[u8; 5]], p: usize, c: usize) -> bool
+pub fn spoiled_at(z: Sizes, records: &[Record], p: usize, c: usize) -> bool
     requires { ⌜ Recorded (z .tiles) (now records) p ⌝ }
     ensures { λ r. ⌜ r ≡ (eqb c 0 && spoils (tasks (z .tiles)) (marksFrom (now (records .entry))) p) ⌝ }
 {

@@ -2,6 +2,7 @@
 ghost use mathlib.Core.Path.{_≡_};
 ghost use Prim.Native.Nat.{_+_, _*_, _≤_};
 ghost use lib.ListN.{length, replicate};
+ghost use Rattle.model.specs.Limits.{mostSide};
 ghost use Rattle.model.specs.Lists.{part, withPart};
 ghost use Rattle.model.specs.Tile.{zeros, upperFilled};
 use fills::fill_entries;
@@ -10,7 +11,7 @@ use upper_fills::fill_upper;
 
 // Fills the lower tile at d, the upper part of the tile at u, and the list at p.
 pub fn fill_coupled(matrix: &mut [f64], lists: &mut [u8], t: usize, u: usize, d: usize, p: usize)
-    requires { ⌜ (t ≤ 16) × (u + t * t ≤ length (now matrix)) × (d + t * t ≤ length (now matrix)) × (p + t ≤ length (now lists)) ⌝ }
+    requires { ⌜ (t ≤ mostSide) × (u + t * t ≤ length (now matrix)) × (d + t * t ≤ length (now matrix)) × (p + t ≤ length (now lists)) ⌝ }
     ensures { λ _. ⌜ now (matrix .exit) ≡ withPart u (t * t) (upperFilled t (part u (t * t) (withPart d (t * t) (zeros (t * t)) (now (matrix .entry)))))
         (withPart d (t * t) (zeros (t * t)) (now (matrix .entry))) ⌝ }
     ensures { λ _. ⌜ now (lists .exit) ≡ withPart p t (replicate t 0) (now (lists .entry)) ⌝ }

@@ -1,6 +1,7 @@
 // A cursor in a text goes past the line that is due, which is checked, or is stopped by its refusal.
 ghost use mathlib.Core.Path.{_≡_};
 ghost use Prim.Native.Nat.{_≤_};
+ghost use Rattle.model.specs.Limits.{mostSide};
 ghost use Rattle.model.specs.Read.{lineLength};
 ghost use Rattle.lines_read.specs.Line.{frameOf};
 ghost use Rattle.cursors.specs.Steps.{CursorFits, stepOf};
@@ -22,7 +23,7 @@ pub enum Step {
 
 // How long a line of a kind is, its 0A with it.
 fn line_length(t: usize, kind: usize) -> usize
-    requires { ⌜ t ≤ 16 ⌝ }
+    requires { ⌜ t ≤ mostSide ⌝ }
     ensures { λ r. ⌜ r ≡ lineLength t kind ⌝ }
 {
     if kind == 1 {
@@ -40,7 +41,7 @@ fn line_length(t: usize, kind: usize) -> usize
 // The line at the cursor, where a frame is due.
 pub fn check_line(text: &[u8], c: Cursor, t: usize, due: Due) -> Step
     requires { ⌜ CursorFits (now text) c ⌝ }
-    requires { ⌜ t ≤ 16 ⌝ }
+    requires { ⌜ t ≤ mostSide ⌝ }
     ensures { λ r. ⌜ r ≡ stepOf t (now (text .entry)) (frameOf due) c ⌝ }
 {
     let at = c.at;

@@ -6,7 +6,7 @@ use mathlib.Core.List.{List}
 use native.Mathlib.Omega.{arith}
 use lib.Dec.{eqb, leb}
 use lib.Ieee.{Float}
-use lib.ListN.{length, getD, take}
+use lib.ListN.{length, getD}
 use Rattle.model.specs.declared.Sizes.{Sizes}
 use Rattle.model.specs.declared.TaskRecord.{TaskRecord}
 use Rattle.worker.specs.declared.Worker.{Worker}
@@ -17,7 +17,7 @@ use Rattle.model.specs.Links.{task}
 use Rattle.model.specs.Calls.{recordOf, marksOf}
 use Rattle.model.specs.Refusal.{badRecord, badHold, badWorker, badEntry, damaged}
 use Rattle.laws.proofs.Every.{getD-any}
-use Rattle.records.specs.Records.{recordsFrom, blank, lent}
+use Rattle.records.specs.Records.{recordsFrom, blank, crew, lent}
 use Rattle.records.proofs.Laws.{length-records}
 use Rattle.links.specs.Closed.{key, In, taskAt, offset, number}
 use Rattle.links.proofs.Numbering.{task-is}
@@ -59,13 +59,13 @@ module _ (z : Sizes) (m : List Float) (l : List ℕ) (r : List (List ℕ)) (h : 
   abbrev pub holdings : Bool
   holdings = some (badHold (planOf z) (held r h W)) (below (length (tasks (z .tiles))))
 
-  abbrev pub crew : Bool
-  crew = some (badWorker (planOf z) (recordsAlone r)) (take W h)
+  abbrev pub workers : Bool
+  workers = some (badWorker (planOf z) (recordsAlone r)) (crew h W)
 
   abbrev pub entries : Bool
   entries = some (badEntry (planOf z) (listsAlone l)) (below (z .tiles * z .tiles * z .side))
 
-  parts : damaged (planOf z) (lent m l r h W) ≡ (((records || holdings) || crew) || entries)
+  parts : damaged (planOf z) (lent m l r h W) ≡ (((records || holdings) || workers) || entries)
   unfolding damaged badRecord badHold badWorker badEntry lent plan marksOf
   parts = refl
 
@@ -77,8 +77,8 @@ module _ (z : Sizes) (m : List Float) (l : List ℕ) (r : List (List ℕ)) (h : 
     damaged-2 b f p = rw (parts, sym e ∙ q, sym f ∙ p)
 
     module _ (b : Bool) (f : b ≡ holdings) (p : b ≡ false) where
-      pub damaged-3 : (c : Bool) → c ≡ crew → c ≡ true → true ≡ damaged (planOf z) (lent m l r h W)
+      pub damaged-3 : (c : Bool) → c ≡ workers → c ≡ true → true ≡ damaged (planOf z) (lent m l r h W)
       damaged-3 c g o = rw (parts, sym e ∙ q, sym f ∙ p, sym g ∙ o)
 
-      pub damaged-4 : (c d : Bool) → c ≡ crew → c ≡ false → d ≡ entries → d ≡ damaged (planOf z) (lent m l r h W)
+      pub damaged-4 : (c d : Bool) → c ≡ workers → c ≡ false → d ≡ entries → d ≡ damaged (planOf z) (lent m l r h W)
       damaged-4 c d g o i = rw (parts, sym e ∙ q, sym f ∙ p, sym g ∙ o) i

@@ -5,22 +5,24 @@ ghost use mathlib.Core.List.{List};
 ghost use lib.Dec.{eqb, leb};
 ghost use lib.Ieee.{Float};
 ghost use lib.ListN.{length};
+ghost use Rattle.model.specs.Lengths.{ListsFit, RecordsFit};
 ghost use Rattle.model.specs.Lists.{below, some};
 ghost use Rattle.model.specs.Task.{tasks};
 ghost use Rattle.model.specs.Plan.{planOf};
 ghost use Rattle.model.specs.Refusal.{badRecord, damaged as isDamaged};
 ghost use Rattle.records.specs.Records.{lent};
-ghost use Rattle.checks.specs.Checks.{Sized, RecordsFit, ListsFit, recordsAlone};
+ghost use Rattle.checks.specs.Checks.{Sized, recordsAlone};
 use entries::bad_entries;
 use holds::bad_holds;
 use model::Sizes;
 use model::TaskRecord;
 use numbering::Triple;
 use numbering::next;
+use records::Record;
 use records::record_at;
 use task_counts::task_count;
 use waiting_records::record_of;
-use worker::Worker;
+use worker::Slots;
 use workers::bad_workers;
 
 // Whether a record differs from the one due in more than its mark, or its mark exceeds 4.
@@ -35,7 +37,7 @@ fn differs(found: TaskRecord, due: TaskRecord) -> bool
 }
 
 // Whether a record's task differs from the numbering, or a mark exceeds 4.
-fn bad_records(z: Sizes, records: &[[u8; 5]]) -> bool
+fn bad_records(z: Sizes, records: &[Record]) -> bool
     requires { ⌜ Sized z × RecordsFit z (now records) ⌝ }
     ensures { λ r. ⌜ r ≡ some (badRecord (planOf z) (recordsAlone (now (records .entry)))) (below (length (tasks (z .tiles)))) ⌝ }
 {
@@ -54,7 +56,7 @@ fn bad_records(z: Sizes, records: &[[u8; 5]]) -> bool
 }
 
 // Whether what is lent is damaged, by refusal 4 but for elements.
-pub fn damaged(z: Sizes, lists: &[u8], records: &[[u8; 5]], workers: [Worker; 32]) -> bool
+pub fn damaged(z: Sizes, lists: &[u8], records: &[Record], workers: Slots) -> bool
     requires { ⌜ Sized z × ListsFit z (now lists) × RecordsFit z (now records) ⌝ }
     ensures { λ r. ⌜ ((matrix : List Float) → r ≡ isDamaged (planOf z) (lent matrix (now (lists .entry)) (now (records .entry)) workers (z .workers))) ⌝ }
 {

@@ -12,7 +12,7 @@ use Rattle.model.specs.Loops.{loops, outcome}
 use Rattle.model.specs.Calls.{Lent, stateOf}
 use Rattle.model.specs.Refusal.{openCall, runCall}
 use Rattle.model.specs.History.{Call}
-use Rattle.model.specs.Demand.{end}
+use Rattle.demand.specs.Demand.{end}
 use Rattle.demand.specs.Promise.{TwoOpenings, Alike, Promise}
 use Rattle.cells.proofs.Machine.{count}
 use Rattle.demand.proofs.Whole.{Whole}
@@ -23,6 +23,7 @@ use Rattle.demand.proofs.Measure.{left, move-lowers, opened-left, enoug
 use Rattle.demand.proofs.Opening.{Opened, opened-by, left-whole}
 use Rattle.demand.proofs.Theorem.{demand-3}
 use Rattle.demand.proofs.Runs.{run-itself, runs-are-calls}
+use Rattle.demand.proofs.Listed.{listed}
 
 -- ---- a run with t + 1 calls for each task
 
@@ -55,6 +56,7 @@ alike z y s r cs ds p = record { state = same; outcome = λ i. outcome (plans i)
 pub promise : (z : Sizes) → Promise z
 promise z = record {
   any-calls = λ s cs e. demand-3 z s cs e;
+  one-by-one = λ s cs e. listed z s cs e;
   runs-are-calls = λ b s e. runs-are-calls z b s e;
   enough = λ s cs e b h. run-finishes z s cs e b h;
   any-workers = λ y s r cs ds p. alike z y s r cs ds p;

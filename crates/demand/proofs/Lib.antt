@@ -13,6 +13,10 @@ pub mod Calls
 pub mod Opening
 pub mod Theorem
 pub mod Runs
+pub mod Deeds
+pub mod Belong
+pub mod Finished
+pub mod Listed
 pub mod Measure
 pub mod Corollaries
 pub mod Example

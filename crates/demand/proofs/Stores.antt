@@ -61,18 +61,18 @@ module _ (z : Sizes) (s : Lent) (h : Whole z s) (b : Buffers) (p v w : ℕ) (x :
   unfolding marked
   record-there q d = getD-set-other (s .records) p q _ none d
 
-  mark-here : mark (marksOf stored) p ≡ v
+  pub mark-here : mark (marksOf stored) p ≡ v
   unfolding withMark
   mark-here = mark-at stored p ∙ ap (λ (r : TaskRecord). r .mark) record-here
 
-  mark-there : (q : ℕ) → (q ≡ p → ⊥) → mark (marksOf stored) q ≡ mark (marksOf s) q
+  pub mark-there : (q : ℕ) → (q ≡ p → ⊥) → mark (marksOf stored) q ≡ mark (marksOf s) q
   mark-there q d = mark-at stored q ∙ ap (λ (r : TaskRecord). r .mark) (record-there q d) ∙ sym (mark-at s q)
 
-  worker-here : worker stored w ≡ x
+  pub worker-here : worker stored w ≡ x
   unfolding worker
   worker-here = getD-set-same (s .workers) w x idle (subst (λ (k : ℕ). w < k) (sym (h .stated .workers)) hw)
 
-  worker-there : (u : ℕ) → (u ≡ w → ⊥) → worker stored u ≡ worker s u
+  pub worker-there : (u : ℕ) → (u ≡ w → ⊥) → worker stored u ≡ worker s u
   unfolding worker
   worker-there u d = getD-set-other (s .workers) w u x idle d
 

@@ -19,7 +19,7 @@ use Rattle.model.specs.Loops as M
 use Rattle.model.specs.Calls.{Lent, marksOf, stateOf, allFinished}
 use Rattle.model.specs.Refusal.{openCall}
 use Rattle.model.specs.History.{Call, spentOn}
-use Rattle.model.specs.Demand.{SomeCall, a-take, a-column, Demand3, end}
+use Rattle.demand.specs.Demand.{SomeCall, a-take, a-column, Demand3, end}
 use Rattle.order_free.specs.Graph.{finished}
 use Rattle.order_free.specs.Loops.{loops}
 use Rattle.order_free.specs.Machine.{after}

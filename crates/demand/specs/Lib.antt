@@ -1,1 +1,3 @@
+pub mod Deeds
+pub mod Demand
 pub mod Promise

@@ -14,7 +14,8 @@ use Rattle.model.specs.Loops.{outcome}
 use Rattle.model.specs.Calls.{Lent, stateOf, allFinished}
 use Rattle.model.specs.Refusal.{openCall, runAnswer, runCall}
 use Rattle.model.specs.History.{Call}
-use Rattle.model.specs.Demand.{Demand3, end, RunIs}
+use Rattle.demand.specs.Demand.{Demand3, end, RunIs}
+use Rattle.demand.specs.Deeds.{Listed}
 
 -- two accepted openings of one matrix and one grid of tiles, with any two numbers of workers, and for each a list of calls that finishes
 -- every task
@@ -34,6 +35,8 @@ pub record Alike (z y : Sizes) (s r : Lent) (cs ds : List Call) : Type 0 where
 
 pub record Promise (z : Sizes) : Type 0 where
   pub any-calls : (s : Lent) (cs : List Call) → openCall z s .answer ≡ Accepted → Demand3 z s cs
+  -- which task a column counts for, and when a task is finished
+  pub one-by-one : (s : Lent) (cs : List Call) → openCall z s .answer ≡ Accepted → Listed z s cs
   pub runs-are-calls : (budget : ℕ) (s : Lent) → runAnswer z s ≡ Accepted → RunIs z budget s (runCall z budget s)
   -- t + 1 calls for each task are enough to finish, after any calls
   pub enough : (s : Lent) (cs : List Call) → openCall z s .answer ≡ Accepted → (budget : ℕ) → (z .side + 1) * length (tasks (z .tiles)) ≤ budget

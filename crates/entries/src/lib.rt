@@ -3,15 +3,17 @@ ghost use mathlib.Core.Path.{_≡_};
 ghost use Prim.Native.Nat.{_+_, _*_, _≤_, _<_};
 ghost use lib.Dec.{ltb};
 ghost use lib.ListN.{length, getD};
+ghost use Rattle.model.specs.Lengths.{ListsFit};
+ghost use Rattle.model.specs.Limits.{mostSide};
 ghost use Rattle.model.specs.Lists.{below, run, some};
 ghost use Rattle.model.specs.Plan.{planOf};
 ghost use Rattle.model.specs.Refusal.{entryLimit, badEntry};
-ghost use Rattle.checks.specs.Checks.{Sized, ListsFit, listsAlone};
+ghost use Rattle.checks.specs.Checks.{Sized, listsAlone};
 use model::Sizes;
 
 // The largest entry that list (i,j) may have.
 fn entry_limit(z: Sizes, i: usize, j: usize) -> u8
-    requires { ⌜ (1 ≤ z .side) × (z .side ≤ 16) ⌝ }
+    requires { ⌜ (1 ≤ z .side) × (z .side ≤ mostSide) ⌝ }
     ensures { λ r. ⌜ r ≡ entryLimit (planOf z) i j ⌝ }
 {
     if i == j {

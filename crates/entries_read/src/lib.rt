@@ -2,6 +2,7 @@
 ghost use mathlib.Core.Path.{_≡_};
 ghost use Prim.Native.Nat.{suc, _*_, _≤_, _<_};
 ghost use lib.ListN.{length, replicate};
+ghost use Rattle.model.specs.Limits.{mostTiles, mostSide};
 ghost use Rattle.model.specs.Read.{entriesIn};
 ghost use Rattle.entries_read.specs.Entries.{ListLine, above, ListLines, listFrom, rowFrom, listsFrom};
 use digits_read::field_at;
@@ -31,7 +32,7 @@ fn clear_list(list: &mut [u8])
 // List (i,j), where the lists of row i start at place at: above the diagonal it is 0.
 fn load_list(text: &[u8], at: usize, i: usize, j: usize, list: &mut [u8])
     requires { ⌜ ListLines (length (now list)) (suc i) at (now text) ⌝ }
-    requires { ⌜ (length (now list) ≤ 16) × (i < 16) ⌝ }
+    requires { ⌜ (length (now list) ≤ mostSide) × (i < mostTiles) ⌝ }
     ensures { λ r. ⌜ now (list .exit) ≡ listFrom (length (now (list .entry))) at (now (text .entry)) i j ⌝ }
 {
     if i < j {
@@ -48,7 +49,7 @@ fn load_list(text: &[u8], at: usize, i: usize, j: usize, list: &mut [u8])
 fn load_row(text: &[u8], at: usize, tiles: usize, t: usize, i: usize, row: &mut [u8])
     requires { ⌜ ListLines t (suc i) at (now text) ⌝ }
     requires { ⌜ length (now row) ≡ tiles * t ⌝ }
-    requires { ⌜ (tiles ≤ 16) × (t ≤ 16) × (i < 16) ⌝ }
+    requires { ⌜ (tiles ≤ mostTiles) × (t ≤ mostSide) × (i < mostTiles) ⌝ }
     ensures { λ r. ⌜ now (row .exit) ≡ rowFrom tiles t at (now (text .entry)) i ⌝ }
 {
     let mut j = 0;
@@ -64,7 +65,7 @@ fn load_row(text: &[u8], at: usize, tiles: usize, t: usize, i: usize, row: &mut 
 pub fn load_lists(text: &[u8], at: usize, tiles: usize, t: usize, lists: &mut [u8])
     requires { ⌜ ListLines t (above tiles) at (now text) ⌝ }
     requires { ⌜ length (now lists) ≡ tiles * (tiles * t) ⌝ }
-    requires { ⌜ (tiles ≤ 16) × (t ≤ 16) ⌝ }
+    requires { ⌜ (tiles ≤ mostTiles) × (t ≤ mostSide) ⌝ }
     ensures { λ r. ⌜ now (lists .exit) ≡ listsFrom tiles t at (now (text .entry)) ⌝ }
 {
     let size = 7 + 2 * t;

@@ -2,20 +2,22 @@
 ghost use mathlib.Core.Path.{_≡_};
 ghost use mathlib.Core.List.{List};
 ghost use Prim.Native.Nat.{ℕ, _*_, _<_};
+ghost use Rattle.model.specs.Lengths.{MatrixFits, RecordsFit};
 ghost use Rattle.model.specs.Lists.{firstOr};
 ghost use Rattle.model.specs.Plan.{planOf};
 ghost use Rattle.model.specs.Buffer.{element};
 ghost use Rattle.model.specs.Loops.{failedTasks, zeroRows, outcome as outcomeOf};
 ghost use Rattle.records.specs.Records.{marksFrom};
-ghost use Rattle.checks.specs.Checks.{Sized, MatrixFits, RecordsFit};
+ghost use Rattle.checks.specs.Checks.{Sized};
 ghost use Rattle.finite_numbers.specs.declared.Lowest.the-variants.{None, At};
 use finite_numbers::Lowest;
 use model::Outcome;
 use model::Sizes;
+use records::Record;
 use records::mark_of;
 
 // The lowest task that failed.
-fn first_failed(records: &[[u8; 5]]) -> Lowest
+fn first_failed(records: &[Record]) -> Lowest
     ensures { λ r. ⌜ r ≡ firstOr (failedTasks (marksFrom (now (records .entry)))) At None ⌝ }
 {
     let mut p = 0;
@@ -56,7 +58,7 @@ fn first_zero_row(z: Sizes, matrix: &[f64]) -> Lowest
 }
 
 // The outcome by the marks and the diagonal that stand now: what it is once every task is finished.
-pub fn outcome_of(z: Sizes, matrix: &[f64], records: &[[u8; 5]]) -> Outcome
+pub fn outcome_of(z: Sizes, matrix: &[f64], records: &[Record]) -> Outcome
     requires { ⌜ Sized z × MatrixFits z (now matrix) × RecordsFit z (now records) ⌝ }
     ensures { λ r. ⌜ ((lists : List ℕ) → r ≡ outcomeOf (planOf z) (record {
       buffers = record { matrix = now (matrix .entry); lists = lists };

@@ -2,10 +2,11 @@
 ghost use mathlib.Core.Path.{_≡_};
 ghost use Prim.Native.Nat.{_*_, _<_};
 ghost use lib.ListN.{replicate};
+ghost use Rattle.model.specs.Lengths.{MatrixFits, ListsFit};
 ghost use Rattle.model.specs.Tile.{zeros, upperFilled};
 ghost use Rattle.model.specs.Plan.{planOf};
 ghost use Rattle.model.specs.Buffer.{tile, putTile, putRows, filled};
-ghost use Rattle.checks.specs.Checks.{Sized, MatrixFits, ListsFit, Inside, taskFrom};
+ghost use Rattle.checks.specs.Checks.{Sized, Inside, taskFrom};
 use fills::fill_entries;
 use fills::fill_numbers;
 use model::Sizes;

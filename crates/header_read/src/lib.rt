@@ -7,6 +7,7 @@ ghost use Rattle.model.specs.Text.{badShape};
 ghost use Rattle.header_read.specs.Heads.{headerOf};
 use digits_read::field_at;
 use lines_read::is_malformed;
+use shapes::bad_shape;
 
 // N and t of an accepted header, or a refusal's number and place.
 pub enum Header {
@@ -18,16 +19,7 @@ pub enum Header {
 fn refused_shape(tiles: usize, side: usize, limit: usize) -> bool
     ensures { λ r. ⌜ r ≡ (badShape tiles side || ltb limit (tiles * side)) ⌝ }
 {
-    if tiles < 1 {
-        return true;
-    }
-    if 16 < tiles {
-        return true;
-    }
-    if side < 1 {
-        return true;
-    }
-    if 16 < side {
+    if bad_shape(tiles, side) {
         return true;
     }
     limit < tiles * side

@@ -1,21 +1,25 @@
 // Refusal 4's test that each task with mark 1 is held by one worker.
 ghost use mathlib.Core.Path.{_≡_};
 ghost use Prim.Native.Nat.{_≤_};
-ghost use lib.ListN.{length, take};
+ghost use lib.ListN.{length};
+ghost use Rattle.model.specs.Lengths.{RecordsFit};
+ghost use Rattle.model.specs.Limits.{mostWorkers};
 ghost use Rattle.model.specs.Lists.{below, some, keep};
 ghost use Rattle.model.specs.Task.{tasks};
 ghost use Rattle.model.specs.Plan.{planOf};
 ghost use Rattle.model.specs.Refusal.{holds, badHold};
-ghost use Rattle.checks.specs.Checks.{Sized, RecordsFit, held};
+ghost use Rattle.records.specs.Records.{crew};
+ghost use Rattle.checks.specs.Checks.{Sized, held};
 use model::Sizes;
+use records::Record;
 use records::mark_of;
 use task_counts::task_count;
-use worker::Worker;
+use worker::Slots;
 
 // How many of the first `count` workers hold task p.
-fn holders(workers: [Worker; 32], count: usize, p: usize) -> usize
-    requires { ⌜ count ≤ 32 ⌝ }
-    ensures { λ r. ⌜ r ≡ length (keep (holds p) (take count workers)) ⌝ }
+fn holders(workers: Slots, count: usize, p: usize) -> usize
+    requires { ⌜ count ≤ mostWorkers ⌝ }
+    ensures { λ r. ⌜ r ≡ length (keep (holds p) (crew workers count)) ⌝ }
 {
     let mut n = 0;
     let mut v = 0;
@@ -30,7 +34,7 @@ fn holders(workers: [Worker; 32], count: usize, p: usize) -> usize
 }
 
 // Whether some task with mark 1 has no worker or several. At most one more task with mark 1 is looked at than there are workers.
-pub fn bad_holds(z: Sizes, records: &[[u8; 5]], workers: [Worker; 32]) -> bool
+pub fn bad_holds(z: Sizes, records: &[Record], workers: Slots) -> bool
     requires { ⌜ Sized z × RecordsFit z (now records) ⌝ }
     ensures { λ r. ⌜ r ≡ some (badHold (planOf z) (held (now (records .entry)) workers (z .workers))) (below (length (tasks (z .tiles)))) ⌝ }
 {

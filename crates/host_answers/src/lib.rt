@@ -1,6 +1,8 @@
 // What the calls tell a host: answers and outcomes as numbers.
 ghost use mathlib.Core.Path.{_≡_};
-ghost use Rattle.host_answers.specs.Answers.{told, runTold, outcomeTold, knownTold, writeTold, resultTold, readTold, outcomeFrom};
+ghost use Rattle.model.specs.declared.OutcomeAnswer.the-variants.{Known};
+ghost use Rattle.model.specs.declared.ReadAnswer.the-variants.{ResultRead};
+ghost use Rattle.host_answers.specs.Answers.{told, runTold, outcomeTold, writeTold, readTold, outcomeFrom};
 use model::Answer;
 use model::Outcome;
 use model::OutcomeAnswer;
@@ -76,7 +78,7 @@ pub fn tell_run(answer: RunAnswer) -> Told
 
 // Kind 0: good; 1: overflow at a task; 2: singular at a row.
 fn tell_known(outcome: Outcome) -> Told
-    ensures { λ r. ⌜ r ≡ knownTold outcome ⌝ }
+    ensures { λ r. ⌜ r ≡ outcomeTold (Known outcome) ⌝ }
 {
     match outcome {
         Outcome::Good => Told {
@@ -142,7 +144,7 @@ pub fn tell_written(answer: WriteAnswer) -> Told
 }
 
 fn tell_result(tiles: usize, side: usize, outcome: Outcome) -> ReadTold
-    ensures { λ r. ⌜ r ≡ resultTold tiles side outcome ⌝ }
+    ensures { λ r. ⌜ r ≡ readTold (ResultRead tiles side outcome) ⌝ }
 {
     match outcome {
         Outcome::Good => ReadTold {

@@ -1,49 +1,60 @@
 -- From a call over workers by value to the call over a host's arrays. Assumes nothing.
 use Prim.Native.Nat.{ℕ}
-use mathlib.Core.Path.{_≡_, ap, _∙_}
+use mathlib.Core.Path.{_≡_, refl, sym, ap, subst, _∙_}
 use mathlib.Core.List.{List}
 use lib.Ieee.{Float}
 use lib.ListN.{drop}
 use Rattle.model.specs.declared.Answer.{Answer}
 use Rattle.worker.specs.declared.Worker.{Worker}
+use Rattle.worker.specs.declared.Workers.{Workers}
 use Rattle.model.specs.declared.CallReply.{CallReply}
 use Rattle.model.specs.declared.RunReply.{RunReply}
 use Rattle.model.specs.Calls.{Lent, RunEnd}
 use Rattle.model.specs.Refusal.{Reply}
 use Rattle.model.specs.Solve.{Answers}
-use Rattle.records.specs.Records.{lent}
+use Rattle.records.specs.Records.{allLent, OthersKept}
 use Rattle.host_answers.specs.declared.Told.{Told}
 use Rattle.host_answers.specs.Answers.{told, runTold}
 use Rattle.host_calls.specs.Hosted.{Hosted, Called, Ran, Solved}
 
 -- given and left are the workers in the arrays before and after; those by value are the same
-module _ (m m′ : List Float) (l l′ : List ℕ) (r r′ : List (List ℕ)) (W : ℕ) (given left gathered : List Worker) (g : gathered ≡ given) (t : Told) where
+module _ (m m′ : List Float) (l l′ : List ℕ) (r r′ : List (List ℕ)) (given : Workers) (left : List Worker) (gathered : Workers) (g : gathered ≡ given) (t : Told) where
   abbrev before : Hosted
-  before = record { matrix = m; lists = l; records = r; slots = given }
+  before = record { matrix = m; lists = l; records = r; workers = given }
 
   abbrev after : Hosted
-  after = record { matrix = m′; lists = l′; records = r′; slots = left }
+  after = record { matrix = m′; lists = l′; records = r′; workers = record { slots = left; count = given .count } }
 
-  pub call-said : (call : Lent → Reply) (reply : CallReply) → _≡_ {A = Reply} (record { answer = reply .answer; left = lent m′ l′ r′ (reply .workers) W }) (call (lent m l r gathered W))
-      → drop W (reply .workers) ≡ drop W gathered → left ≡ reply .workers → t ≡ told (reply .answer) → Called call W before after t
-  call-said call reply e d s a = record {
-    tells = a ∙ ap (λ (k : Reply). told (k .answer)) e ∙ ap (λ k. told (call (lent m l r k W) .answer)) g;
-    leaves = ap (λ k. lent m′ l′ r′ k W) s ∙ ap (λ (k : Reply). k .left) e ∙ ap (λ k. call (lent m l r k W) .left) g;
-    keeps = ap (drop W) s ∙ d ∙ ap (drop W) g;
+  module _ (ws : Workers) (k : OthersKept gathered ws) (s : left ≡ ws .slots) where
+    back : after .workers ≡ ws
+    back = λ i. record { slots = s i; count = (ap (λ (x : Workers). x .count) (sym g) ∙ sym (k .same-count)) i }
+
+    kept : OthersKept given (after .workers)
+    kept = record {
+      same-count = refl;
+      same-slots = ap (drop (given .count)) s ∙ subst (λ (x : Workers). drop (x .count) (ws .slots) ≡ drop (x .count) (x .slots)) g (k .same-slots);
+    }
+
+  pub call-said : (call : Lent → Reply) (reply : CallReply) → _≡_ {A = Reply} (record { answer = reply .answer; left = allLent m′ l′ r′ (reply .workers) }) (call (allLent m l r gathered))
+      → OthersKept gathered (reply .workers) → left ≡ reply .workers .slots → t ≡ told (reply .answer) → Called call before after t
+  call-said call reply e k s a = record {
+    tells = a ∙ ap (λ (x : Reply). told (x .answer)) e ∙ ap (λ x. told (call (allLent m l r x) .answer)) g;
+    leaves = ap (allLent m′ l′ r′) (back (reply .workers) k s) ∙ ap (λ (x : Reply). x .left) e ∙ ap (λ x. call (allLent m l r x) .left) g;
+    keeps = kept (reply .workers) k s;
   }
 
-  pub run-said : (call : Lent → RunEnd) (reply : RunReply) → _≡_ {A = RunEnd} (record { answer = reply .answer; left = lent m′ l′ r′ (reply .workers) W }) (call (lent m l r gathered W))
-      → drop W (reply .workers) ≡ drop W gathered → left ≡ reply .workers → t ≡ runTold (reply .answer) → Ran call W before after t
-  run-said call reply e d s a = record {
-    tells = a ∙ ap (λ (k : RunEnd). runTold (k .answer)) e ∙ ap (λ k. runTold (call (lent m l r k W) .answer)) g;
-    leaves = ap (λ k. lent m′ l′ r′ k W) s ∙ ap (λ (k : RunEnd). k .left) e ∙ ap (λ k. call (lent m l r k W) .left) g;
-    keeps = ap (drop W) s ∙ d ∙ ap (drop W) g;
+  pub run-said : (call : Lent → RunEnd) (reply : RunReply) → _≡_ {A = RunEnd} (record { answer = reply .answer; left = allLent m′ l′ r′ (reply .workers) }) (call (allLent m l r gathered))
+      → OthersKept gathered (reply .workers) → left ≡ reply .workers .slots → t ≡ runTold (reply .answer) → Ran call before after t
+  run-said call reply e k s a = record {
+    tells = a ∙ ap (λ (x : RunEnd). runTold (x .answer)) e ∙ ap (λ x. runTold (call (allLent m l r x) .answer)) g;
+    leaves = ap (allLent m′ l′ r′) (back (reply .workers) k s) ∙ ap (λ (x : RunEnd). x .left) e ∙ ap (λ x. call (allLent m l r x) .left) g;
+    keeps = kept (reply .workers) k s;
   }
 
-module _ (m : List Float) (l : List ℕ) (r : List (List ℕ)) (W : ℕ) (given gathered : List Worker) (g : gathered ≡ given) (t : Told) where
-  pub solve-said : (call : Lent → Answers) (a : Answer) (x : List Float) → _≡_ {A = Answers} (record { answer = a; left = x }) (call (lent m l r gathered W))
-      → t ≡ told a → Solved (call (lent m l r given W)) x t
+module _ (m : List Float) (l : List ℕ) (r : List (List ℕ)) (given gathered : Workers) (g : gathered ≡ given) (t : Told) where
+  pub solve-said : (call : Lent → Answers) (a : Answer) (x : List Float) → _≡_ {A = Answers} (record { answer = a; left = x }) (call (allLent m l r gathered))
+      → t ≡ told a → Solved (call (allLent m l r given)) x t
   solve-said call a x e s = record {
-    tells = s ∙ ap (λ (k : Answers). told (k .answer)) e ∙ ap (λ k. told (call (lent m l r k W) .answer)) g;
-    leaves = ap (λ (k : Answers). k .left) e ∙ ap (λ k. call (lent m l r k W) .left) g;
+    tells = s ∙ ap (λ (k : Answers). told (k .answer)) e ∙ ap (λ k. told (call (allLent m l r k) .answer)) g;
+    leaves = ap (λ (k : Answers). k .left) e ∙ ap (λ k. call (allLent m l r k) .left) g;
   }

@@ -7,6 +7,8 @@ use host_answers::tell_run;
 use host_workers::gather;
 use host_workers::scatter;
 use model::Sizes;
+use records::Record;
+use worker::SLOTS;
 
 // Runs a system for at most `budget` calls: kind 1 finished, 2 spent, and the count of the calls made.
 #[no_mangle]
@@ -16,29 +18,24 @@ pub extern "C" fn solumivaf_run(
     workers: usize,
     matrix: &mut [f64],
     lists: &mut [u8],
-    records: &mut [[u8; 5]],
-    busy: &mut [bool; 32],
-    task: &mut [u16; 32],
-    column: &mut [u8; 32],
+    records: &mut [Record],
+    busy: &mut [bool; SLOTS],
+    task: &mut [u16; SLOTS],
+    column: &mut [u8; SLOTS],
+    count: usize,
     budget: u64,
 ) -> Told
-    ensures { λ r. ⌜ Ran (runCall (sizes tiles side workers) budget) workers
-        (hosted (now (matrix .entry)) (now (lists .entry)) (now (records .entry)) (now (busy .entry)) (now (task .entry)) (now (column .entry)))
-        (hosted (now (matrix .exit)) (now (lists .exit)) (now (records .exit)) (now (busy .exit)) (now (task .exit)) (now (column .exit))) r ⌝ }
+    ensures { λ r. ⌜ Ran (runCall (sizes tiles side workers) budget)
+        (hosted (now (matrix .entry)) (now (lists .entry)) (now (records .entry)) (now (busy .entry)) (now (task .entry)) (now (column .entry)) count)
+        (hosted (now (matrix .exit)) (now (lists .exit)) (now (records .exit)) (now (busy .exit)) (now (task .exit)) (now (column .exit)) count) r ⌝ }
 {
     let z = Sizes {
         tiles,
         side,
         workers,
     };
-    let reply = runs::run(
-        z,
-        matrix,
-        lists,
-        records,
-        gather(*busy, *task, *column),
-        budget,
-    );
+    let given = gather(*busy, *task, *column, count);
+    let reply = runs::run(z, matrix, lists, records, given, budget);
     let left = reply.workers;
     scatter(left, busy, task, column);
     let answer = reply.answer;

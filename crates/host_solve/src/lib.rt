@@ -10,6 +10,8 @@ use host_answers::tell;
 use host_answers::tell_outcome;
 use host_workers::gather;
 use model::Sizes;
+use records::Record;
+use worker::SLOTS;
 
 // The outcome: kind 0 good, 1 overflow at a task, 2 singular at a row, 3 unfinished at a task.
 #[no_mangle]
@@ -19,19 +21,21 @@ pub extern "C" fn solumivaf_outcome(
     workers: usize,
     matrix: &[f64],
     lists: &[u8],
-    records: &[[u8; 5]],
-    busy: &[bool; 32],
-    task: &[u16; 32],
-    column: &[u8; 32],
+    records: &[Record],
+    busy: &[bool; SLOTS],
+    task: &[u16; SLOTS],
+    column: &[u8; SLOTS],
+    count: usize,
 ) -> Told
-    ensures { λ r. ⌜ r ≡ outcomeTold (outcomeCall (sizes tiles side workers) (lentIn workers (hosted (now (matrix .entry)) (now (lists .entry)) (now (records .entry)) (now (busy .entry)) (now (task .entry)) (now (column .entry))))) ⌝ }
+    ensures { λ r. ⌜ r ≡ outcomeTold (outcomeCall (sizes tiles side workers) (lentIn (hosted (now (matrix .entry)) (now (lists .entry)) (now (records .entry)) (now (busy .entry)) (now (task .entry)) (now (column .entry)) count))) ⌝ }
 {
     let z = Sizes {
         tiles,
         side,
         workers,
     };
-    let answer = outcomes::outcome(z, matrix, lists, records, gather(*busy, *task, *column));
+    let given = gather(*busy, *task, *column, count);
+    let answer = outcomes::outcome(z, matrix, lists, records, given);
     tell_outcome(answer)
 }
 
@@ -43,14 +47,15 @@ pub extern "C" fn solumivaf_solve(
     workers: usize,
     matrix: &[f64],
     lists: &[u8],
-    records: &[[u8; 5]],
-    busy: &[bool; 32],
-    task: &[u16; 32],
-    column: &[u8; 32],
+    records: &[Record],
+    busy: &[bool; SLOTS],
+    task: &[u16; SLOTS],
+    column: &[u8; SLOTS],
+    count: usize,
     right: &[f64],
     answers: &mut [f64],
 ) -> Told
-    ensures { λ r. ⌜ Solved (solveCall (sizes tiles side workers) (lentIn workers (hosted (now (matrix .entry)) (now (lists .entry)) (now (records .entry)) (now (busy .entry)) (now (task .entry)) (now (column .entry)))) (now (right .entry)) (now (answers .entry)))
+    ensures { λ r. ⌜ Solved (solveCall (sizes tiles side workers) (lentIn (hosted (now (matrix .entry)) (now (lists .entry)) (now (records .entry)) (now (busy .entry)) (now (task .entry)) (now (column .entry)) count)) (now (right .entry)) (now (answers .entry)))
         (now (answers .exit)) r ⌝ }
 {
     let z = Sizes {
@@ -58,14 +63,7 @@ pub extern "C" fn solumivaf_solve(
         side,
         workers,
     };
-    let answer = solving::solve(
-        z,
-        matrix,
-        lists,
-        records,
-        gather(*busy, *task, *column),
-        right,
-        answers,
-    );
+    let given = gather(*busy, *task, *column, count);
+    let answer = solving::solve(z, matrix, lists, records, given, right, answers);
     tell(answer)
 }

@@ -7,6 +7,8 @@ use host_answers::tell;
 use host_workers::gather;
 use host_workers::scatter;
 use model::Sizes;
+use records::Record;
+use worker::SLOTS;
 
 // Opens a system.
 #[no_mangle]
@@ -16,21 +18,23 @@ pub extern "C" fn solumivaf_open(
     workers: usize,
     matrix: &[f64],
     lists: &mut [u8],
-    records: &mut [[u8; 5]],
-    busy: &mut [bool; 32],
-    task: &mut [u16; 32],
-    column: &mut [u8; 32],
+    records: &mut [Record],
+    busy: &mut [bool; SLOTS],
+    task: &mut [u16; SLOTS],
+    column: &mut [u8; SLOTS],
+    count: usize,
 ) -> Told
-    ensures { λ r. ⌜ Called (openCall (sizes tiles side workers)) workers
-        (hosted (now (matrix .entry)) (now (lists .entry)) (now (records .entry)) (now (busy .entry)) (now (task .entry)) (now (column .entry)))
-        (hosted (now (matrix .entry)) (now (lists .exit)) (now (records .exit)) (now (busy .exit)) (now (task .exit)) (now (column .exit))) r ⌝ }
+    ensures { λ r. ⌜ Called (openCall (sizes tiles side workers))
+        (hosted (now (matrix .entry)) (now (lists .entry)) (now (records .entry)) (now (busy .entry)) (now (task .entry)) (now (column .entry)) count)
+        (hosted (now (matrix .entry)) (now (lists .exit)) (now (records .exit)) (now (busy .exit)) (now (task .exit)) (now (column .exit)) count) r ⌝ }
 {
     let z = Sizes {
         tiles,
         side,
         workers,
     };
-    let reply = opening::open(z, matrix, lists, records, gather(*busy, *task, *column));
+    let given = gather(*busy, *task, *column, count);
+    let reply = opening::open(z, matrix, lists, records, given);
     let left = reply.workers;
     scatter(left, busy, task, column);
     let answer = reply.answer;
@@ -45,31 +49,25 @@ pub extern "C" fn solumivaf_take(
     workers: usize,
     matrix: &[f64],
     lists: &[u8],
-    records: &mut [[u8; 5]],
-    busy: &mut [bool; 32],
-    task: &mut [u16; 32],
-    column: &mut [u8; 32],
+    records: &mut [Record],
+    busy: &mut [bool; SLOTS],
+    task: &mut [u16; SLOTS],
+    column: &mut [u8; SLOTS],
+    count: usize,
     w: usize,
     p: usize,
 ) -> Told
-    ensures { λ r. ⌜ Called (takeCall (sizes tiles side workers) w p) workers
-        (hosted (now (matrix .entry)) (now (lists .entry)) (now (records .entry)) (now (busy .entry)) (now (task .entry)) (now (column .entry)))
-        (hosted (now (matrix .entry)) (now (lists .entry)) (now (records .exit)) (now (busy .exit)) (now (task .exit)) (now (column .exit))) r ⌝ }
+    ensures { λ r. ⌜ Called (takeCall (sizes tiles side workers) w p)
+        (hosted (now (matrix .entry)) (now (lists .entry)) (now (records .entry)) (now (busy .entry)) (now (task .entry)) (now (column .entry)) count)
+        (hosted (now (matrix .entry)) (now (lists .entry)) (now (records .exit)) (now (busy .exit)) (now (task .exit)) (now (column .exit)) count) r ⌝ }
 {
     let z = Sizes {
         tiles,
         side,
         workers,
     };
-    let reply = taking::take(
-        z,
-        matrix,
-        lists,
-        records,
-        gather(*busy, *task, *column),
-        w,
-        p,
-    );
+    let given = gather(*busy, *task, *column, count);
+    let reply = taking::take(z, matrix, lists, records, given, w, p);
     let left = reply.workers;
     scatter(left, busy, task, column);
     let answer = reply.answer;

@@ -11,7 +11,7 @@ use Rattle.worker.specs.declared.Worker.{Worker}
 use Rattle.worker.specs.Holding.{idle}
 use Rattle.laws.proofs.Tests.{lt-or-le}
 use Rattle.laws.proofs.Blocks.{table-unique}
-use Rattle.host_workers.specs.Workers.{workerIn, workersIn}
+use Rattle.host_workers.specs.Workers.{workerIn, slotsIn}
 
 -- the first v workers are those of the lists
 pub record Alike (b : List Bool) (t c : List ℕ) (ws : List Worker) (v : ℕ) : Type 0 where
@@ -72,6 +72,6 @@ module _ (b : List Bool) (t c : List ℕ) (ws : List Worker) where
           (lt-or-le i v);
     }
 
-  pub all-alike : (v : ℕ) → Alike b t c ws v → 32 ≤ v → ws ≡ workersIn b t c
-  unfolding workersIn
+  pub all-alike : (v : ℕ) → Alike b t c ws v → 32 ≤ v → ws ≡ slotsIn b t c
+  unfolding slotsIn
   all-alike v h m = table-unique 32 (workerIn b t c) ws idle (h .slots) (λ i j. h .alike i (omega (arith, j, m)))

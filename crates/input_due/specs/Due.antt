@@ -1,6 +1,7 @@
 -- How many bytes of a text decide what the program prints. Assumes nothing.
 use Prim.Native.Nat.{ℕ, _+_, _*_}
 use mathlib.Core.List.{List}
+use Rattle.model.specs.Limits.{programOrder}
 use Rattle.header_read.specs.declared.Header.{Header}
 use Rattle.header_read.specs.declared.Header.the-variants.{Shape, Unread}
 use Rattle.header_read.specs.Heads.{headerOf}
@@ -14,4 +15,4 @@ dueBehind (Shape N t) = systemDue N t
 dueBehind (Unread n x) = 7
 
 unfoldable pub bytesDue : List ℕ → ℕ
-bytesDue text = dueBehind (headerOf 48 text)
+bytesDue text = dueBehind (headerOf programOrder text)

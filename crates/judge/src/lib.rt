@@ -5,6 +5,7 @@ use header_read::Header;
 use header_read::check_header;
 use host_answers::ReadTold;
 use host_answers::tell_read;
+use model::MOST_ORDER;
 use result_file::read_result;
 use script::mixed_bytes;
 use script::mixed_numbers;
@@ -24,7 +25,7 @@ pub struct Lengths {
 fn lengths_due(text: &[u8]) -> Lengths
     ensures { λ r. ⌜ (r .numbers ≤ 65536) × (r .entries ≤ 4096) ⌝ }
 {
-    match check_header(text, 256) {
+    match check_header(text, MOST_ORDER) {
         Header::Shape(tiles, side) => {
             let n = tiles * side;
             Lengths {

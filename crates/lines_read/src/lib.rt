@@ -3,6 +3,7 @@ ghost use mathlib.Core.Path.{_≡_};
 ghost use Prim.Native.Nat.{_+_, _*_, _≤_};
 ghost use lib.ListN.{length};
 ghost use Rattle.model.specs.declared.Answer.the-variants.{Accepted};
+ghost use Rattle.model.specs.Limits.{mostSide};
 ghost use Rattle.model.specs.Read.{notDigits, wrongFrame, notFiniteIn, lineLength, lineAnswer};
 ghost use Rattle.lines_read.specs.Line.{LineOfDigits, frameOf, malformed, badEntries, badOutcome};
 use digits_read::all_digits;
@@ -32,7 +33,7 @@ fn not_digits(line: &[u8]) -> bool
 // An entry of a list's line exceeds t.
 fn bad_entries(line: &[u8], t: usize) -> bool
     requires { ⌜ LineOfDigits (now line) ⌝ }
-    requires { ⌜ t ≤ 16 ⌝ }
+    requires { ⌜ t ≤ mostSide ⌝ }
     ensures { λ r. ⌜ r ≡ badEntries t (now (line .entry)) ⌝ }
 {
     if line.len() != 7 + 2 * t {
@@ -66,10 +67,10 @@ fn bad_outcome(line: &[u8]) -> bool
     field_at(line, 4, 4) != 0
 }
 
-// 12: the line isn't digits ended by 0A, its kind is unknown, or its content is bad for its own kind.
+// 12: other bytes than digits before the 0A, no 0A, a kind that no frame has, or contents that its kind does not allow.
 pub fn is_malformed(line: &[u8], t: usize) -> bool
     requires { ⌜ 7 ≤ length (now line) ⌝ }
-    requires { ⌜ t ≤ 16 ⌝ }
+    requires { ⌜ t ≤ mostSide ⌝ }
     ensures { λ r. ⌜ r ≡ malformed t (now (line .entry)) ⌝ }
 {
     if not_digits(line) {
@@ -112,7 +113,7 @@ fn wrong_frame(line: &[u8], due: Due) -> bool
 fn not_finite(line: &[u8], t: usize, due: Due) -> bool
     requires { ⌜ LineOfDigits (now line) ⌝ }
     requires { ⌜ length (now line) ≡ lineLength t (due .kind) ⌝ }
-    requires { ⌜ t ≤ 16 ⌝ }
+    requires { ⌜ t ≤ mostSide ⌝ }
     ensures { λ r. ⌜ r ≡ notFiniteIn t (frameOf due) (now (line .entry)) ⌝ }
 {
     if due.kind != 2 {
@@ -132,7 +133,7 @@ fn not_finite(line: &[u8], t: usize, due: Due) -> bool
 // What line x answers by itself, where the frame is due.
 pub fn line_answer(line: &[u8], x: usize, t: usize, due: Due) -> Answer
     requires { ⌜ length (now line) ≡ lineLength t (due .kind) ⌝ }
-    requires { ⌜ t ≤ 16 ⌝ }
+    requires { ⌜ t ≤ mostSide ⌝ }
     ensures { λ r. ⌜ r ≡ lineAnswer t x (frameOf due) (now (line .entry)) Accepted ⌝ }
 {
     if is_malformed(line, t) {

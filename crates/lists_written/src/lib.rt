@@ -2,13 +2,14 @@
 ghost use mathlib.Core.Path.{_≡_};
 ghost use Prim.Native.Nat.{_+_, _*_, _<_, _≤_};
 ghost use lib.ListN.{length};
+ghost use Rattle.model.specs.Limits.{mostTiles, mostSide};
 ghost use Rattle.model.specs.Lists.{withPart};
 ghost use Rattle.rows_written.specs.Rows.{listRow, listRows, triangle};
 use lines_written::put_list;
 
 // Writes lists (i,0) to (i,i) of the n by n row lists of l, t entries each.
 fn put_list_row(text: &mut [u8], at: usize, l: &[u8], n: usize, t: usize, i: usize)
-    requires { ⌜ (i < n) × (n ≤ 16) × (t ≤ 16) ⌝ }
+    requires { ⌜ (i < n) × (n ≤ mostTiles) × (t ≤ mostSide) ⌝ }
     requires { ⌜ at + (i + 1) * (7 + t * 2) ≤ length (now text) ⌝ }
     requires { ⌜ n * n * t ≤ length (now l) ⌝ }
     ensures { λ _. ⌜ now (text .exit) ≡ withPart at ((i + 1) * (7 + t * 2)) (listRow n t (now (l .entry)) i) (now (text .entry)) ⌝ }
@@ -24,7 +25,7 @@ fn put_list_row(text: &mut [u8], at: usize, l: &[u8], n: usize, t: usize, i: usi
 
 // Writes the row lists with I ≥ J.
 pub fn put_lists(text: &mut [u8], at: usize, l: &[u8], n: usize, t: usize)
-    requires { ⌜ (n ≤ 16) × (t ≤ 16) ⌝ }
+    requires { ⌜ (n ≤ mostTiles) × (t ≤ mostSide) ⌝ }
     requires { ⌜ at + triangle n * (7 + t * 2) ≤ length (now text) ⌝ }
     requires { ⌜ n * n * t ≤ length (now l) ⌝ }
     ensures { λ _. ⌜ now (text .exit) ≡ withPart at (triangle n * (7 + t * 2)) (listRows n t (now (l .entry))) (now (text .entry)) ⌝ }

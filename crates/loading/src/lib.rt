@@ -6,9 +6,10 @@ ghost use Rattle.records.specs.Records.{recordsFrom};
 ghost use Rattle.task_records.specs.Copies.{copied};
 use model::TaskRecord;
 use record_changes::put_record;
+use records::Record;
 
 // Copies the first n records.
-pub fn load(records: &[TaskRecord], flat: &mut [[u8; 5]], n: usize)
+pub fn load(records: &[TaskRecord], flat: &mut [Record], n: usize)
     requires { ⌜ (n ≤ length (now records)) × (n ≤ length (now flat)) ⌝ }
     ensures { λ _. ⌜ recordsFrom (now (flat .exit)) ≡ copied n 0 (now (records .entry)) (recordsFrom (now (flat .entry))) ⌝ }
 {

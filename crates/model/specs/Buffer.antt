@@ -18,7 +18,7 @@ use Rattle.model.specs.Plan.{Plan, Plan·open}
 
 -- ---- parts of the lent slices
 
--- tile A(i,j) of the matrix m: it starts at (i·N + j)·t² and holds t² numbers, row by row
+-- tile A(i,j) of the matrix m: the t² numbers from place (i·N + j)·t² on, in row order
 unfoldable pub tile : ℕ → ℕ → List Float → ℕ → ℕ → List Float
 tile N t m i j = part ((i * N + j) * (t * t)) (t * t) m
 

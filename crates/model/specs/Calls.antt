@@ -53,7 +53,7 @@ pub record RunEnd : Type 0 where
   pub left : Lent
 
 module _ (z : Plan) where
-  -- ---- opening sets lists to 0, records to the numbering and waiting, and W workers to idle
+  -- ---- after an opening every list entry is 0, every task waits in its place of the numbering, and W workers are idle
 
   unfoldable pub opened : ℕ → List Float → Lent
   opened W m = record {
@@ -107,7 +107,7 @@ module _ (z : Plan) where
   unfoldable pub hasWork : Lent → ℕ → Bool
   hasWork s w = worker s w .busy || not (eqb (length (readyTasks s)) 0)
 
-  -- a turn of worker w: an idle one takes the lowest ready task, a busy one does a column
+  -- a turn of worker w: a column of the task that it holds, or else the take of the first task that is ready
   unfoldable pub turn : ℕ → Lent → Lent
   turn w s = elim (worker s w .busy) [ true ↦ advanced w s | false ↦ took w (firstOr (readyTasks s) (λ p. p) 0) s ]
 

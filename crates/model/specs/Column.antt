@@ -117,7 +117,7 @@ pub record Coupled : Type 0 where
   pub lower : List Float
   pub rows : List ℕ
 
--- The candidates: the upper tile's diagonal element, then the lower tile's rows. A place among them is a list entry: 0 for no exchange, r + 1 for lower row r
+-- The candidates: element (c,c) of the upper tile, then column c of the lower one from its first row on. A place among them is a list entry: 0 for no exchange, r + 1 for lower row r
 unfoldable pub coupleCandidates : ℕ → ℕ → List Float → List Float → List Float
 coupleCandidates t c u d = at t u c c ∷ map (λ r. at t d r c) (below t)
 

@@ -60,7 +60,7 @@ module _ (z : Plan) where
   unfoldable pub zeroRows : List Float → List ℕ
   zeroRows m = keep (λ x. isZero (element (z .N) (z .t) m x x)) (below (order z))
 
-  -- overflow at the lowest failed task; else singular at the lowest row with a zero final diagonal; else good
+  -- overflow with the first task that failed; without one singular with the first row whose diagonal element ends as zero; without that good
   unfoldable pub outcome : State → Outcome
   outcome s = firstOr (failedTasks (s .marks)) Overflow (firstOr (zeroRows (s .buffers .matrix)) Singular Good)
 

@@ -13,6 +13,7 @@ use Rattle.model.specs.declared.Answer.the-variants.{Accepted, Refused}
 use Rattle.model.specs.declared.RunAnswer.the-variants.{RunRefused}
 use Rattle.model.specs.declared.OutcomeAnswer.{OutcomeAnswer}
 use Rattle.model.specs.declared.OutcomeAnswer.the-variants.{Known, Unfinished, OutcomeRefused}
+use Rattle.model.specs.Limits.{mostTiles, mostSide, mostWorkers}
 use Rattle.model.specs.Lists.{below, some, keep, firstOr}
 use Rattle.model.specs.Num.{finite}
 use Rattle.model.specs.Tile.{allFinite}
@@ -67,7 +68,7 @@ inside top x = leb 1 x && leb x top
 
 -- 1: N, t or W outside its range
 unfoldable pub badSizes : Sizes → Bool
-badSizes z = not (inside 16 (z .tiles) && inside 16 (z .side) && inside 32 (z .workers))
+badSizes z = not (inside mostTiles (z .tiles) && inside mostSide (z .side) && inside mostWorkers (z .workers))
 
 -- 3: the lowest offset of a number that isn't finite
 unfoldable pub firstNotFinite : List Float → ℕ
@@ -88,22 +89,22 @@ module _ (z : Plan) where
       not (eqb (length (s .buffers .matrix)) (order z * order z) && eqb (length (s .buffers .lists)) (z .N * z .N * z .t)
       && eqb (length (s .records)) (length (z .tasks)) && eqb (length (s .workers)) W)
 
-  -- 4: a record's task differs from the numbering; a mark exceeds 4
+  -- 4: the record in place p isn't that of task p, or its mark is none of the five
   unfoldable pub badRecord : Lent → ℕ → Bool
   badRecord s p =
       let a = task (z .tasks) p in
       let r = getD (s .records) p (recordOf a) in
       not (eqb (r .kind) (kindOf a) && eqb (r .k) (kOf a) && eqb (r .i) (iOf a) && eqb (r .j) (jOf a) && leb (r .mark) 4)
 
-  -- 4: a task with mark 1 isn't held by exactly one worker
+  -- 4: a taken task that no worker holds, or several do
   unfoldable pub badHold : Lent → ℕ → Bool
   badHold s p = eqb (mark (marksOf s) p) taken && not (eqb (length (keep (holds p) (s .workers))) 1)
 
-  -- 4: a worker holds a task that doesn't exist or lacks mark 1, or a column not below t
+  -- 4: what a busy worker holds: there is no such task, it isn't taken, or it has no such column
   unfoldable pub badWorker : Lent → Worker → Bool
   badWorker s h = h .busy && not (ltb (h .task) (length (z .tasks)) && eqb (mark (marksOf s) (h .task)) taken && ltb (h .column) (z .t))
 
-  -- 4: an entry of list (i,j) exceeds t - 1 on the diagonal, t below it or 0 above it
+  -- 4: the most that an entry of list (i,j) may be
   unfoldable pub entryLimit : ℕ → ℕ → ℕ
   entryLimit i j = cond (eqb i j) (z .t - 1) (cond (ltb j i) (z .t) 0)
 

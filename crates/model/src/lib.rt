@@ -1,5 +1,18 @@
 // The types that the definitions in specs/ and the code share. The definitions are document 01's, section by section.
-use worker::Worker;
+use worker::Workers;
+
+// The largest N, t and N·t. The largest W is worker::SLOTS.
+pub const MOST_TILES: usize = 16;
+
+pub const MOST_SIDE: usize = 16;
+
+pub const MOST_ORDER: usize = MOST_TILES * MOST_SIDE;
+
+// The largest N·t that the program takes.
+pub const PROGRAM_ORDER: usize = 48;
+
+// How many tasks the largest N has.
+pub const MOST_TASKS: usize = 1496;
 
 // What a call is told of a system: N tiles a side, each tile t numbers a side, and W workers.
 #[repr(C)]
@@ -59,7 +72,7 @@ pub enum OutcomeAnswer {
     OutcomeRefused(u8, usize),
 }
 
-// One backward row of a solve: its number, or the fact that it left the finite range.
+// What a backward row of a solve gives: a number, or that some number on the way is not finite.
 pub enum Row {
     Number(f64),
     NotFinite,
@@ -81,11 +94,11 @@ pub enum ReadAnswer {
 // What an opening, a take or a column hands back: its answer, and the workers.
 pub struct CallReply {
     pub answer: Answer,
-    pub workers: [Worker; 32],
+    pub workers: Workers,
 }
 
 // What a whole run hands back: its answer, and the workers.
 pub struct RunReply {
     pub answer: RunAnswer,
-    pub workers: [Worker; 32],
+    pub workers: Workers,
 }

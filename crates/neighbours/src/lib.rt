@@ -6,6 +6,7 @@ ghost use Rattle.links.specs.Closed.{key, backMark, aboveMark, leftMark};
 ghost use Rattle.records.specs.Records.{marksFrom};
 ghost use Rattle.marks.specs.Marks.{Recorded};
 ghost use Rattle.neighbours.specs.Linked.{Placed, linkMarks};
+use records::Record;
 use records::mark_of;
 
 // The marks of the task one stage back at the same tile, of the one above in its column, and of the first of its row.
@@ -16,7 +17,7 @@ pub struct LinkMarks {
 }
 
 // The mark of the task at the same tile one stage back: done where there is none.
-fn back_mark(n: usize, records: &[[u8; 5]], p: usize, k: usize, i: usize, j: usize) -> u8
+fn back_mark(n: usize, records: &[Record], p: usize, k: usize, i: usize, j: usize) -> u8
     requires { ⌜ Placed n (now records) p (key k i j) ⌝ }
     ensures { λ r. ⌜ r ≡ backMark n (marksFrom (now (records .entry))) (key k i j) ⌝ }
 {
@@ -28,7 +29,7 @@ fn back_mark(n: usize, records: &[[u8; 5]], p: usize, k: usize, i: usize, j: usi
 }
 
 // The mark of the task above: done in the top row.
-fn above_mark(n: usize, records: &[[u8; 5]], p: usize, k: usize, i: usize, j: usize) -> u8
+fn above_mark(n: usize, records: &[Record], p: usize, k: usize, i: usize, j: usize) -> u8
     requires { ⌜ Placed n (now records) p (key k i j) ⌝ }
     ensures { λ r. ⌜ r ≡ aboveMark n (marksFrom (now (records .entry))) (key k i j) ⌝ }
 {
@@ -39,7 +40,7 @@ fn above_mark(n: usize, records: &[[u8; 5]], p: usize, k: usize, i: usize, j: us
 }
 
 // The mark of the first task of the row: done where this is it.
-fn left_mark(n: usize, records: &[[u8; 5]], p: usize, k: usize, i: usize, j: usize) -> u8
+fn left_mark(n: usize, records: &[Record], p: usize, k: usize, i: usize, j: usize) -> u8
     requires { ⌜ Placed n (now records) p (key k i j) ⌝ }
     ensures { λ r. ⌜ r ≡ leftMark n (marksFrom (now (records .entry))) (key k i j) ⌝ }
 {
@@ -60,7 +61,7 @@ fn larger(x: u8, y: u8) -> usize
 }
 
 // The marks of the tasks linked to task p: done where there is none.
-pub fn link_marks(n: usize, records: &[[u8; 5]], p: usize) -> LinkMarks
+pub fn link_marks(n: usize, records: &[Record], p: usize) -> LinkMarks
     requires { ⌜ Recorded n (now records) p ⌝ }
     ensures { λ r. ⌜ r ≡ linkMarks n (marksFrom (now (records .entry))) p ⌝ }
 {

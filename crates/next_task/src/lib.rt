@@ -12,10 +12,11 @@ ghost use Rattle.next_task.specs.NextTask.{NoneBelow, LowestReady, NoneB
 use marks::is_finished;
 use readiness::is_ready;
 use record_changes::set_mark;
+use records::Record;
 use worker::Worker;
 
 // The next task after p that may be ready: while the first task of a row hasn't finished, no other of the row is. The first, T-1 or T-3, has no j.
-fn candidate_after(n: usize, records: &[[u8; 5]], p: usize) -> usize
+fn candidate_after(n: usize, records: &[Record], p: usize) -> usize
     requires { ⌜ Recorded n (now records) p ⌝ }
     ensures { λ r. ⌜ NoneBetween n (now (records .entry)) p r ⌝ }
 {
@@ -29,7 +30,7 @@ fn candidate_after(n: usize, records: &[[u8; 5]], p: usize) -> usize
 }
 
 // The lowest ready task, where none below `from` is ready: the number of tasks where there is none.
-pub fn lowest_ready(n: usize, records: &[[u8; 5]], from: usize) -> usize
+pub fn lowest_ready(n: usize, records: &[Record], from: usize) -> usize
     requires { ⌜ NoneBelow n (now records) from ⌝ }
     ensures { λ r. ⌜ LowestReady n (now (records .entry)) r ⌝ }
 {
@@ -44,7 +45,7 @@ pub fn lowest_ready(n: usize, records: &[[u8; 5]], from: usize) -> usize
 }
 
 // The worker h takes task p.
-pub fn take_task(records: &mut [[u8; 5]], h: Worker, p: usize) -> Worker
+pub fn take_task(records: &mut [Record], h: Worker, p: usize) -> Worker
     requires { ⌜ (p < length (now records)) × (p < 65536) ⌝ }
     ensures { λ r. ⌜ r ≡ holding p 0 ⌝ }
     ensures { λ _. ⌜ recordsFrom (now (records .exit)) ≡ marked p taken (recordsFrom (now (records .entry))) ⌝ }

@@ -3,6 +3,7 @@
 ghost use mathlib.Core.Path.{_≡_};
 ghost use Prim.Native.Nat.{_+_, _≤_, _<_};
 ghost use lib.ListN.{length};
+ghost use Rattle.model.specs.Limits.{mostTiles};
 ghost use Rattle.model.specs.Task.{tasks};
 ghost use Rattle.links.specs.Closed.{key, In, number};
 
@@ -21,7 +22,7 @@ pub fn first() -> Triple
 
 // The triple of the next task; past the last task it is the triple (n,n,n).
 pub fn next(n: u8, a: Triple) -> Triple
-    requires { ⌜ (n ≤ 16) × In n (key (a .k) (a .i) (a .j)) ⌝ }
+    requires { ⌜ (n ≤ mostTiles) × In n (key (a .k) (a .i) (a .j)) ⌝ }
     ensures { λ r. ⌜ number n (key (r .k) (r .i) (r .j)) ≡ number n (key (a .k) (a .i) (a .j)) + 1 ⌝ }
     ensures { λ r. ⌜ (number n (key (a .k) (a .i) (a .j)) + 1 < length (tasks n) → In n (key (r .k) (r .i) (r .j))) ⌝ }
 {

@@ -14,7 +14,7 @@ use Rattle.model.specs.Plan.{Plan, plan, planOf}
 use Rattle.model.specs.Buffer.{Ended, filled}
 use Rattle.model.specs.Loops.{State, columns, ended, performed, start, loops, outcome}
 use Rattle.model.specs.Old.{oldLatestWriters, oldSpoils, oldEnded, oldPerformed, oldLoops}
-use Rattle.model.specs.Demand.{Demand3}
+use Rattle.demand.specs.Demand.{Demand3}
 use Rattle.links.specs.Closed.{keyAt}
 use Rattle.links.proofs.Order.{length-tasks}
 use Rattle.links.proofs.Summary.{number-back, writers-list, links-writers, few-links, links-in-all}

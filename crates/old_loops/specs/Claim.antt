@@ -15,7 +15,7 @@ use Rattle.model.specs.Old.{oldSpoils, oldLoops}
 use Rattle.model.specs.Calls.{Lent, stateOf, allFinished}
 use Rattle.model.specs.Refusal.{openCall}
 use Rattle.model.specs.History.{Call}
-use Rattle.model.specs.Demand.{end}
+use Rattle.demand.specs.Demand.{end}
 
 module _ (z : Sizes) where
   abbrev N : ℕ

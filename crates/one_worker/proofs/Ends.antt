@@ -1,6 +1,6 @@
 -- An opening, a run with t + 1 calls for each task and the outcome, one after the other, are one worker's whole run, and it ends like the
 -- published loops. Assumes nothing.
-use Prim.Native.Nat.{ℕ, suc, _+_, _*_}
+use Prim.Native.Nat.{ℕ, suc, _+_, _*_, _<_}
 use mathlib.Core.Bool.{Bool, true, false, cond}
 use mathlib.Core.Path.{_≡_, refl, sym, ap, _∙_}
 use mathlib.Core.List.{List, [], _∷_}
@@ -8,38 +8,62 @@ use native.Mathlib.Nat.{mul-comm}
 use native.Mathlib.Numerals.{add-one}
 use native.Mathlib.Omega.{arith}
 use lib.Ieee.{Float}
-use lib.ListN.{length, take}
-use lib.Seq.{length-take-le}
+use lib.ListN.{length}
+use lib.Seq.{ext-getD}
 use borrow.Author.Tests.{le-leb, eq-eqb}
 use Rattle.model.specs.declared.Sizes.{Sizes}
-use Rattle.worker.specs.declared.Worker.{Worker}
+use Rattle.worker.specs.declared.Workers.{Workers}
+use Rattle.model.specs.declared.TaskRecord.{TaskRecord}
 use Rattle.model.specs.declared.Outcome.{Outcome}
 use Rattle.model.specs.declared.Answer.{Answer}
 use Rattle.model.specs.declared.Answer.the-variants.{Accepted}
 use Rattle.model.specs.declared.RunAnswer.{RunAnswer}
 use Rattle.model.specs.declared.RunAnswer.the-variants.{Finished, Spent}
-use Rattle.model.specs.Lists.{inTurn}
-use Rattle.model.specs.Task.{tasks}
+use Rattle.model.specs.Lists.{below, inTurn}
+use Rattle.model.specs.Task.{Task, T-1, tasks}
 use Rattle.model.specs.Plan.{plan, planOf, order}
+use Rattle.model.specs.Links.{task, mark}
 use Rattle.model.specs.Loops.{outcome, loops, State}
-use Rattle.model.specs.Calls.{Lent, RunEnd, stateOf, allFinished, opened, wholeRun}
+use Rattle.model.specs.Calls.{Lent, RunEnd, marksOf, stateOf, recordOf, withMark, allFinished, opened, wholeRun}
 use Rattle.model.specs.Refusal.{Reply, refuse, replied, inside, badSizes, badLengths, openAnswer, openCall, runCall}
 use Rattle.model.specs.History.{leftBy, afterCalls}
 use Rattle.model.specs.History as H
-use Rattle.records.specs.Records.{recordsFrom, marksFrom, lent}
-use Rattle.records.proofs.Laws.{length-records, marks-lent}
+use Rattle.records.specs.Records.{recordsFrom, marksFrom, crew, lent, allLent}
+use Rattle.records.proofs.Laws.{length-records, length-crew, marks-lent}
+use Rattle.laws.proofs.Runs.{length-map-below, getD-map-run}
+use Rattle.run_laws.proofs.Undamaged.{Due}
+use Rattle.demand.proofs.Whole.{Whole, mark-at}
+use Rattle.demand.proofs.Answers.{run-whole}
 use Rattle.demand.proofs.Opening.{opened-by}
 use Rattle.demand.proofs.Theorem.{demand-3}
 use Rattle.demand.proofs.Runs.{run-itself, runs-are-calls}
 use Rattle.demand.proofs.Corollaries.{run-finishes}
-use Rattle.one_worker.specs.Alone.{Lendable, Result, alone, published}
+use Rattle.one_worker.specs.Alone.{Lendable, Result, alone, numbered, published}
 
-module _ (N t : ℕ) (m : List Float) (l : List ℕ) (r : List (List ℕ)) (ws : List Worker) (h : Lendable N t m l r) (slots : length ws ≡ 32) where
+-- ---- records of an undamaged state are the numbering with its marks
+
+due-is : (a : Task) (r : TaskRecord) (m : ℕ) → Due a r → m ≡ r .mark → r ≡ withMark m (recordOf a)
+unfolding withMark recordOf
+due-is a r m h e = λ i. record { kind = h .kind-is i; k = h .k-is i; i = h .i-is i; j = h .j-is i; mark = sym e i }
+
+records-numbered : (z : Sizes) (s : Lent) → Whole z s → s .records ≡ numbered (tasks (z .tiles)) (marksOf s)
+unfolding numbered below
+records-numbered z s h =
+    ext-getD (recordOf (T-1 0)) (s .records) (numbered (tasks (z .tiles)) (marksOf s))
+    (h .stated .records ∙ sym (length-map-below _ (length (tasks (z .tiles)))))
+    (λ p l.
+    let k : p < length (tasks (z .tiles)) = omega (arith, h .stated .records) in
+    let e : 0 + p ≡ p = omega arith in
+    due-is _ _ _ (h .records p k) (mark-at s p)
+    ∙ sym (getD-map-run (λ q. withMark (mark (marksOf s) q) (recordOf (task (tasks (z .tiles)) q))) 0 (length (tasks (z .tiles))) p (recordOf (T-1 0)) k
+    ∙ ap (λ (q : ℕ). withMark (mark (marksOf s) q) (recordOf (task (tasks (z .tiles)) q))) e))
+
+module _ (N t : ℕ) (m : List Float) (l : List ℕ) (r : List (List ℕ)) (ws : Workers) (h : Lendable N t m l r) (one : ws .count ≡ 1) where
   abbrev z : Sizes
   z = record { tiles = N; side = t; workers = 1 }
 
   abbrev s : Lent
-  s = lent m l r ws 1
+  s = allLent m l r ws
 
   -- ---- the opening is accepted
 
@@ -51,10 +75,10 @@ module _ (N t : ℕ) (m : List Float) (l : List ℕ) (r : List (List ℕ)) (ws :
   unfolding badLengths lent plan order
   right-lengths =
       rw (
-        eq-eqb (length m) (N * t * (N * t)) (h .matrix-fits),
-        eq-eqb (length l) (N * N * t) (h .lists-fit),
-        eq-eqb (length (recordsFrom r)) (length (tasks N)) (length-records r ∙ h .records-fit),
-        eq-eqb (length (take 1 ws)) 1 (length-take-le 1 ws (omega arith)),
+        eq-eqb (length m) (N * t * (N * t)) (h .lengths .buffers .matrix-fits),
+        eq-eqb (length l) (N * N * t) (h .lengths .buffers .lists-fit),
+        eq-eqb (length (recordsFrom r)) (length (tasks N)) (length-records r ∙ h .lengths .records-fit),
+        eq-eqb (length (crew (ws .slots) (ws .count))) 1 (length-crew (ws .slots) (ws .count) ∙ one),
       )
 
   opens : openCall z s .answer ≡ Accepted
@@ -95,34 +119,47 @@ module _ (N t : ℕ) (m : List Float) (l : List ℕ) (r : List (List ℕ)) (ws :
 
   -- ---- one after the other
 
-  -- the buffers and the outcome in everything lent
-  told : Lent → Result
-  told e = record { buffers = e .buffers; outcome = outcome (plan N t) (stateOf e) }
+  whole : Whole z (runCall z budget first .left)
+  unfolding afterCalls inTurn leftBy
+  whole = run-whole z (runCall z budget first .left) (demand-3 z s (record { sizes = z; asked = H.wholeRun budget } ∷ []) opens .runs)
 
-  module _ (a : Answer) (l₁ : List ℕ) (r₁ : List (List ℕ)) (ws₁ : List Worker) (opened-to : _≡_ {A = Reply} (record { answer = a; left = lent m l₁ r₁ ws₁ 1 }) (openCall z s))
+  -- what is told of everything lent, and of the loops' state
+  told : Lent → Result
+  told e = record { buffers = e .buffers; records = e .records; outcome = outcome (plan N t) (stateOf e) }
+
+  told-state : State → Result
+  told-state x = record { buffers = x .buffers; records = numbered (tasks N) (x .marks); outcome = outcome (plan N t) x }
+
+  told-whole : told (runCall z budget first .left) ≡ told-state (stateOf (runCall z budget first .left))
+  unfolding told told-state stateOf
+  told-whole =
+      let e = runCall z budget first .left in
+      ap (λ (rs : List TaskRecord). record { buffers = e .buffers; records = rs; outcome = outcome (plan N t) (stateOf e) }) (records-numbered z e whole)
+
+  module _ (a : Answer) (l₁ : List ℕ) (r₁ : List (List ℕ)) (ws₁ : Workers) (opened-to : _≡_ {A = Reply} (record { answer = a; left = allLent m l₁ r₁ ws₁ }) (openCall z s))
       (b : ℕ) (b-is : b ≡ length (tasks N) * (t + 1))
-      (a₂ : RunAnswer) (m₂ : List Float) (l₂ : List ℕ) (r₂ : List (List ℕ)) (ws₂ : List Worker) (ran-to : _≡_ {A = RunEnd} (record { answer = a₂; left = lent m₂ l₂ r₂ ws₂ 1 }) (runCall z b (lent m l₁ r₁ ws₁ 1)))
+      (a₂ : RunAnswer) (m₂ : List Float) (l₂ : List ℕ) (r₂ : List (List ℕ)) (ws₂ : Workers) (ran-to : _≡_ {A = RunEnd} (record { answer = a₂; left = allLent m₂ l₂ r₂ ws₂ }) (runCall z b (allLent m l₁ r₁ ws₁)))
       (o : Outcome) (o-is : (lists : List ℕ) → o ≡ outcome (plan N t) (record { buffers = record { matrix = m₂; lists = lists }; marks = marksFrom r₂ })) where
-    left-is : lent m₂ l₂ r₂ ws₂ 1 ≡ runCall z budget first .left
+    left-is : allLent m₂ l₂ r₂ ws₂ ≡ runCall z budget first .left
     left-is =
         ap (λ (e : RunEnd). e .left) ran-to
-        ∙ ap (λ (k : ℕ). runCall z k (lent m l₁ r₁ ws₁ 1) .left) (b-is ∙ ap (λ (k : ℕ). length (tasks N) * k) (add-one t))
+        ∙ ap (λ (k : ℕ). runCall z k (allLent m l₁ r₁ ws₁) .left) (b-is ∙ ap (λ (k : ℕ). length (tasks N) * k) (add-one t))
         ∙ ap (λ (k : Reply). runCall z budget (k .left) .left) opened-to
 
-    states : outcome (plan N t) (record { buffers = record { matrix = m₂; lists = l₂ }; marks = marksFrom r₂ }) ≡ outcome (plan N t) (stateOf (lent m₂ l₂ r₂ ws₂ 1))
+    states : outcome (plan N t) (record { buffers = record { matrix = m₂; lists = l₂ }; marks = marksFrom r₂ }) ≡ outcome (plan N t) (stateOf (allLent m₂ l₂ r₂ ws₂))
     unfolding stateOf lent
-    states = ap (λ (ms : List ℕ). outcome (plan N t) (record { buffers = record { matrix = m₂; lists = l₂ }; marks = ms })) (sym (marks-lent m₂ l₂ r₂ ws₂ 1))
+    states = ap (λ (ms : List ℕ). outcome (plan N t) (record { buffers = record { matrix = m₂; lists = l₂ }; marks = ms })) (sym (marks-lent m₂ l₂ r₂ (ws₂ .slots) (ws₂ .count)))
 
-    told-is : _≡_ {A = Result} (record { buffers = record { matrix = m₂; lists = l₂ }; outcome = o }) (told (runCall z budget first .left))
+    told-is : _≡_ {A = Result} (record { buffers = record { matrix = m₂; lists = l₂ }; records = recordsFrom r₂; outcome = o }) (told (runCall z budget first .left))
     unfolding told lent
     told-is =
-        ap (λ (k : Outcome). record { buffers = record { matrix = m₂; lists = l₂ }; outcome = k }) (o-is l₂ ∙ states)
+        ap (λ (k : Outcome). record { buffers = record { matrix = m₂; lists = l₂ }; records = recordsFrom r₂; outcome = k }) (o-is l₂ ∙ states)
         ∙ ap told left-is
 
-    pub alone-told : _≡_ {A = Result} (record { buffers = record { matrix = m₂; lists = l₂ }; outcome = o }) (alone (plan N t) m)
+    pub alone-told : _≡_ {A = Result} (record { buffers = record { matrix = m₂; lists = l₂ }; records = recordsFrom r₂; outcome = o }) (alone (plan N t) m)
     unfolding told alone plan
     alone-told = told-is ∙ ap (λ (e : RunEnd). told (e .left)) run-is
 
-    pub published-told : _≡_ {A = Result} (record { buffers = record { matrix = m₂; lists = l₂ }; outcome = o }) (published (plan N t) m)
-    unfolding told published stateOf
-    published-told = told-is ∙ ap (λ (x : State). record { buffers = x .buffers; outcome = outcome (plan N t) x }) like-loops
+    pub published-told : _≡_ {A = Result} (record { buffers = record { matrix = m₂; lists = l₂ }; records = recordsFrom r₂; outcome = o }) (published (plan N t) m)
+    unfolding told-state published plan
+    published-told = told-is ∙ told-whole ∙ ap told-state like-loops

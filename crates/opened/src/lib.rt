@@ -2,22 +2,26 @@
 ghost use mathlib.Core.Path.{_≡_};
 ghost use mathlib.Core.List.{map};
 ghost use Prim.Native.Nat.{_≤_};
-ghost use lib.ListN.{take, drop, replicate};
+ghost use lib.ListN.{replicate};
+ghost use Rattle.model.specs.Lengths.{RecordsFit};
+ghost use Rattle.model.specs.Limits.{mostWorkers};
 ghost use Rattle.model.specs.Task.{tasks};
 ghost use Rattle.model.specs.Calls.{recordOf};
 ghost use Rattle.worker.specs.Holding.{idle};
-ghost use Rattle.records.specs.Records.{recordsFrom};
-ghost use Rattle.checks.specs.Checks.{Sized, RecordsFit};
+ghost use Rattle.records.specs.Records.{recordsFrom, crew, OthersKept};
+ghost use Rattle.checks.specs.Checks.{Sized};
 use model::Sizes;
 use numbering::first;
 use numbering::next;
 use record_changes::put_record;
+use records::Record;
 use task_counts::task_count;
 use waiting_records::record_of;
 use worker::Worker;
+use worker::Workers;
 
 // Sets the records to the numbering and waiting.
-pub fn number_records(z: Sizes, records: &mut [[u8; 5]])
+pub fn number_records(z: Sizes, records: &mut [Record])
     requires { ⌜ Sized z × RecordsFit z (now records) ⌝ }
     ensures { λ _. ⌜ recordsFrom (now (records .exit)) ≡ map recordOf (tasks (z .tiles)) ⌝ }
 {
@@ -32,17 +36,20 @@ pub fn number_records(z: Sizes, records: &mut [[u8; 5]])
     }
 }
 
-// Sets the first `count` workers to idle.
-pub fn idle_workers(workers: [Worker; 32], count: usize) -> [Worker; 32]
-    requires { ⌜ count ≤ 32 ⌝ }
-    ensures { λ r. ⌜ take count r ≡ replicate count idle ⌝ }
-    ensures { λ r. ⌜ drop count r ≡ drop count workers ⌝ }
+// Sets the workers to idle.
+pub fn idle_workers(workers: Workers) -> Workers
+    requires { ⌜ workers .count ≤ mostWorkers ⌝ }
+    ensures { λ r. ⌜ crew (r .slots) (r .count) ≡ replicate (workers .count) idle ⌝ }
+    ensures { λ r. ⌜ OthersKept workers r ⌝ }
 {
-    let mut left = workers;
+    let mut left = workers.slots;
     let mut v = 0;
-    while v < count {
+    while v < workers.count {
         left[v] = Worker::idle();
         v += 1;
     }
-    left
+    Workers {
+        slots: left,
+        count: workers.count,
+    }
 }

@@ -7,8 +7,10 @@ use model::OutcomeAnswer;
 use model::Sizes;
 use model::TaskRecord;
 use outcome_part::outcome_part;
+use records::RECORD;
+use task_records::COPIES;
 use task_records::looked_at;
-use worker::Worker;
+use worker::Workers;
 
 // The outcome once every task is finished, and before that the lowest unfinished task. Nothing is changed.
 pub fn outcome(
@@ -16,11 +18,11 @@ pub fn outcome(
     matrix: &[f64],
     lists: &[u8],
     records: &[TaskRecord],
-    workers: [Worker; 32],
+    workers: Workers,
 ) -> OutcomeAnswer
-    ensures { λ r. ⌜ r ≡ outcomeCall z (whole (now (matrix .entry)) (now (lists .entry)) (now (records .entry)) workers (z .workers)) ⌝ }
+    ensures { λ r. ⌜ r ≡ outcomeCall z (whole (now (matrix .entry)) (now (lists .entry)) (now (records .entry)) workers) ⌝ }
 {
-    let mut flat = [[0; 5]; 1497];
+    let mut flat = [[0; RECORD]; COPIES];
     let n = looked_at(records.len());
     load(records, &mut flat, n);
     outcome_part(z, matrix, lists, &flat, n, workers)

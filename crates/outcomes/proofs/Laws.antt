@@ -9,6 +9,7 @@ use Rattle.model.specs.declared.Sizes.{Sizes}
 use Rattle.worker.specs.declared.Worker.{Worker}
 use Rattle.model.specs.declared.Outcome.{Outcome}
 use Rattle.model.specs.declared.OutcomeAnswer.the-variants.{Known, Unfinished, OutcomeRefused}
+use Rattle.model.specs.Lengths.{LentFits}
 use Rattle.model.specs.Lists.{below, keep, firstOr}
 use Rattle.model.specs.Plan.{planOf}
 use Rattle.model.specs.Links.{mark, finished}
@@ -18,13 +19,13 @@ use Rattle.model.specs.Refusal.{outcomeReplied, badSizes, badLengths, unfinishe
 use Rattle.records.specs.Records.{marksFrom, lent}
 use Rattle.finite_numbers.specs.declared.Lowest.{Lowest}
 use Rattle.finite_numbers.specs.declared.Lowest.the-variants.{None, At}
-use Rattle.answers.proofs.Refusals.{refuses, passes, Fit, lengths-fit}
+use Rattle.answers.proofs.Refusals.{refuses, passes, lengths-fit}
 use Rattle.unfinished.proofs.First.{from-at, from-none}
 use Rattle.unfinished.proofs.Finished.{unfinished-is}
 
-module _ (z : Sizes) (m : List Float) (l : List ℕ) (r : List (List ℕ)) (ws : List Worker) where
+module _ (z : Sizes) (m : List Float) (l : List ℕ) (r : List (List ℕ)) (ws : List Worker) (count : ℕ) where
   abbrev old : Lent
-  old = lent m l r ws (z .workers)
+  old = lent m l r ws count
 
   pub answer-1 : (a : Bool) → a ≡ badSizes z → a ≡ true → OutcomeRefused 1 0 ≡ outcomeCall z old
   unfolding outcomeCall outcomeReplied
@@ -42,8 +43,8 @@ module _ (z : Sizes) (m : List Float) (l : List ℕ) (r : List (List ℕ)) (ws :
       found-then =
           ap (λ k. outcomeReplied k (outcomeFound z old)) (sym (passes 1 0 (badSizes z) _ (sym e ∙ q) ∙ passes 2 0 (badLengths (planOf z) (z .workers) old) _ (sym f ∙ p)))
 
-      pub fits : Fit z m l r
-      fits = lengths-fit z m l r ws (sym f ∙ p)
+      pub fits : LentFits z m l r
+      fits = lengths-fit z m l r ws count (sym f ∙ p)
 
       abbrev open-tasks : ℕ → Bool
       open-tasks k = not (finished (mark (marksFrom r) k))
@@ -51,9 +52,9 @@ module _ (z : Sizes) (m : List Float) (l : List ℕ) (r : List (List ℕ)) (ws :
       module _ (g : Lowest) (h : g ≡ firstOr (keep open-tasks (below (length r))) At None) where
         pub answer-3 : (k : ℕ) → g ≡ At k → Unfinished k ≡ outcomeCall z old
         unfolding outcomeFound
-        answer-3 k i = sym (from-at Unfinished _ (unfinished (planOf z) old) g k (h ∙ ap (λ xs. firstOr xs At None) (unfinished-is z m l r ws (fits .records-fit))) i) ∙ found-then
+        answer-3 k i = sym (from-at Unfinished _ (unfinished (planOf z) old) g k (h ∙ ap (λ xs. firstOr xs At None) (unfinished-is z m l r ws count (fits .records-fit))) i) ∙ found-then
 
         pub answer-4 : (o : Outcome) → g ≡ None → o ≡ outcome (planOf z) (record { buffers = record { matrix = m; lists = l }; marks = marksFrom r }) → Known o ≡ outcomeCall z old
         unfolding outcomeFound stateOf marksOf lent marksFrom
         answer-4 o i j =
-            ap Known j ∙ sym (from-none Unfinished _ (unfinished (planOf z) old) g (h ∙ ap (λ xs. firstOr xs At None) (unfinished-is z m l r ws (fits .records-fit))) i) ∙ found-then
+            ap Known j ∙ sym (from-none Unfinished _ (unfinished (planOf z) old) g (h ∙ ap (λ xs. firstOr xs At None) (unfinished-is z m l r ws count (fits .records-fit))) i) ∙ found-then

@@ -2,6 +2,7 @@
 ghost use mathlib.Core.Path.{_≡_};
 ghost use Prim.Native.Nat.{_+_, _*_, _<_, _≤_};
 ghost use lib.ListN.{length};
+ghost use Rattle.model.specs.Limits.{mostSide};
 ghost use Rattle.model.specs.Column.{search};
 ghost use Rattle.pivot_search.specs.Candidates.{candidates};
 use model::Pivot;
@@ -9,7 +10,7 @@ use numbers::magnitude_of;
 
 // The candidate of largest magnitude, the first on a tie, among the number at first and count numbers from rest on, stride apart.
 pub fn search_pivot(m: &[f64], first: usize, rest: usize, stride: usize, count: usize) -> Pivot
-    requires { ⌜ (first < length (now m)) × (stride ≤ 16) × (count ≤ 16) × (rest + count * stride < length (now m) + stride) × (length (now m) ≤ 65536) ⌝ }
+    requires { ⌜ (first < length (now m)) × (stride ≤ mostSide) × (count ≤ mostSide) × (rest + count * stride < length (now m) + stride) × (length (now m) ≤ 65536) ⌝ }
     ensures { λ r. ⌜ r ≡ search (candidates (now (m .entry)) first rest stride count) ⌝ }
 {
     let mut place = 0;

@@ -1,11 +1,12 @@
 // Where tiles and row lists stand in the lent slices, and a list entry as an index.
 ghost use mathlib.Core.Path.{_≡_};
 ghost use Prim.Native.Nat.{_<_, _≤_};
+ghost use Rattle.model.specs.Limits.{mostTiles, mostSide};
 ghost use Rattle.column_laws.specs.Steps.{tileStart, listStart};
 
 // Where tile (i,j) starts in the matrix.
 pub fn tile_start(n: usize, t: usize, i: usize, j: usize) -> usize
-    requires { ⌜ (n ≤ 16) × (t ≤ 16) × (i < n) × (j < n) ⌝ }
+    requires { ⌜ (n ≤ mostTiles) × (t ≤ mostSide) × (i < n) × (j < n) ⌝ }
     ensures { λ r. ⌜ r ≡ tileStart n t i j ⌝ }
 {
     (i * n + j) * (t * t)
@@ -13,7 +14,7 @@ pub fn tile_start(n: usize, t: usize, i: usize, j: usize) -> usize
 
 // Where row list (i,j) starts in the lists.
 pub fn list_start(n: usize, t: usize, i: usize, j: usize) -> usize
-    requires { ⌜ (n ≤ 16) × (t ≤ 16) × (i < n) × (j < n) ⌝ }
+    requires { ⌜ (n ≤ mostTiles) × (t ≤ mostSide) × (i < n) × (j < n) ⌝ }
     ensures { λ r. ⌜ r ≡ listStart n t i j ⌝ }
 {
     (i * n + j) * t

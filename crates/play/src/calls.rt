@@ -13,7 +13,8 @@ use play_fields::Call;
 use play_fields::call_of;
 use play_fields::two;
 use play_lends::Lent;
-use worker::Worker;
+use records::Record;
+use worker::Workers;
 
 const OPEN: u8 = 17;
 
@@ -29,7 +30,7 @@ const OUTCOME: u8 = 22;
 
 // What a call leaves: the workers, and what it tells.
 struct Played {
-    workers: [Worker; 32],
+    workers: Workers,
     told: Told,
 }
 
@@ -56,8 +57,8 @@ fn play_call(
     call: Call,
     matrix: &mut [f64],
     lists: &mut [u8],
-    records: &mut [[u8; 5]],
-    workers: [Worker; 32],
+    records: &mut [Record],
+    workers: Workers,
 ) -> Played {
     let kind = call.kind;
     let z = call.sizes;
@@ -93,8 +94,8 @@ pub fn answer_line(
     line: &[u8],
     matrix: &mut [f64],
     lists: &mut [u8],
-    records: &mut [[u8; 5]],
-    workers: [Worker; 32],
+    records: &mut [Record],
+    workers: Workers,
     right: &mut [f64],
     answers: &mut [f64],
     out: &mut [u8],

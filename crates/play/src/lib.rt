@@ -9,14 +9,17 @@ use play_fields::at_most;
 use play_fields::line_end;
 use play_lends::Lent;
 use play_lends::lend;
+use records::Record;
+use worker::SLOTS;
 use worker::Worker;
+use worker::Workers;
 
 // Plays a line on the fronts of the buffers that are lent; what it lends counts at once.
 fn play_line(
     line: &[u8],
     matrix: &mut [f64],
     lists: &mut [u8],
-    records: &mut [[u8; 5]],
+    records: &mut [Record],
     before: Lent,
     right: &mut [f64],
     answers: &mut [f64],
@@ -44,16 +47,20 @@ pub fn play(
     text: &[u8],
     matrix: &mut [f64],
     lists: &mut [u8],
-    records: &mut [[u8; 5]],
+    records: &mut [Record],
     right: &mut [f64],
     answers: &mut [f64],
     out: &mut [u8],
 ) {
+    let workers = Workers {
+        slots: [Worker::idle(); SLOTS],
+        count: 0,
+    };
     let mut lent = Lent {
         matrix: 0,
         lists: 0,
         records: 0,
-        workers: [Worker::idle(); 32],
+        workers,
         answered: 0,
     };
     let mut at = 0;

@@ -9,15 +9,16 @@ use play_answers::put_told;
 use play_fields::call_of;
 use play_lends::Lent;
 use play_lends::lend_numbers;
-use worker::Worker;
+use records::Record;
+use worker::Workers;
 
 // Solves, and writes what it tells and the numbers of the answers to the front of out; the length of that.
 fn answer_solve(
     z: Sizes,
     matrix: &[f64],
     lists: &[u8],
-    records: &[[u8; 5]],
-    workers: [Worker; 32],
+    records: &[Record],
+    workers: Workers,
     right: &[f64],
     answers: &mut [f64],
     out: &mut [u8],
@@ -36,8 +37,8 @@ pub fn solve_line(
     line: &[u8],
     matrix: &[f64],
     lists: &[u8],
-    records: &[[u8; 5]],
-    workers: [Worker; 32],
+    records: &[Record],
+    workers: Workers,
     right: &mut [f64],
     answers: &mut [f64],
     out: &mut [u8],

@@ -5,6 +5,7 @@ use host_answers::Told;
 use libc::STDOUT_FILENO;
 use model::TaskRecord;
 use play_fields::at_most;
+use records::Record;
 use records::record_at;
 use script::bits;
 use script::mixed;
@@ -13,7 +14,9 @@ use script::mixed_numbers;
 use script::put;
 use script::set_byte;
 use script::wide;
+use worker::SLOTS;
 use worker::Worker;
+use worker::Workers;
 
 // Writes what a call tells to the front of out, 36 digits.
 pub fn put_told(out: &mut [u8], told: Told) {
@@ -44,7 +47,7 @@ fn mixed_record(h: u64, task: TaskRecord) -> u64 {
     )
 }
 
-fn mixed_records(h: u64, records: &[[u8; 5]]) -> u64 {
+fn mixed_records(h: u64, records: &[Record]) -> u64 {
     let mut r = mixed(h, records.len() as u64);
     let mut k = 0;
     while k < records.len() {
@@ -62,11 +65,12 @@ fn mixed_worker(h: u64, w: Worker) -> u64 {
     mixed(mixed(r, w.task as u64), w.column as u64)
 }
 
-fn mixed_workers(h: u64, workers: [Worker; 32]) -> u64 {
-    let mut r = h;
+fn mixed_workers(h: u64, workers: Workers) -> u64 {
+    let slots = workers.slots;
+    let mut r = mixed(h, workers.count as u64);
     let mut k = 0;
-    while k < 32 {
-        r = mixed_worker(r, workers[k]);
+    while k < SLOTS {
+        r = mixed_worker(r, slots[k]);
         k += 1;
     }
     r
@@ -76,8 +80,8 @@ fn mixed_workers(h: u64, workers: [Worker; 32]) -> u64 {
 pub fn put_digest(
     matrix: &[f64],
     lists: &[u8],
-    records: &[[u8; 5]],
-    workers: [Worker; 32],
+    records: &[Record],
+    workers: Workers,
     out: &mut [u8],
     n: usize,
 ) -> usize

@@ -4,9 +4,12 @@ ghost use lib.ListN.{length};
 use model::Sizes;
 use model::TaskRecord;
 use record_changes::put_record;
+use records::Record;
 use script::float;
 use script::number;
+use worker::SLOTS;
 use worker::Worker;
+use worker::Workers;
 
 // The smaller of the two.
 pub fn at_most(x: u64, top: usize) -> usize
@@ -111,7 +114,7 @@ fn record(line: &[u8], at: usize) -> TaskRecord
 }
 
 // Records of ten digits each, to the first n places.
-pub fn read_records(line: &[u8], at: usize, n: usize, records: &mut [[u8; 5]])
+pub fn read_records(line: &[u8], at: usize, n: usize, records: &mut [Record])
     requires { ⌜ (at ≤ 16777216) × (n ≤ 65600) × (n ≤ length (now records)) ⌝ }
 {
     let mut k = 0;
@@ -133,15 +136,18 @@ fn worker(line: &[u8], at: usize) -> Worker
     }
 }
 
-// The 32 worker slots from a place of the line on.
-pub fn read_workers(line: &[u8], at: usize) -> [Worker; 32]
+// The workers from a place of the line on: a count of eight digits, and the slots.
+pub fn read_workers(line: &[u8], at: usize) -> Workers
     requires { ⌜ at ≤ 16777216 ⌝ }
 {
-    let mut workers = [Worker::idle(); 32];
+    let mut slots = [Worker::idle(); SLOTS];
     let mut k = 0;
-    while k < 32 {
-        workers[k] = worker(line, at + k * 8);
+    while k < SLOTS {
+        slots[k] = worker(line, at + 8 + k * 8);
         k += 1;
     }
-    workers
+    Workers {
+        slots,
+        count: number(line, at, 8) as usize,
+    }
 }

@@ -7,8 +7,9 @@ use play_fields::read_numbers;
 use play_fields::read_records;
 use play_fields::read_workers;
 use play_fields::two;
+use records::Record;
 use script::number;
-use worker::Worker;
+use worker::Workers;
 
 const LEND: u8 = 16;
 
@@ -17,7 +18,7 @@ pub struct Lent {
     pub matrix: usize,
     pub lists: usize,
     pub records: usize,
-    pub workers: [Worker; 32],
+    pub workers: Workers,
     pub answered: usize,
 }
 
@@ -52,7 +53,7 @@ fn lend_bytes(line: &[u8], at: usize, l: &mut [u8]) -> usize
     n
 }
 
-fn lend_records(line: &[u8], at: usize, records: &mut [[u8; 5]]) -> usize
+fn lend_records(line: &[u8], at: usize, records: &mut [Record]) -> usize
     requires { ⌜ at ≤ 8388608 ⌝ }
     ensures { λ r. ⌜ (r ≤ 65600) × (r ≤ length (now (records .exit))) ⌝ }
 {
@@ -66,7 +67,7 @@ pub fn lend(
     line: &[u8],
     matrix: &mut [f64],
     lists: &mut [u8],
-    records: &mut [[u8; 5]],
+    records: &mut [Record],
     lent: Lent,
 ) -> Lent {
     if two(line, 0) != LEND {

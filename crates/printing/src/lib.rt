@@ -4,6 +4,7 @@ ghost use Prim.Native.Nat.{_≤_};
 ghost use lib.ListN.{length};
 ghost use Rattle.model.specs.Read.{program};
 ghost use Rattle.system_printed.specs.Print.{printResult};
+use model::PROGRAM_ORDER;
 use model::ReadAnswer;
 use model::WriteAnswer;
 use refusal_written::write_refusal;
@@ -16,7 +17,7 @@ pub fn print_result(text: &[u8], out: &mut [u8]) -> WriteAnswer
     ensures { λ r. ⌜ record { answer = r; left = now (out .exit) } ≡ printResult (now (text .entry)) (now (out .entry)) ⌝ }
     ensures { λ _. ⌜ length (program (now (text .entry))) ≤ 65536 ⌝ }
 {
-    match check_system(text, 48) {
+    match check_system(text, PROGRAM_ORDER) {
         ReadAnswer::SystemRead(tiles, side) => print_system(text, tiles, side, out),
         ReadAnswer::ReadRefused(n, x) => write_refusal(n, x, out),
         // A system's check never answers this.

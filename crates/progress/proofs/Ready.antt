@@ -23,10 +23,10 @@ pub record Ready (z : Sizes) (i k : ℕ) (m : List Float) (l : List ℕ) : Type 
 pub ready : {z : Sizes} {m : List Float} {l : List ℕ} → Solvable z m l → (i k : ℕ) → i < z .tiles → k < z .tiles → Ready z i k m l
 ready {z} {m} {l} s i k hi hk = record {
   square = square-most (z .side) (s .side-most);
-  numbers-few = omega (arith, s .matrix-long, matrix-most (z .tiles) (z .side) (s .tiles-most) (s .side-most));
-  lists-few = omega (arith, s .lists-long, lists-most (z .tiles) (z .side) (s .tiles-most) (s .side-most));
-  room = omega (arith, s .matrix-long, place-room (z .tiles) (z .side * z .side) i k hi hk);
-  list-room = omega (arith, s .lists-long, place-room (z .tiles) (z .side) i k hi hk);
+  numbers-few = omega (arith, s .lengths .matrix-fits, matrix-most (z .tiles) (z .side) (s .tiles-most) (s .side-most));
+  lists-few = omega (arith, s .lengths .lists-fit, lists-most (z .tiles) (z .side) (s .tiles-most) (s .side-most));
+  room = omega (arith, s .lengths .matrix-fits, place-room (z .tiles) (z .side * z .side) i k hi hk);
+  list-room = omega (arith, s .lengths .lists-fit, place-room (z .tiles) (z .side) i k hi hk);
 }
 
 -- part i of the right side, and how long that is

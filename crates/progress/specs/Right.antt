@@ -6,6 +6,8 @@ use mathlib.Core.List.{List}
 use lib.ListN.{length, getD}
 use lib.Ieee.{Float}
 use Rattle.model.specs.declared.Sizes.{Sizes}
+use Rattle.model.specs.Lengths.{BuffersFit}
+use Rattle.model.specs.Limits.{mostTiles, mostSide}
 use Rattle.model.specs.Lists.{below, inTurn}
 use Rattle.model.specs.Tile.{allFinite}
 use Rattle.model.specs.Task.{after}
@@ -18,10 +20,9 @@ use Rattle.progress.specs.declared.Progress.the-variants.{Going, Stopped
 
 -- the factored matrix and its lists: as long as the sizes say, with entries in range
 pub record Solvable (z : Sizes) (m : List Float) (l : List ℕ) : Type 0 where
-  pub tiles-most : z .tiles ≤ 16
-  pub side-most : z .side ≤ 16
-  pub matrix-long : length m ≡ z .tiles * z .side * (z .tiles * z .side)
-  pub lists-long : length l ≡ z .tiles * z .tiles * z .side
+  pub tiles-most : z .tiles ≤ mostTiles
+  pub side-most : z .side ≤ mostSide
+  pub lengths : BuffersFit z m l
   pub diagonal-entries : (k x : ℕ) → k < z .tiles → x < z .side → getD l (listStart (z .tiles) (z .side) k k + x) 0 < z .side
   pub lower-entries : (i k x : ℕ) → k < i → i < z .tiles → x < z .side → getD l (listStart (z .tiles) (z .side) i k + x) 0 ≤ z .side
 

@@ -6,9 +6,10 @@ ghost use Rattle.records.specs.Records.{marksFrom};
 ghost use Rattle.marks.specs.Marks.{Recorded};
 use marks::is_finished;
 use neighbours::link_marks;
+use records::Record;
 
 // Whether task p is ready.
-pub fn is_ready(n: usize, records: &[[u8; 5]], p: usize) -> bool
+pub fn is_ready(n: usize, records: &[Record], p: usize) -> bool
     requires { ⌜ Recorded n (now records) p ⌝ }
     ensures { λ r. ⌜ r ≡ ready (tasks n) (marksFrom (now (records .entry))) p ⌝ }
 {

@@ -5,9 +5,10 @@ ghost use lib.ListN.{length, set};
 ghost use Rattle.model.specs.Calls.{marked};
 ghost use Rattle.records.specs.Records.{recordsFrom};
 use model::TaskRecord;
+use records::Record;
 
 // Gives task p another mark.
-pub fn set_mark(records: &mut [[u8; 5]], p: usize, mark: u8)
+pub fn set_mark(records: &mut [Record], p: usize, mark: u8)
     requires { ⌜ p < length (now records) ⌝ }
     ensures { λ _. ⌜ recordsFrom (now (records .exit)) ≡ marked p mark (recordsFrom (now (records .entry))) ⌝ }
     ensures { λ _. ⌜ length (now (records .exit)) ≡ length (now (records .entry)) ⌝ }
@@ -17,7 +18,7 @@ pub fn set_mark(records: &mut [[u8; 5]], p: usize, mark: u8)
 }
 
 // Puts a record in the place of task p's.
-pub fn put_record(records: &mut [[u8; 5]], p: usize, task: TaskRecord)
+pub fn put_record(records: &mut [Record], p: usize, task: TaskRecord)
     requires { ⌜ p < length (now records) ⌝ }
     ensures { λ _. ⌜ recordsFrom (now (records .exit)) ≡ set (recordsFrom (now (records .entry))) p task ⌝ }
     ensures { λ _. ⌜ length (now (records .exit)) ≡ length (now (records .entry)) ⌝ }

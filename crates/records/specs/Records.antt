@@ -1,11 +1,15 @@
 -- Task records as they are lent, five bytes each: kind, k, i, j and mark; and everything lent to a call, as the definitions have it.
 -- Assumes nothing.
 use Prim.Native.Nat.{ℕ}
+use mathlib.Core.Path.{_≡_}
 use mathlib.Core.List.{List, map}
-use lib.ListN.{getD, take}
+use lib.ListN.{getD, drop}
 use lib.Ieee.{Float}
 use Rattle.model.specs.declared.TaskRecord.{TaskRecord}
 use Rattle.worker.specs.declared.Worker.{Worker}
+use Rattle.worker.specs.declared.Workers.{Workers}
+use Rattle.worker.specs.Holding.{idle}
+use Rattle.model.specs.Lists.{table}
 use Rattle.model.specs.Calls.{Lent}
 
 -- the record that five bytes hold
@@ -22,10 +26,23 @@ marksFrom l = map (λ r. r .mark) (recordsFrom l)
 abbrev pub blank : TaskRecord
 blank = record { kind = 0; k = 0; i = 0; j = 0; mark = 0 }
 
--- what is lent: matrix, lists, records, and the first W of the worker slots
+-- W workers, each as its slot has it; one without a slot is idle
+unfoldable pub crew : List Worker → ℕ → List Worker
+crew slots W = table W (λ w. getD slots w idle)
+
+-- what is lent: matrix, lists, records, and W workers
 unfoldable pub lent : List Float → List ℕ → List (List ℕ) → List Worker → ℕ → Lent
 lent matrix lists records slots W = record {
   buffers = record { matrix = matrix; lists = lists };
   records = recordsFrom records;
-  workers = take W slots;
+  workers = crew slots W;
 }
+
+-- the same with the workers as a call is handed them
+abbrev pub allLent : List Float → List ℕ → List (List ℕ) → Workers → Lent
+allLent matrix lists records ws = lent matrix lists records (ws .slots) (ws .count)
+
+-- a call keeps the count of the workers, and the slots beyond it
+pub record OthersKept (before after : Workers) : Type 0 where
+  pub same-count : after .count ≡ before .count
+  pub same-slots : drop (before .count) (after .slots) ≡ drop (before .count) (before .slots)

@@ -6,8 +6,13 @@ ghost use Rattle.model.specs.Links.{mark as markAt};
 ghost use Rattle.records.specs.Records.{recordsFrom, marksFrom, blank};
 use model::TaskRecord;
 
+// The bytes of a task record as lent: kind, k, i, j and mark.
+pub const RECORD: usize = 5;
+
+pub type Record = [u8; RECORD];
+
 // The record of task p.
-pub fn record_at(records: &[[u8; 5]], p: usize) -> TaskRecord
+pub fn record_at(records: &[Record], p: usize) -> TaskRecord
     requires { ⌜ p < length (now records) ⌝ }
     ensures { λ r. ⌜ r ≡ getD (recordsFrom (now (records .entry))) p blank ⌝ }
 {
@@ -22,7 +27,7 @@ pub fn record_at(records: &[[u8; 5]], p: usize) -> TaskRecord
 }
 
 // The mark of task p.
-pub fn mark_of(records: &[[u8; 5]], p: usize) -> u8
+pub fn mark_of(records: &[Record], p: usize) -> u8
     requires { ⌜ p < length (now records) ⌝ }
     ensures { λ r. ⌜ r ≡ markAt (marksFrom (now (records .entry))) p ⌝ }
 {

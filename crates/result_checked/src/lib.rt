@@ -2,6 +2,7 @@
 ghost use mathlib.Core.Path.{_≡_};
 ghost use Prim.Native.Nat.{_≤_};
 ghost use lib.ListN.{length};
+ghost use Rattle.model.specs.Limits.{mostSide};
 ghost use Rattle.model.specs.Read.{resultFrames};
 ghost use Rattle.frames_read.specs.Follow.{follow};
 ghost use Rattle.system_checked.specs.Files.{start};
@@ -14,7 +15,7 @@ use lines_read::Due;
 
 // The lines of a result after an accepted header: tiles, lists and the outcome.
 pub fn check_result_lines(text: &[u8], tiles: usize, side: usize) -> Step
-    requires { ⌜ (7 ≤ length (now text)) × (side ≤ 16) ⌝ }
+    requires { ⌜ (7 ≤ length (now text)) × (side ≤ mostSide) ⌝ }
     ensures { λ r. ⌜ r ≡ follow side (now (text .entry)) (resultFrames tiles) start ⌝ }
 {
     match check_tiles(text, Cursor { at: 7, line: 2 }, tiles, side) {

@@ -5,6 +5,7 @@ ghost use Rattle.system_checked.specs.Files.{Headed};
 use header_read::Header;
 use header_read::check_header;
 use model::Answer;
+use model::MOST_ORDER;
 use model::ReadAnswer;
 use result_checked::check_result_lines;
 use result_loaded::load_result;
@@ -38,7 +39,7 @@ fn read_result_lines(
 pub fn read_result(text: &[u8], matrix: &mut [f64], lists: &mut [u8]) -> ReadAnswer
     ensures { λ r. ⌜ record { answer = r; matrix = now (matrix .exit); lists = now (lists .exit) } ≡ readResult (now (text .entry)) (now (matrix .entry)) (now (lists .entry)) ⌝ }
 {
-    match check_header(text, 256) {
+    match check_header(text, MOST_ORDER) {
         Header::Shape(tiles, side) => read_result_lines(text, tiles, side, matrix, lists),
         Header::Unread(n, x) => ReadAnswer::ReadRefused(n, x),
     }

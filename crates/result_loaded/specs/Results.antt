@@ -3,6 +3,7 @@ use Prim.Native.Nat.{ℕ, _+_, _-_, _*_, _≤_}
 use mathlib.Core.List.{List}
 use lib.ListN.{length}
 use Rattle.model.specs.declared.ReadAnswer.the-variants.{ResultRead}
+use Rattle.model.specs.Limits.{mostTiles, mostSide}
 use Rattle.model.specs.Read.{ResultReading, outcomeIn}
 use Rattle.lines_read.specs.Line.{LineOfDigits}
 use Rattle.numbers_read.specs.Decoded.{lineAt, tileSize, TileLines, tilesFrom}
@@ -18,7 +19,7 @@ outcomeText text = lineAt (length text - 9) (length text - (length text - 9)) te
 
 -- a text whose lines are those of a result
 pub record ResultLines (N t : ℕ) (text : List ℕ) : Type 0 where
-  pub small : (N ≤ 16) × (t ≤ 16)
+  pub small : (N ≤ mostTiles) × (t ≤ mostSide)
   pub tiles : TileLines (t * t) (N * N) 7 text
   pub lists : ListLines t (above N) (listsStart N t) text
   pub long : 9 ≤ length text

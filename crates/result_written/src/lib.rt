@@ -2,6 +2,7 @@
 ghost use mathlib.Core.Path.{_≡_};
 ghost use Prim.Native.Nat.{_*_, _≤_};
 ghost use lib.ListN.{length};
+ghost use Rattle.model.specs.Limits.{mostTiles, mostSide};
 ghost use Rattle.model.specs.Lists.{withPart};
 ghost use Rattle.model.specs.Plan.{plan};
 ghost use Rattle.model.specs.Text.{resultText, writeResult};
@@ -10,14 +11,14 @@ use lines_written::put_outcome;
 use lists_written::put_lists;
 use model::Outcome;
 use model::WriteAnswer;
-use rows_written::sizes::bad_shape;
 use rows_written::sizes::result_length;
 use rows_written::sizes::system_length;
+use shapes::bad_shape;
 use system_written::put_system;
 
 // Writes the text of a result.
 fn put_result(text: &mut [u8], m: &[f64], l: &[u8], n: usize, t: usize, outcome: Outcome)
-    requires { ⌜ (n ≤ 16) × (t ≤ 16) ⌝ }
+    requires { ⌜ (n ≤ mostTiles) × (t ≤ mostSide) ⌝ }
     requires { ⌜ resultLength n t ≤ length (now text) ⌝ }
     requires { ⌜ n * n * (t * t) ≤ length (now m) ⌝ }
     requires { ⌜ n * n * t ≤ length (now l) ⌝ }

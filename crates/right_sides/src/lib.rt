@@ -1,5 +1,7 @@
-// The right side passed through T-2 and T-4 as one more tile column, of width 1.
+// Every T-2 and T-4 done to the right side, which is for them a tile column with one column of numbers.
+ghost use mathlib.Core.Path.{_≡_};
 ghost use Prim.Native.Nat.{_<_};
+ghost use lib.ListN.{length};
 ghost use Rattle.model.specs.Lists.{inTurn};
 ghost use Rattle.model.specs.Plan.{planOf};
 ghost use Rattle.model.specs.Task.{after, tasks};
@@ -92,12 +94,13 @@ fn stage(z: Sizes, matrix: &[f64], lists: &[u8], y: &mut [f64], k: usize) -> Pro
 }
 
 // Passes the right side y through the T-2 and T-4 of all tasks in number order. Where a computed number isn't finite the place is told,
-// k in a T-2 and i in a T-4, and y is left as far as it came.
+// k in a T-2 and i in a T-4, and what is left in y is free but for its length.
 pub fn pass(z: Sizes, matrix: &[f64], lists: &[u8], y: &mut [f64]) -> Progress
     requires { ⌜ Solvable z (now matrix) (now lists) ⌝ }
     requires { ⌜ RightSide z (now y) ⌝ }
     ensures { λ r. ⌜ Passing r (now (y .exit))
         (inTurn (passOf (planOf z) (record { matrix = now (matrix .entry); lists = now (lists .entry) })) (tasks (z .tiles)) (going (now (y .entry)))) ⌝ }
+    ensures { λ _. ⌜ length (now (y .exit)) ≡ length (now (y .entry)) ⌝ }
 {
     let n = z.tiles;
     let mut k = 0;

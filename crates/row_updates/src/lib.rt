@@ -6,6 +6,7 @@ ghost use mathlib.Core.Logic.{_⊎_};
 ghost use Prim.Native.Nat.{_+_, _*_, _≤_, _<_};
 ghost use lib.ListN.{length, getD};
 ghost use lib.Ieee.{nan};
+ghost use Rattle.model.specs.Limits.{mostSide};
 ghost use Rattle.model.specs.Lists.{part};
 ghost use Rattle.model.specs.Tile.{allFinite};
 ghost use Rattle.row_updates.specs.Updates.{rowNumber, columnNumber, NumbersStored, RowsUpdated};
@@ -49,7 +50,7 @@ pub fn update_rows(
     rows: usize,
     first: usize,
 ) -> bool
-    requires { ⌜ (w ≤ 16) × (f ≤ w) × (rows ≤ 16) × (start + rows * w ≤ length (now m)) × (top + w ≤ length (now m)) × (length (now m) ≤ 65536) ⌝ }
+    requires { ⌜ (w ≤ mostSide) × (f ≤ w) × (rows ≤ mostSide) × (start + rows * w ≤ length (now m)) × (top + w ≤ length (now m)) × (length (now m) ≤ 65536) ⌝ }
     requires { ⌜ (top + w ≤ start) ⊎ (start + rows * w ≤ top) ⌝ }
     requires { ⌜ (first + rows * w < length (now m) + w) × ((first + rows * w < start + w) ⊎ (start ≤ first)) ⌝ }
     requires { ⌜ allFinite (part start (rows * w) (now m)) ≡ true ⌝ }
@@ -122,9 +123,9 @@ pub fn update_column(
     first: usize,
     stride: usize,
 ) -> bool
-    requires { ⌜ (rows ≤ 16) × (start + rows * 1 ≤ length (now y)) × (top + 1 ≤ length (now y)) × (length (now y) ≤ 65536) ⌝ }
+    requires { ⌜ (rows ≤ mostSide) × (start + rows * 1 ≤ length (now y)) × (top + 1 ≤ length (now y)) × (length (now y) ≤ 65536) ⌝ }
     requires { ⌜ (top + 1 ≤ start) ⊎ (start + rows * 1 ≤ top) ⌝ }
-    requires { ⌜ (stride ≤ 16) × (first + rows * stride < length (now l) + stride) × (length (now l) ≤ 65536) ⌝ }
+    requires { ⌜ (stride ≤ mostSide) × (first + rows * stride < length (now l) + stride) × (length (now l) ≤ 65536) ⌝ }
     requires { ⌜ allFinite (part start (rows * 1) (now y)) ≡ true ⌝ }
     ensures { λ r. ⌜ RowsUpdated rows 1 0 start (λ i. getD (now (l .entry)) (first + i * stride) nan) (λ q. getD (now (y .entry)) (top + q) nan) (now (y .entry)) (now (y .exit)) r ⌝ }
 {

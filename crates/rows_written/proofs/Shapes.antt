@@ -1,40 +1,16 @@
--- Sizes: when they are refused, and bounds where they are not. Assumes nothing.
+-- Bounds by sizes that are not refused. Assumes nothing.
 use mathlib.Core.Path.{_≡_, refl}
-use mathlib.Core.Logic.{_⊎_, inl, inr}
-use mathlib.Core.Bool.{Bool, true, false, not}
-use Prim.Native.Nat.{ℕ, _+_, _*_, _/_, _≤_, _<_}
+use mathlib.Core.Bool.{Bool, false}
+use Prim.Native.Nat.{ℕ, _+_, _*_, _/_, _≤_}
 use native.Mathlib.Nat.{mul-le-mul, mul-assoc, mul-add, mul-mul-mul-comm}
 use native.Mathlib.Omega.{arith}
-use lib.Dec.{eqb, leb, ltb}
-use borrow.Author.Tests.{eqb-true, le-leb, lt-leb, ltb-true, ltb-false}
+use lib.Dec.{eqb}
+use borrow.Author.Tests.{eqb-true}
 use Rattle.model.specs.Lists.{run, every}
-use Rattle.model.specs.Refusal.{inside}
 use Rattle.model.specs.Text.{badShape}
-use Rattle.laws.proofs.Tests.{true-or-false, every-run-elim}
+use Rattle.laws.proofs.Tests.{every-run-elim}
 use Rattle.laws.proofs.Refusals.{shape-range}
 use Rattle.rows_written.specs.Rows.{triangle}
-
--- ---- 1
-
-pub low-N : (N t : ℕ) → N < 1 → true ≡ badShape N t
-unfolding badShape inside
-low-N N t h = rw (lt-leb 1 N h)
-
-pub high-N : (N t : ℕ) → 1 ≤ N → 16 < N → true ≡ badShape N t
-unfolding badShape inside
-high-N N t l h = rw (le-leb 1 N l, lt-leb N 16 h)
-
-pub low-t : (N t : ℕ) → 1 ≤ N → N ≤ 16 → t < 1 → true ≡ badShape N t
-unfolding badShape inside
-low-t N t l k h = rw (le-leb 1 N l, le-leb N 16 k, lt-leb 1 t h)
-
-pub high-t : (N t : ℕ) → 1 ≤ N → N ≤ 16 → 1 ≤ t → ltb 16 t ≡ badShape N t
-unfolding badShape inside
-high-t N t l k h = rw (le-leb 1 N l, le-leb N 16 k, le-leb 1 t h) (go (true-or-false (ltb 16 t)))
-  where
-    go : (ltb 16 t ≡ true) ⊎ (ltb 16 t ≡ false) → ltb 16 t ≡ not (leb t 16)
-    go (inl e) = rw (e, lt-leb t 16 (ltb-true 16 t e))
-    go (inr e) = rw (e, le-leb t 16 (ltb-false 16 t e))
 
 pub record Shape (N t : ℕ) : Type 0 where
   pub some : 1 ≤ N

@@ -14,6 +14,7 @@ use Rattle.model.specs.declared.Answer.{Answer}
 use Rattle.model.specs.declared.Answer.the-variants.{Accepted, Refused}
 use Rattle.model.specs.declared.Outcome.{Outcome}
 use Rattle.model.specs.declared.Outcome.the-variants.{Good, Overflow, Singular}
+use Rattle.model.specs.Lengths.{RecordsFit, LentFits}
 use Rattle.model.specs.Lists.{below, keep, firstOr}
 use Rattle.model.specs.Tile.{allFinite}
 use Rattle.model.specs.Plan.{plan, planOf, order}
@@ -23,11 +24,11 @@ use Rattle.model.specs.Calls.{Lent, marksOf, stateOf}
 use Rattle.model.specs.Refusal.{refuse, badSizes, badLengths, damaged, firstNotFinite, unfinished}
 use Rattle.model.specs.Solve.{unlessGood, solveAnswer}
 use Rattle.records.specs.Records.{marksFrom, lent}
-use Rattle.checks.specs.Checks.{Sized, RecordsFit}
+use Rattle.checks.specs.Checks.{Sized}
 use Rattle.finite_numbers.specs.declared.Lowest.{Lowest}
 use Rattle.finite_numbers.specs.declared.Lowest.the-variants.{None, At}
 use Rattle.checks.proofs.Laws.{sized}
-use Rattle.answers.proofs.Refusals.{refuses, passes, Fit, lengths-fit}
+use Rattle.answers.proofs.Refusals.{refuses, passes, lengths-fit, count-fits}
 use Rattle.unfinished.proofs.Finished.{unfinished-is}
 use Rattle.solve_checks.specs.Rest.{restAnswer}
 
@@ -62,16 +63,16 @@ unfolding firstOr
 some-first [] g p e q = let y : _≡_ {A = ℕ} 0 1 = cc in absurd (omega arith)
 some-first (x ∷ xs) g p e q = let y : x ≡ p = cc in (ne-eqb (length (x ∷ xs)) 0 (λ h. omega arith), y)
 
-module _ (z : Sizes) (m : List Float) (l : List ℕ) (r : List (List ℕ)) (ws : List Worker) (y : List Float) (fit : RecordsFit z r) where
+module _ (z : Sizes) (m : List Float) (l : List ℕ) (r : List (List ℕ)) (ws : List Worker) (count : ℕ) (y : List Float) (fit : RecordsFit z r) where
   abbrev s : Lent
-  s = lent m l r ws (z .workers)
+  s = lent m l r ws count
 
   abbrev open-tasks : ℕ → Bool
   open-tasks k = not (finished (mark (marksFrom r) k))
 
   module _ (g : Lowest) (e : g ≡ firstOr (keep open-tasks (below (length r))) At None) where
     found-is : g ≡ firstOr (unfinished (planOf z) s) At None
-    found-is = e ∙ ap (λ xs. firstOr xs At None) (unfinished-is z m l r ws fit)
+    found-is = e ∙ ap (λ xs. firstOr xs At None) (unfinished-is z m l r ws count fit)
 
     pub rest-8 : (p : ℕ) → g ≡ At p → Refused 8 p ≡ restAnswer z s y
     unfolding restAnswer
@@ -99,9 +100,9 @@ module _ (z : Sizes) (m : List Float) (l : List ℕ) (r : List (List ℕ)) (ws :
 
 -- ---- 1, 2 and 4
 
-module _ (z : Sizes) (m : List Float) (l : List ℕ) (r : List (List ℕ)) (ws : List Worker) (y x : List Float) where
+module _ (z : Sizes) (m : List Float) (l : List ℕ) (r : List (List ℕ)) (ws : List Worker) (count : ℕ) (y x : List Float) where
   abbrev lent-now : Lent
-  lent-now = lent m l r ws (z .workers)
+  lent-now = lent m l r ws count
 
   abbrev bad-right : Bool
   bad-right = not (eqb (length y) (order (planOf z)) && eqb (length x) (order (planOf z)))
@@ -120,8 +121,8 @@ module _ (z : Sizes) (m : List Float) (l : List ℕ) (r : List (List ℕ)) (ws :
     solve-2 b f p = two-then true (rw (sym f ∙ p))
 
     module _ (b : Bool) (f : b ≡ badLengths (planOf z) (z .workers) lent-now) (p : b ≡ false) where
-      pub checked : Sized z × Fit z m l r
-      checked = (sized z (sym e ∙ q), lengths-fit z m l r ws (sym f ∙ p))
+      pub checked : Sized z × LentFits z m l r
+      checked = (sized z (sym e ∙ q), lengths-fit z m l r ws count (sym f ∙ p))
 
       pub solve-right : (length y ≡ z .tiles * z .side → ⊥) → Refused 2 0 ≡ solveAnswer z lent-now y x
       unfolding refuse order plan
@@ -137,15 +138,22 @@ module _ (z : Sizes) (m : List Float) (l : List ℕ) (r : List (List ℕ)) (ws :
           unfolding refuse order plan
           four-then c i = rw (← i) (two-then false (rw (sym f ∙ p, eq-eqb (length y) (z .tiles * z .side) hy, eq-eqb (length x) (z .tiles * z .side) hx)))
 
-          pub solve-4 : (d : Bool) → d ≡ damaged (planOf z) lent-now → d ≡ true → Refused 4 0 ≡ solveAnswer z lent-now y x
-          unfolding refuse
-          solve-4 d g h = four-then true (rw (sym g ∙ h))
+          -- damage of as many workers as the sizes say
+          abbrev Damage : Bool → Type 0
+          Damage d = d ≡ damaged (planOf z) (lent m l r ws (z .workers))
 
-          module _ (d : Bool) (g : d ≡ damaged (planOf z) lent-now) (h : d ≡ false) where
+          counted : (d : Bool) → Damage d → d ≡ damaged (planOf z) lent-now
+          counted d g = g ∙ ap (λ (n : ℕ). damaged (planOf z) (lent m l r ws n)) (sym (count-fits z m l r ws count (sym f ∙ p)))
+
+          pub solve-4 : (d : Bool) → Damage d → d ≡ true → Refused 4 0 ≡ solveAnswer z lent-now y x
+          unfolding refuse
+          solve-4 d g h = four-then true (rw (sym (counted d g) ∙ h))
+
+          module _ (d : Bool) (g : Damage d) (h : d ≡ false) where
             pub solve-elements : (v : Bool) → v ≡ allFinite m → v ≡ false → Refused 4 0 ≡ solveAnswer z lent-now y x
             unfolding refuse
-            solve-elements v i j = four-then true (rw (sym g ∙ h, sym i ∙ j))
+            solve-elements v i j = four-then true (rw (sym (counted d g) ∙ h, sym i ∙ j))
 
             pub solve-rest : (v : Bool) → v ≡ allFinite m → v ≡ true → (a : Answer) → a ≡ restAnswer z lent-now y → a ≡ solveAnswer z lent-now y x
             unfolding refuse
-            solve-rest v i j a k = k ∙ four-then false (rw (sym g ∙ h, sym i ∙ j))
+            solve-rest v i j a k = k ∙ four-then false (rw (sym (counted d g) ∙ h, sym i ∙ j))

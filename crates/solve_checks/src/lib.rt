@@ -5,11 +5,12 @@ ghost use mathlib.Core.List.{List};
 ghost use Prim.Native.Nat.{ℕ};
 ghost use Rattle.worker.specs.declared.Worker.{Worker as SomeWorker};
 ghost use Rattle.model.specs.declared.Answer.the-variants.{Accepted};
+ghost use Rattle.model.specs.Lengths.{MatrixFits, RecordsFit};
 ghost use Rattle.model.specs.Tile.{allFinite};
 ghost use Rattle.model.specs.Refusal.{refuse, firstNotFinite};
 ghost use Rattle.model.specs.Solve.{solveAnswer};
-ghost use Rattle.records.specs.Records.{lent};
-ghost use Rattle.checks.specs.Checks.{Sized, MatrixFits, RecordsFit};
+ghost use Rattle.records.specs.Records.{lent, allLent};
+ghost use Rattle.checks.specs.Checks.{Sized};
 ghost use Rattle.solve_checks.specs.Rest.{restAnswer};
 use checks::bad_lengths;
 use checks::bad_sizes;
@@ -21,8 +22,9 @@ use finite_numbers::first_not_finite;
 use model::Answer;
 use model::Outcome;
 use model::Sizes;
+use records::Record;
 use unfinished::first_unfinished;
-use worker::Worker;
+use worker::Workers;
 
 // Refusal 3.
 fn right_answer(right: &[f64]) -> Answer
@@ -36,10 +38,10 @@ fn right_answer(right: &[f64]) -> Answer
 }
 
 // Refusals 8, 9, 10 and 3.
-fn rest_answer(z: Sizes, matrix: &[f64], records: &[[u8; 5]], right: &[f64]) -> Answer
+fn rest_answer(z: Sizes, matrix: &[f64], records: &[Record], right: &[f64]) -> Answer
     requires { ⌜ Sized z × MatrixFits z (now matrix) × RecordsFit z (now records) ⌝ }
-    ensures { λ r. ⌜ ((lists : List ℕ) (slots : List SomeWorker) → r
-        ≡ restAnswer z (lent (now (matrix .entry)) lists (now (records .entry)) slots (z .workers)) (now (right .entry))) ⌝ }
+    ensures { λ r. ⌜ ((lists : List ℕ) (slots : List SomeWorker) (count : ℕ) → r
+        ≡ restAnswer z (lent (now (matrix .entry)) lists (now (records .entry)) slots count) (now (right .entry))) ⌝ }
 {
     let task = first_unfinished(records);
     if let Lowest::At(p) = task {
@@ -58,17 +60,17 @@ pub fn solve_answer(
     z: Sizes,
     matrix: &[f64],
     lists: &[u8],
-    records: &[[u8; 5]],
-    workers: [Worker; 32],
+    records: &[Record],
+    workers: Workers,
     right: &[f64],
     answers: &[f64],
 ) -> Answer
-    ensures { λ r. ⌜ r ≡ solveAnswer z (lent (now (matrix .entry)) (now (lists .entry)) (now (records .entry)) workers (z .workers)) (now (right .entry)) (now (answers .entry)) ⌝ }
+    ensures { λ r. ⌜ r ≡ solveAnswer z (allLent (now (matrix .entry)) (now (lists .entry)) (now (records .entry)) workers) (now (right .entry)) (now (answers .entry)) ⌝ }
 {
     if bad_sizes(z) {
         return Answer::Refused(1, 0);
     }
-    if bad_lengths(z, matrix, lists, records) {
+    if bad_lengths(z, matrix, lists, records, workers.count) {
         return Answer::Refused(2, 0);
     }
     let order = z.tiles * z.side;
@@ -78,7 +80,8 @@ pub fn solve_answer(
     if answers.len() != order {
         return Answer::Refused(2, 0);
     }
-    if damaged(z, lists, records, workers) {
+    let slots = workers.slots;
+    if damaged(z, lists, records, slots) {
         return Answer::Refused(4, 0);
     }
     if !all_finite(matrix) {

@@ -21,7 +21,7 @@ use Rattle.model.specs.Calls.{Lent, marksOf, stateOf, allFinished}
 use Rattle.model.specs.Refusal.{refuse, badSizes, badLengths, damaged, firstNotFinite, unfinished, runAnswer}
 use Rattle.model.specs.Solve.{Passed, Answers, going, stopped, solved, unlessGood, answered, solveAnswer, solveCall}
 use Rattle.model.specs.History.{Call}
-use Rattle.model.specs.Demand.{end}
+use Rattle.demand.specs.Demand.{end}
 use Rattle.laws.proofs.Refusals.{passed}
 use Rattle.laws.proofs.Tests.{and-left, and-right}
 use Rattle.answers.proofs.Refusals.{passes}

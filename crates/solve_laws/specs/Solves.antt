@@ -16,7 +16,7 @@ use Rattle.model.specs.Calls.{Lent, stateOf, allFinished}
 use Rattle.model.specs.Refusal.{runAnswer}
 use Rattle.model.specs.Solve.{solveCall}
 use Rattle.model.specs.History.{Call}
-use Rattle.model.specs.Demand.{end}
+use Rattle.demand.specs.Demand.{end}
 use Rattle.demand.specs.Promise.{TwoOpenings}
 
 -- a finished system with a good outcome, of which nothing is damaged, and a finite right side b and answers x as long as its order

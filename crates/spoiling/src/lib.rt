@@ -6,9 +6,10 @@ ghost use Rattle.records.specs.Records.{marksFrom};
 ghost use Rattle.marks.specs.Marks.{Recorded};
 use marks::is_broken;
 use neighbours::link_marks;
+use records::Record;
 
 // Whether a failed or spoiled task is the latest writer of something that task p touches.
-pub fn is_spoiled(n: usize, records: &[[u8; 5]], p: usize) -> bool
+pub fn is_spoiled(n: usize, records: &[Record], p: usize) -> bool
     requires { ⌜ Recorded n (now records) p ⌝ }
     ensures { λ r. ⌜ r ≡ spoils (tasks n) (marksFrom (now (records .entry))) p ⌝ }
 {

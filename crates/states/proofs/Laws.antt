@@ -1,13 +1,14 @@
 -- The shared refusals one by one, what is sound where they pass, and calls that go on after them. Assumes nothing.
 use Prim.Native.Nat.{ℕ}
 use mathlib.Core.Bool.{Bool, true, false}
-use mathlib.Core.Path.{_≡_, refl, sym, ap, _∙_}
+use mathlib.Core.Path.{_≡_, refl, sym, ap, subst, _∙_}
 use mathlib.Core.List.{List}
 use lib.Ieee.{Float}
 use Rattle.model.specs.declared.Sizes.{Sizes}
 use Rattle.worker.specs.declared.Worker.{Worker}
 use Rattle.model.specs.declared.Answer.{Answer}
 use Rattle.model.specs.declared.Answer.the-variants.{Accepted, Refused}
+use Rattle.model.specs.Lengths.{LentFits}
 use Rattle.model.specs.Plan.{planOf}
 use Rattle.model.specs.Calls.{Lent}
 use Rattle.model.specs.Refusal.{refuse, badSizes, badLengths, damaged}
@@ -17,14 +18,14 @@ use Rattle.records.specs.Records.{lent}
 use Rattle.checks.specs.Checks.{Sized}
 use Rattle.checks.proofs.Laws.{sized}
 use Rattle.answers.specs.Answers.{accepts}
-use Rattle.answers.proofs.Refusals.{refuses, passes, Fit, lengths-fit}
+use Rattle.answers.proofs.Refusals.{refuses, passes, lengths-fit, count-fits}
 use Rattle.states.specs.States.{stateAnswer, Undamaged}
 
 -- ---- one by one
 
-module _ (z : Sizes) (m : List Float) (l : List ℕ) (r : List (List ℕ)) (ws : List Worker) where
+module _ (z : Sizes) (m : List Float) (l : List ℕ) (r : List (List ℕ)) (ws : List Worker) (count : ℕ) where
   abbrev old : Lent
-  old = lent m l r ws (z .workers)
+  old = lent m l r ws count
 
   pub answer-1 : (a : Bool) → a ≡ badSizes z → a ≡ true → Refused 1 0 ≡ stateAnswer z old
   unfolding stateAnswer
@@ -40,26 +41,35 @@ module _ (z : Sizes) (m : List Float) (l : List ℕ) (r : List (List ℕ)) (ws :
       unfolding stateAnswer
       last = sym (passes 1 0 (badSizes z) _ (sym e ∙ q) ∙ passes 2 0 (badLengths (planOf z) (z .workers) old) _ (sym f ∙ k))
 
-      pub checked : Sized z × Fit z m l r
-      checked = (sized z (sym e ∙ q), lengths-fit z m l r ws (sym f ∙ k))
+      pub checked : Sized z × LentFits z m l r
+      checked = (sized z (sym e ∙ q), lengths-fit z m l r ws count (sym f ∙ k))
 
-      module _ (d : Bool) (g : d ≡ damaged (planOf z) old) where
+      module _ (d : Bool) (g : d ≡ damaged (planOf z) (lent m l r ws (z .workers))) where
+        same : d ≡ damaged (planOf z) old
+        same = g ∙ ap (λ (n : ℕ). damaged (planOf z) (lent m l r ws n)) (sym (count-fits z m l r ws count (sym f ∙ k)))
+
         pub answer-4 : d ≡ true → Refused 4 0 ≡ stateAnswer z old
-        answer-4 h = sym (refuses 4 0 (damaged (planOf z) old) Accepted (sym g ∙ h)) ∙ last
+        answer-4 h = sym (refuses 4 0 (damaged (planOf z) old) Accepted (sym same ∙ h)) ∙ last
 
         pub answer-0 : d ≡ false → Accepted ≡ stateAnswer z old
-        answer-0 h = sym (passes 4 0 (damaged (planOf z) old) Accepted (sym g ∙ h)) ∙ last
+        answer-0 h = sym (passes 4 0 (damaged (planOf z) old) Accepted (sym same ∙ h)) ∙ last
 
   -- ---- all passed
 
-  pub sound : stateAnswer z old ≡ Accepted → Undamaged z m l r ws
+  pub sound : stateAnswer z old ≡ Accepted → (count ≡ z .workers) × Undamaged z m l r ws
   unfolding stateAnswer
   sound e =
       let a = passed 1 0 (badSizes z) _ e in
       let b = passed 2 0 (badLengths (planOf z) (z .workers) old) _ (a .1) in
       let c = passed 4 0 (damaged (planOf z) old) Accepted (b .1) in
-      let f = lengths-fit z m l r ws (b .0) in
-      record { sizes = sized z (a .0); matrix-fits = f .matrix-fits; lists-fit = f .lists-fit; records-fit = f .records-fit; undamaged = c .0 }
+      let n = count-fits z m l r ws count (b .0) in (
+        n,
+        record {
+          sizes = sized z (a .0);
+          lengths = lengths-fit z m l r ws count (b .0);
+          undamaged = subst (λ (k : ℕ). damaged (planOf z) (lent m l r ws k) ≡ false) n (c .0);
+        },
+      )
 
 -- ---- a call that goes on: its refusal 4 is given where something is damaged, and else where e says so
 

@@ -8,11 +8,12 @@ use Rattle.model.specs.declared.Sizes.{Sizes}
 use Rattle.worker.specs.declared.Worker.{Worker}
 use Rattle.model.specs.declared.Answer.{Answer}
 use Rattle.model.specs.declared.Answer.the-variants.{Accepted}
+use Rattle.model.specs.Lengths.{LentFits}
 use Rattle.model.specs.Plan.{planOf}
 use Rattle.model.specs.Calls.{Lent}
 use Rattle.model.specs.Refusal.{refuse, _otherwise_, badSizes, badLengths, damaged}
 use Rattle.records.specs.Records.{lent}
-use Rattle.checks.specs.Checks.{Sized, MatrixFits, ListsFit, RecordsFit}
+use Rattle.checks.specs.Checks.{Sized}
 
 -- refusals 1, 2 and 4 but for elements
 unfoldable pub stateAnswer : Sizes → Lent → Answer
@@ -25,7 +26,5 @@ stateAnswer z s =
 -- sizes in their ranges, lengths as stated, and nothing damaged
 pub record Undamaged (z : Sizes) (m : List Float) (l : List ℕ) (r : List (List ℕ)) (ws : List Worker) : Type 0 where
   pub sizes : Sized z
-  pub matrix-fits : MatrixFits z m
-  pub lists-fit : ListsFit z l
-  pub records-fit : RecordsFit z r
+  pub lengths : LentFits z m l r
   pub undamaged : damaged (planOf z) (lent m l r ws (z .workers)) ≡ false

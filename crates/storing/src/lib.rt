@@ -5,10 +5,11 @@ ghost use lib.ListN.{length};
 ghost use Rattle.records.specs.Records.{recordsFrom};
 ghost use Rattle.task_records.specs.Copies.{copied};
 use model::TaskRecord;
+use records::Record;
 use records::record_at;
 
 // Copies the records from a to below e back.
-pub fn store(records: &mut [TaskRecord], flat: &[[u8; 5]], a: usize, e: usize)
+pub fn store(records: &mut [TaskRecord], flat: &[Record], a: usize, e: usize)
     requires { ⌜ (e ≤ length (now records)) × (e ≤ length (now flat)) ⌝ }
     ensures { λ _. ⌜ now (records .exit) ≡ copied (e - a) a (recordsFrom (now (flat .entry))) (now (records .entry)) ⌝ }
 {

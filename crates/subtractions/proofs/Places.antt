@@ -24,10 +24,10 @@ pub placed : {z : Sizes} {m y : List Float} → BackwardFits z m y → (i j r : 
 placed {z} {m} {y} u i j r hi hj hr =
     let few : z .tiles * z .side ≤ 256 = mul-le-mul (u .tiles-most) (u .side-most) in
     record {
-      room = omega (arith, u .matrix-long, place-room (z .tiles) (z .side * z .side) i j hi hj);
+      room = omega (arith, u .matrix-fits, place-room (z .tiles) (z .side * z .side) i j hi hj);
       row = row-end r (z .side) (z .side) hr;
       square = square-most (z .side) (u .side-most);
-      numbers-few = omega (arith, u .matrix-long, matrix-most (z .tiles) (z .side) (u .tiles-most) (u .side-most));
+      numbers-few = omega (arith, u .matrix-fits, matrix-most (z .tiles) (z .side) (u .tiles-most) (u .side-most));
       part = omega (arith, u .long, row-end j (z .tiles) (z .side) hj);
       right-few = omega (arith, u .long);
     }

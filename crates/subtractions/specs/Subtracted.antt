@@ -6,6 +6,8 @@ use mathlib.Core.List.{List}
 use lib.ListN.{length}
 use lib.Ieee.{Float}
 use Rattle.model.specs.declared.Sizes.{Sizes}
+use Rattle.model.specs.Lengths.{MatrixFits}
+use Rattle.model.specs.Limits.{mostTiles, mostSide}
 use Rattle.model.specs.Num.{update}
 use Rattle.model.specs.Tile.{allFinite}
 
@@ -16,8 +18,8 @@ subtracted u v j (suc n) d = subtracted u v (suc j) n (update d (u j) (v j))
 
 -- a finite matrix, and a right side as long as its order
 pub record BackwardFits (z : Sizes) (m y : List Float) : Type 0 where
-  pub tiles-most : z .tiles ≤ 16
-  pub side-most : z .side ≤ 16
-  pub matrix-long : length m ≡ z .tiles * z .side * (z .tiles * z .side)
+  pub tiles-most : z .tiles ≤ mostTiles
+  pub side-most : z .side ≤ mostSide
+  pub matrix-fits : MatrixFits z m
   pub all-finite : allFinite m ≡ true
   pub long : length y ≡ z .tiles * z .side

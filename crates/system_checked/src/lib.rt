@@ -2,6 +2,7 @@
 ghost use mathlib.Core.Path.{_≡_};
 ghost use Prim.Native.Nat.{_≤_};
 ghost use lib.ListN.{length};
+ghost use Rattle.model.specs.Limits.{mostSide};
 ghost use Rattle.model.specs.Read.{systemFrames};
 ghost use Rattle.frames_read.specs.Follow.{follow, textEnd};
 ghost use Rattle.system_checked.specs.Files.{start, checkedSystem};
@@ -31,7 +32,7 @@ pub fn text_end(text: &[u8], step: Step) -> Answer
 
 // The lines of a system after an accepted header.
 pub fn check_system_lines(text: &[u8], tiles: usize, side: usize) -> Answer
-    requires { ⌜ (7 ≤ length (now text)) × (side ≤ 16) ⌝ }
+    requires { ⌜ (7 ≤ length (now text)) × (side ≤ mostSide) ⌝ }
     ensures { λ r. ⌜ r ≡ textEnd (now (text .entry)) (follow side (now (text .entry)) (systemFrames tiles) start) ⌝ }
 {
     text_end(

@@ -5,6 +5,7 @@ ghost use Rattle.system_checked.specs.Files.{Headed};
 use header_read::Header;
 use header_read::check_header;
 use model::Answer;
+use model::MOST_ORDER;
 use model::ReadAnswer;
 use numbers_read::load_tiles;
 use system_checked::check_system_lines;
@@ -31,7 +32,7 @@ fn read_system_lines(text: &[u8], tiles: usize, side: usize, matrix: &mut [f64])
 pub fn read_system(text: &[u8], matrix: &mut [f64]) -> ReadAnswer
     ensures { λ r. ⌜ record { answer = r; matrix = now (matrix .exit) } ≡ readSystem (now (text .entry)) (now (matrix .entry)) ⌝ }
 {
-    match check_header(text, 256) {
+    match check_header(text, MOST_ORDER) {
         Header::Shape(tiles, side) => read_system_lines(text, tiles, side, matrix),
         Header::Unread(n, x) => ReadAnswer::ReadRefused(n, x),
     }

@@ -7,10 +7,12 @@ use lib.Dec.{ltb}
 use lib.ListN.{length}
 use lib.Ieee.{Float}
 use borrow.Author.Tests.{eq-eqb}
+use Rattle.model.specs.declared.TaskRecord.{TaskRecord}
 use Rattle.model.specs.declared.Outcome.{Outcome}
 use Rattle.model.specs.declared.Answer.the-variants.{Accepted}
 use Rattle.model.specs.declared.ReadAnswer.{ReadAnswer}
-use Rattle.model.specs.Plan.{plan, order}
+use Rattle.model.specs.Lengths.{LentFits}
+use Rattle.model.specs.Plan.{plan, order, sizes}
 use Rattle.model.specs.Refusal.{refuse}
 use Rattle.model.specs.Text.{resultText, writing, badMatrix, badLists, writeResult}
 use Rattle.model.specs.Read.{SystemReading, readSystem, resultOf, program}
@@ -18,7 +20,7 @@ use Rattle.one_worker.specs.Alone.{Lendable, Result, alone}
 use Rattle.rows_written.specs.Rows.{systemLength, resultLength}
 use Rattle.rows_written.proofs.Shapes.{bounds, enough, small-tiles, half}
 use Rattle.result_written.proofs.Answers.{length-result}
-use Rattle.system_printed.specs.Print.{LengthsFit, printResult}
+use Rattle.system_printed.specs.Print.{printResult}
 use Rattle.system_printed.proofs.Checked.{Checked, small-sizes}
 
 pub print-as : (text out new : List ℕ) → program text ≡ new → writing (refuse 15 0 (ltb (length out) (length new)) Accepted) new out ≡ printResult text out
@@ -28,23 +30,24 @@ print-as text out new e = ap (λ (k : List ℕ). writing (refuse 15 0 (ltb (leng
 module _ (text : List ℕ) (N t : ℕ) (c : Checked text N t) where
   -- ---- what was read
 
-  module _ (m M : List Float) (l : List ℕ) (r : List (List ℕ)) (a : ReadAnswer) (fit : LengthsFit N t m l r) (e : record { answer = a; matrix = M } ≡ readSystem text m) where
+  module _ (m M : List Float) (l : List ℕ) (r : List (List ℕ)) (a : ReadAnswer) (fit : LentFits (sizes N t 1) m l r) (e : record { answer = a; matrix = M } ≡ readSystem text m) where
     pub numbers-read : M ≡ c .numbers
-    numbers-read = ap (λ (k : SystemReading). k .matrix) (e ∙ c .reads m (fit .matrix-fits))
+    numbers-read = ap (λ (k : SystemReading). k .matrix) (e ∙ c .reads m (fit .buffers .matrix-fits))
 
     pub lendable : length M ≡ length m → Lendable N t M l r
     lendable h = record {
       tiles = small-sizes c .tiles;
       side = small-sizes c .side;
-      matrix-fits = h ∙ fit .matrix-fits;
-      lists-fit = fit .lists-fit;
-      records-fit = fit .records-fit;
+      lengths = record {
+        buffers = record { matrix-fits = h ∙ fit .buffers .matrix-fits; lists-fit = fit .buffers .lists-fit };
+        records-fit = fit .records-fit;
+      };
       all-finite = rw numbers-read (c .all-finite);
     }
 
   -- ---- what is written
 
-  module _ (M m′ : List Float) (l′ : List ℕ) (o : Outcome) (is : M ≡ c .numbers) (e : record { buffers = record { matrix = m′; lists = l′ }; outcome = o } ≡ alone (plan N t) M) where
+  module _ (M m′ : List Float) (l′ : List ℕ) (rs : List TaskRecord) (o : Outcome) (is : M ≡ c .numbers) (e : record { buffers = record { matrix = m′; lists = l′ }; records = rs; outcome = o } ≡ alone (plan N t) M) where
     result-is : program text ≡ resultText (plan N t) (record { matrix = m′; lists = l′ }) o
     unfolding alone resultOf
     result-is = c .prints ∙ sym (ap (λ (k : Result). resultText (plan N t) (k .buffers) (k .outcome)) (e ∙ ap (alone (plan N t)) is))

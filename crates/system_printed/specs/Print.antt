@@ -1,12 +1,9 @@
--- Printing what the program prints into a lent text, and what is lent for working it out. Assumes nothing.
-use Prim.Native.Nat.{ℕ, _*_}
-use mathlib.Core.Path.{_≡_}
+-- Printing what the program prints into a lent text. Assumes nothing.
+use Prim.Native.Nat.{ℕ}
 use mathlib.Core.List.{List}
 use lib.Dec.{ltb}
 use lib.ListN.{length}
-use lib.Ieee.{Float}
 use Rattle.model.specs.declared.Answer.the-variants.{Accepted}
-use Rattle.model.specs.Task.{tasks}
 use Rattle.model.specs.Refusal.{refuse, _otherwise_}
 use Rattle.model.specs.Text.{Writing, writing}
 use Rattle.model.specs.Read.{program}
@@ -16,8 +13,3 @@ unfoldable pub printResult : List ℕ → List ℕ → Writing
 printResult text out =
     let new = program text in
     writing (refuse 15 0 (ltb (length out) (length new)) otherwise Accepted) new out
-
-pub record LengthsFit (N t : ℕ) (m : List Float) (l : List ℕ) (r : List (List ℕ)) : Type 0 where
-  pub matrix-fits : length m ≡ N * t * (N * t)
-  pub lists-fit : length l ≡ N * N * t
-  pub records-fit : length r ≡ length (tasks N)

@@ -3,6 +3,7 @@ ghost use mathlib.Core.Path.{_≡_};
 ghost use mathlib.Core.List.{[]};
 ghost use Prim.Native.Nat.{_*_, _≤_};
 ghost use lib.ListN.{length};
+ghost use Rattle.model.specs.Limits.{mostTiles, mostSide};
 ghost use Rattle.model.specs.Lists.{withPart};
 ghost use Rattle.model.specs.Plan.{plan};
 ghost use Rattle.model.specs.Text.{systemText, writeSystem};
@@ -10,12 +11,12 @@ ghost use Rattle.rows_written.specs.Rows.{systemLength};
 use lines_written::put_header;
 use model::WriteAnswer;
 use rows_written::put_tiles;
-use rows_written::sizes::bad_shape;
 use rows_written::sizes::system_length;
+use shapes::bad_shape;
 
 // Writes the text of a system of n by n tiles, t by t each.
 pub fn put_system(text: &mut [u8], m: &[f64], n: usize, t: usize)
-    requires { ⌜ (n ≤ 16) × (t ≤ 16) ⌝ }
+    requires { ⌜ (n ≤ mostTiles) × (t ≤ mostSide) ⌝ }
     requires { ⌜ systemLength n t ≤ length (now text) ⌝ }
     requires { ⌜ n * n * (t * t) ≤ length (now m) ⌝ }
     ensures { λ _. ⌜ now (text .exit) ≡ withPart 0 (systemLength n t) (systemText (plan n t) (record { matrix = now (m .entry); lists = [] })) (now (text .entry)) ⌝ }

@@ -1,26 +1,27 @@
 // The refusals of a take.
 ghost use mathlib.Core.Path.{_≡_};
 ghost use Rattle.model.specs.Refusal.{takeAnswer};
-ghost use Rattle.records.specs.Records.{lent};
+ghost use Rattle.records.specs.Records.{allLent};
 use answers::accepted;
 use model::Answer;
 use model::Sizes;
 use readiness::is_ready;
+use records::Record;
 use states::state_answer;
 use task_counts::task_count;
-use worker::Worker;
+use worker::Workers;
 
 // What the take of task p by worker w answers.
 pub fn take_answer(
     z: Sizes,
     matrix: &[f64],
     lists: &[u8],
-    records: &[[u8; 5]],
-    workers: [Worker; 32],
+    records: &[Record],
+    workers: Workers,
     w: usize,
     p: usize,
 ) -> Answer
-    ensures { λ r. ⌜ r ≡ takeAnswer z w p (lent (now (matrix .entry)) (now (lists .entry)) (now (records .entry)) workers (z .workers)) ⌝ }
+    ensures { λ r. ⌜ r ≡ takeAnswer z w p (allLent (now (matrix .entry)) (now (lists .entry)) (now (records .entry)) workers) ⌝ }
 {
     let state = state_answer(z, matrix, lists, records, workers);
     if !accepted(state) {
@@ -29,7 +30,8 @@ pub fn take_answer(
     if z.workers <= w {
         return Answer::Refused(5, w);
     }
-    let h = workers[w];
+    let slots = workers.slots;
+    let h = slots[w];
     if h.busy {
         return Answer::Refused(5, w);
     }

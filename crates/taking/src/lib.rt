@@ -1,39 +1,43 @@
 // A worker takes a task.
 ghost use mathlib.Core.Path.{_≡_};
-ghost use lib.ListN.{drop};
 ghost use Rattle.model.specs.Refusal.{takeCall};
-ghost use Rattle.records.specs.Records.{lent};
+ghost use Rattle.records.specs.Records.{allLent, OthersKept};
 use answers::accepted;
 use model::CallReply;
 use model::Sizes;
 use record_changes::set_mark;
+use records::Record;
 use take_checks::take_answer;
-use worker::Worker;
+use worker::Workers;
 
-// Worker w takes task p. Of the 32 worker slots the first z.workers are lent, and the others stay as they are.
+// Worker w takes task p.
 pub fn take(
     z: Sizes,
     matrix: &[f64],
     lists: &[u8],
-    records: &mut [[u8; 5]],
-    workers: [Worker; 32],
+    records: &mut [Record],
+    workers: Workers,
     w: usize,
     p: usize,
 ) -> CallReply
     ensures { λ r. ⌜ record {
       answer = r .answer;
-      left = lent (now (matrix .entry)) (now (lists .entry)) (now (records .exit)) (r .workers) (z .workers);
-    } ≡ takeCall z w p (lent (now (matrix .entry)) (now (lists .entry)) (now (records .entry)) workers (z .workers)) ⌝ }
-    ensures { λ r. ⌜ drop (z .workers) (r .workers) ≡ drop (z .workers) workers ⌝ }
+      left = allLent (now (matrix .entry)) (now (lists .entry)) (now (records .exit)) (r .workers);
+    } ≡ takeCall z w p (allLent (now (matrix .entry)) (now (lists .entry)) (now (records .entry)) workers) ⌝ }
+    ensures { λ r. ⌜ OthersKept workers (r .workers) ⌝ }
 {
     let answer = take_answer(z, matrix, lists, records, workers, w, p);
     if !accepted(answer) {
         return CallReply { answer, workers };
     }
     set_mark(records, p, 1);
-    let mut left = workers;
-    let h = left[w];
-    left[w] = h.take(p as u16);
+    let mut slots = workers.slots;
+    let h = slots[w];
+    slots[w] = h.take(p as u16);
+    let left = Workers {
+        slots,
+        count: workers.count,
+    };
     CallReply {
         answer,
         workers: left,

@@ -11,6 +11,7 @@ use column_marks::spoiled_at;
 use filling::fill_task;
 use kind_columns::work_column;
 use model::Sizes;
+use records::Record;
 use records::record_at;
 
 // Works column c of task p, or fills what it writes where it is spoiled, and tells its mark.
@@ -18,7 +19,7 @@ pub fn work_task(
     z: Sizes,
     matrix: &mut [f64],
     lists: &mut [u8],
-    records: &[[u8; 5]],
+    records: &[Record],
     p: usize,
     c: usize,
 ) -> u8

@@ -4,15 +4,20 @@ ghost use mathlib.Core.Path.{_≡_};
 ghost use mathlib.Core.Bool.{cond};
 ghost use Prim.Native.Nat.{_+_};
 ghost use lib.Dec.{ltb};
+ghost use Rattle.model.specs.Limits.{mostTasks};
+use model::MOST_TASKS;
 
-// How many of n records a call looks at: all, or one more than any system has.
+// How many copies a call may make: one more than the largest system has records.
+pub const COPIES: usize = MOST_TASKS + 1;
+
+// How many of n records a call looks at: all, or that many.
 pub fn looked_at(n: usize) -> usize
-    ensures { λ r. ⌜ r ≡ cond (ltb n 1497) n 1497 ⌝ }
+    ensures { λ r. ⌜ r ≡ cond (ltb n (mostTasks + 1)) n (mostTasks + 1) ⌝ }
 {
-    if n < 1497 {
+    if n < COPIES {
         return n;
     }
-    1497
+    COPIES
 }
 
 // The end of the part that holds record p of n; 0 if there is no such record.

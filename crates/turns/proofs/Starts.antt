@@ -5,17 +5,17 @@ use mathlib.Core.List.{List}
 use native.Mathlib.Omega.{arith}
 use lib.Ieee.{Float}
 use Rattle.model.specs.declared.Sizes.{Sizes}
-use Rattle.worker.specs.declared.Worker.{Worker}
+use Rattle.worker.specs.declared.Workers.{Workers}
 use Rattle.model.specs.declared.Answer.the-variants.{Accepted}
 use Rattle.model.specs.Plan.{planOf}
 use Rattle.model.specs.Calls.{Lent, RunEnd, runFrom, wholeRun}
 use Rattle.model.specs.Refusal.{badSizes, runAnswer}
 use Rattle.laws.proofs.Refusals.{passed}
-use Rattle.records.specs.Records.{lent}
+use Rattle.records.specs.Records.{allLent}
 use Rattle.checks.proofs.Laws.{sized}
 use Rattle.turns_from.specs.Underway.{Underway}
 
-pub starts : (z : Sizes) (budget : ℕ) (m : List Float) (l : List ℕ) (r : List (List ℕ)) (ws : List Worker) → runAnswer z (lent m l r ws (z .workers)) ≡ Accepted
+pub starts : (z : Sizes) (budget : ℕ) (m : List Float) (l : List ℕ) (r : List (List ℕ)) (ws : Workers) → runAnswer z (allLent m l r ws) ≡ Accepted
     → Underway z budget m l r ws 0 0 0
 unfolding runAnswer
 starts z budget m l r ws e =

@@ -6,11 +6,12 @@ use mathlib.Core.List.{List, map}
 use native.Mathlib.Nat.{mod-lt, min-le-left, mul-mul-mul-comm}
 use native.Mathlib.Omega.{arith}
 use lib.Ieee.{Float}
-use lib.ListN.{length, getD, set, take, drop, length-set}
-use lib.Seq.{drop-set-lt, take-set-lt}
+use lib.ListN.{length, getD, set, drop, length-set}
+use lib.Seq.{drop-set-lt}
 use Rattle.model.specs.declared.Sizes.{Sizes}
 use Rattle.model.specs.declared.TaskRecord.{TaskRecord}
 use Rattle.worker.specs.declared.Worker.{Worker}
+use Rattle.worker.specs.declared.Workers.{Workers}
 use Rattle.model.specs.declared.Answer.the-variants.{Accepted}
 use Rattle.model.specs.declared.RunAnswer.{RunAnswer}
 use Rattle.model.specs.declared.RunAnswer.the-variants.{Finished, Spent}
@@ -21,12 +22,13 @@ use Rattle.model.specs.Links.{task, mark, finished, ready}
 use Rattle.model.specs.Buffer.{Ended, finiteTiles}
 use Rattle.model.specs.Calls.{Lent, RunEnd, marksOf, withMark, marked, worker, took, advanced, allFinished, runFrom}
 use Rattle.worker.specs.Holding.{idle, holding}
-use Rattle.model.specs.Refusal.{damaged, badTiles, runAnswer}
+use Rattle.model.specs.Refusal.{badSizes, badLengths, damaged, badTiles, runAnswer}
 use Rattle.laws.proofs.Refusals.{passed}
 use Rattle.laws.proofs.Tests.{never, or-false, and-true-not}
 use Rattle.run_laws.proofs.Pointer.{NoneReady, none-after, none-after-take, none-kept}
-use Rattle.records.specs.Records.{recordsFrom, marksFrom, lent}
-use Rattle.records.proofs.Laws.{length-records, length-marks, marks-lent}
+use Rattle.records.specs.Records.{recordsFrom, marksFrom, crew, lent, allLent, OthersKept}
+use Rattle.records.proofs.Laws.{length-records, length-marks, marks-lent, crew-set}
+use Rattle.answers.proofs.Refusals.{count-fits}
 use Rattle.checks.specs.Checks.{Sized}
 use Rattle.checks.proofs.Laws.{sized}
 use Rattle.task_counts.proofs.Laws.{few-tasks}
@@ -123,8 +125,11 @@ module _ {z : Sizes} {budget : ℕ} {all : RunEnd} {ws₀ : List Worker} {m : Li
   here : worker s w ≡ getD ws w idle
   here = worker-lent m l r ws W w (g .turn-of)
 
-  stored : (h : Worker) → take W (set ws w h) ≡ set (take W ws) w h
-  stored h = take-set-lt W ws w h (g .turn-of)
+  long : W ≤ length ws
+  long = omega (arith, g .slots, sizes .few-workers)
+
+  stored : (h : Worker) → crew (set ws w h) W ≡ set (crew ws W) w h
+  stored h = crew-set ws W w h long (g .turn-of)
 
   -- ---- an idle worker takes a task
 
@@ -152,7 +157,7 @@ module _ {z : Sizes} {budget : ℕ} {all : RunEnd} {ws₀ : List Worker} {m : Li
         let c : p < count z = subst (λ (x : ℕ). p < x) (records-long z m l r ws (g .whole)) hp in
         let rd : ready (tasks (z .tiles)) (marksOf s) p ≡ true = ap (λ (ms : List ℕ). ready (tasks (z .tiles)) ms p) (marks-lent m l r ws W) ∙ low .found hp in
         let t : lent m l r' (set ws w h) W ≡ took (planOf z) w p s =
-        (λ i. record { buffers = record { matrix = m; lists = l }; records = q i; workers = (stored h ∙ ap (set (take W ws) w) e) i }) in
+        (λ i. record { buffers = record { matrix = m; lists = l }; records = q i; workers = (stored h ∙ ap (set (crew ws W) w) e) i }) in
         let o : suc p ≡ p + 1 = omega arith in
         record {
           whole = subst (Whole z) (sym t) (took-whole z s (g .whole) w p (g .turn-of) idle-now c rd);
@@ -215,12 +220,16 @@ module _ {z : Sizes} {budget : ℕ} {all : RunEnd} {ws₀ : List Worker} {m : Li
         (and-true-not _ _ busy-now (good-tiles z s (g .whole .stated .sized) (g .whole .tiles) w (g .whole .held w (g .turn-of) busy-now .task)))
 
     pub column-due : ColumnDue z (h .task) (h .column) m l r
-    column-due = due z w m l r ws (g .slots) (record {
+    column-due = due z w m l r ws (record {
       sound = record {
         sizes = sizes;
-        matrix-fits = matrix-long z m l r ws (g .whole) ∙ sym (mul-mul-mul-comm (z .tiles) (z .side) (z .tiles) (z .side));
-        lists-fit = lists-long z m l r ws (g .whole);
-        records-fit = records-long z m l r ws (g .whole);
+        lengths = record {
+          buffers = record {
+            matrix-fits = matrix-long z m l r ws (g .whole) ∙ sym (mul-mul-mul-comm (z .tiles) (z .side) (z .tiles) (z .side));
+            lists-fit = lists-long z m l r ws (g .whole);
+          };
+          records-fit = records-long z m l r ws (g .whole);
+        };
         undamaged = fine;
       };
       exists = g .turn-of;
@@ -236,7 +245,7 @@ module _ {z : Sizes} {budget : ℕ} {all : RunEnd} {ws₀ : List Worker} {m : Li
           (subst (λ (x : ℕ). 1 ≤ x) (sym q) (e .begun), subst (λ (x : ℕ). x ≤ 4) (sym q) (e .most))
 
       advanced-is : lent m' l' r' (set ws w k) W ≡ advanced (planOf z) w s
-      advanced-is = state-after z m l r ws w (g .turn-of) h refl m' l' r' (o .mark) k (o .ends ws) (o .records) (o .worker)
+      advanced-is = state-after z m l r ws w long (g .turn-of) h refl m' l' r' (o .mark) k (o .ends ws) (o .records) (o .worker)
 
       none-then : (f : ℕ) → f ≡ cond (k .busy) from (min from (suc (h .task))) → (f ≤ from) × NoneReady (tasks (z .tiles)) (marksFrom r') f
       none-then f e = go (finished (o .mark)) refl (o .worker)
@@ -293,10 +302,20 @@ module _ {z : Sizes} {budget : ℕ} {all : RunEnd} {ws₀ : List Worker} {m : Li
 
 -- ---- the first turn
 
-pub starts : (z : Sizes) (budget : ℕ) (m : List Float) (l : List ℕ) (r : List (List ℕ)) (ws : List Worker) (n w from : ℕ) → length ws ≡ 32
-    → Underway z budget m l r ws n w from → Going z budget (runFrom (planOf z) (z .workers) (budget - n) n w (lent m l r ws (z .workers))) ws m l r ws n w from
+-- a run that is accepted has as many workers as the sizes say
+pub counted : (z : Sizes) (m : List Float) (l : List ℕ) (r : List (List ℕ)) (ws : Workers) → runAnswer z (allLent m l r ws) ≡ Accepted → ws .count ≡ z .workers
+unfolding runAnswer
+counted z m l r ws e =
+    let a = passed 1 0 (badSizes z) _ e in
+    count-fits z m l r (ws .slots) (ws .count) (passed 2 0 (badLengths (planOf z) (z .workers) (allLent m l r ws)) _ (a .1) .0)
+
+whole-then : (z : Sizes) (m : List Float) (l : List ℕ) (r : List (List ℕ)) (ws : Workers) → runAnswer z (allLent m l r ws) ≡ Accepted → Whole z (lent m l r (ws .slots) (z .workers))
+whole-then z m l r ws e = subst (λ (k : ℕ). Whole z (lent m l r (ws .slots) k)) (counted z m l r ws e) (run-whole z (allLent m l r ws) e)
+
+pub starts : (z : Sizes) (budget : ℕ) (m : List Float) (l : List ℕ) (r : List (List ℕ)) (ws : Workers) (n w from : ℕ) → length (ws .slots) ≡ 32
+    → Underway z budget m l r ws n w from → Going z budget (runFrom (planOf z) (z .workers) (budget - n) n w (lent m l r (ws .slots) (z .workers))) (ws .slots) m l r (ws .slots) n w from
 starts z budget m l r ws n w from h d = record {
-  whole = run-whole z (lent m l r ws (z .workers)) (d .accepted);
+  whole = whole-then z m l r ws (d .accepted);
   none = d .none;
   reached = d .reached;
   slots = h;
@@ -308,17 +327,31 @@ starts z budget m l r ws n w from h d = record {
 
 -- ---- lengths stay, and the loop ends: with each call the budget left gets smaller, and a turn that passes goes from an idle worker to a busy one
 
-module _ {z : Sizes} {budget : ℕ} {all : RunEnd} (m₀ : List Float) (l₀ : List ℕ) (r₀ : List (List ℕ)) (ws₀ : List Worker) (a : runAnswer z (lent m₀ l₀ r₀ ws₀ (z .workers)) ≡ Accepted)
+module _ {z : Sizes} {budget : ℕ} {all : RunEnd} (m₀ : List Float) (l₀ : List ℕ) (r₀ : List (List ℕ)) (ws₀ : Workers) (a : runAnswer z (allLent m₀ l₀ r₀ ws₀) ≡ Accepted)
     {m : List Float} {l : List ℕ} {r : List (List ℕ)} {ws : List Worker} {n w from : ℕ}
-    (g : Going z budget all ws₀ m l r ws n w from) where
+    (g : Going z budget all (ws₀ .slots) m l r ws n w from) where
   pub matrix-kept : length m ≡ length m₀
-  matrix-kept = matrix-long z m l r ws (g .whole) ∙ sym (matrix-long z m₀ l₀ r₀ ws₀ (run-whole z (lent m₀ l₀ r₀ ws₀ (z .workers)) a))
+  matrix-kept = matrix-long z m l r ws (g .whole) ∙ sym (matrix-long z m₀ l₀ r₀ (ws₀ .slots) (whole-then z m₀ l₀ r₀ ws₀ a))
 
   pub lists-kept : length l ≡ length l₀
-  lists-kept = lists-long z m l r ws (g .whole) ∙ sym (lists-long z m₀ l₀ r₀ ws₀ (run-whole z (lent m₀ l₀ r₀ ws₀ (z .workers)) a))
+  lists-kept = lists-long z m l r ws (g .whole) ∙ sym (lists-long z m₀ l₀ r₀ (ws₀ .slots) (whole-then z m₀ l₀ r₀ ws₀ a))
 
   pub records-kept : length r ≡ length r₀
-  records-kept = records-long z m l r ws (g .whole) ∙ sym (records-long z m₀ l₀ r₀ ws₀ (run-whole z (lent m₀ l₀ r₀ ws₀ (z .workers)) a))
+  records-kept = records-long z m l r ws (g .whole) ∙ sym (records-long z m₀ l₀ r₀ (ws₀ .slots) (whole-then z m₀ l₀ r₀ ws₀ a))
+
+  -- what is left, told by the count of the workers
+  pub recounted : (b n₀ w₀ : ℕ) (x : RunAnswer)
+      → _≡_ {A = RunEnd} (record { answer = x; left = lent m l r ws (z .workers) }) (runFrom (planOf z) (z .workers) b n₀ w₀ (lent m₀ l₀ r₀ (ws₀ .slots) (z .workers)))
+      → _≡_ {A = RunEnd} (record { answer = x; left = lent m l r ws (ws₀ .count) }) (runFrom (planOf z) (z .workers) b n₀ w₀ (allLent m₀ l₀ r₀ ws₀))
+  recounted b n₀ w₀ x e =
+      subst (λ (k : ℕ). _≡_ {A = RunEnd} (record { answer = x; left = lent m l r ws k }) (runFrom (planOf z) (z .workers) b n₀ w₀ (lent m₀ l₀ r₀ (ws₀ .slots) k)))
+      (sym (counted z m₀ l₀ r₀ ws₀ a)) e
+
+  pub others-kept : OthersKept ws₀ (record { slots = ws; count = ws₀ .count })
+  others-kept = record {
+    same-count = refl;
+    same-slots = subst (λ (k : ℕ). drop k ws ≡ drop k (ws₀ .slots)) (sym (counted z m₀ l₀ r₀ ws₀ a)) (g .others);
+  }
 
 -- the turns left at most
 unfoldable pub turnsLeft : ℕ → ℕ → List Worker → ℕ → ℕ

@@ -1,10 +1,9 @@
 // The turns of a run, from any of them on.
 ghost use mathlib.Core.Path.{_≡_};
 ghost use Prim.Native.Nat.{_-_};
-ghost use lib.ListN.{drop};
 ghost use Rattle.model.specs.Plan.{planOf};
 ghost use Rattle.model.specs.Calls.{runFrom};
-ghost use Rattle.records.specs.Records.{lent};
+ghost use Rattle.records.specs.Records.{allLent, OthersKept};
 ghost use Rattle.turns_from.specs.Underway.{Underway};
 use advancing::advance;
 use model::RunAnswer;
@@ -14,8 +13,10 @@ use next_task::lowest_ready;
 use next_task::search_start;
 use next_task::take_task;
 use next_worker::worker_after;
+use records::Record;
 use unfinished::answer_after;
 use worker::Worker;
+use worker::Workers;
 
 // Workers take turns until every task is finished or the budget is spent, once `made` calls are made and the turn is worker `turn`'s. Below `low`,
 // and then below `from`, no task is ready, so a search begins there. The search for the next busy worker stands here, since a call would copy all workers.
@@ -23,8 +24,8 @@ pub fn turns_from(
     z: Sizes,
     matrix: &mut [f64],
     lists: &mut [u8],
-    records: &mut [[u8; 5]],
-    workers: [Worker; 32],
+    records: &mut [Record],
+    workers: Workers,
     budget: u64,
     made: u64,
     turn: usize,
@@ -33,11 +34,11 @@ pub fn turns_from(
     requires { ⌜ Underway z budget (now matrix) (now lists) (now records) workers made turn low ⌝ }
     ensures { λ r. ⌜ record {
       answer = r .answer;
-      left = lent (now (matrix .exit)) (now (lists .exit)) (now (records .exit)) (r .workers) (z .workers);
-    } ≡ runFrom (planOf z) (z .workers) (budget - made) made turn (lent (now (matrix .entry)) (now (lists .entry)) (now (records .entry)) workers (z .workers)) ⌝ }
-    ensures { λ r. ⌜ drop (z .workers) (r .workers) ≡ drop (z .workers) workers ⌝ }
+      left = allLent (now (matrix .exit)) (now (lists .exit)) (now (records .exit)) (r .workers);
+    } ≡ runFrom (planOf z) (z .workers) (budget - made) made turn (allLent (now (matrix .entry)) (now (lists .entry)) (now (records .entry)) workers) ⌝ }
+    ensures { λ r. ⌜ OthersKept workers (r .workers) ⌝ }
 {
-    let mut left = workers;
+    let mut left = workers.slots;
     let mut n = made;
     let mut w = turn;
     let mut from = low;
@@ -83,11 +84,17 @@ pub fn turns_from(
         }
         return RunReply {
             answer: RunAnswer::Finished(n),
-            workers: left,
+            workers: Workers {
+                slots: left,
+                count: workers.count,
+            },
         };
     }
     RunReply {
         answer: answer_after(records, n),
-        workers: left,
+        workers: Workers {
+            slots: left,
+            count: workers.count,
+        },
     }
 }

@@ -9,6 +9,7 @@ use lib.ListN.{length}
 use lib.Seq.{take-length}
 use Rattle.model.specs.declared.Sizes.{Sizes}
 use Rattle.worker.specs.declared.Worker.{Worker}
+use Rattle.model.specs.Lengths.{RecordsFit}
 use Rattle.model.specs.Lists.{below, every, some, keep, firstOr}
 use Rattle.model.specs.Links.{mark, finished}
 use Rattle.model.specs.Plan.{plan, planOf}
@@ -18,7 +19,6 @@ use Rattle.records.specs.Records.{marksFrom, lent}
 use Rattle.records.proofs.Laws.{length-marks}
 use Rattle.finite_numbers.specs.declared.Lowest.{Lowest}
 use Rattle.finite_numbers.specs.declared.Lowest.the-variants.{None, At}
-use Rattle.checks.specs.Checks.{RecordsFit}
 use Rattle.laws.proofs.Searches.{every-places, every-is-none}
 
 -- whether something was found
@@ -50,7 +50,7 @@ module _ (r : List (List ℕ)) where
       ∙ sym (by-mark ∙ every-is-none (λ p. finished (mark (marksFrom r) p)) (below (length r)))
 
 -- the search over the lent records is the definition's
-pub unfinished-is : (z : Sizes) (m : List Float) (l : List ℕ) (r : List (List ℕ)) (ws : List Worker) → RecordsFit z r
-    → keep (λ p. not (finished (mark (marksFrom r) p))) (below (length r)) ≡ unfinished (planOf z) (lent m l r ws (z .workers))
+pub unfinished-is : (z : Sizes) (m : List Float) (l : List ℕ) (r : List (List ℕ)) (ws : List Worker) (count : ℕ) → RecordsFit z r
+    → keep (λ p. not (finished (mark (marksFrom r) p))) (below (length r)) ≡ unfinished (planOf z) (lent m l r ws count)
 unfolding unfinished marksOf lent marksFrom plan
-unfinished-is z m l r ws fit = ap (λ (n : ℕ). keep (λ p. not (finished (mark (marksFrom r) p))) (below n)) fit
+unfinished-is z m l r ws count fit = ap (λ (n : ℕ). keep (λ p. not (finished (mark (marksFrom r) p))) (below n)) fit

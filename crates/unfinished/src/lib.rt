@@ -10,10 +10,11 @@ ghost use Rattle.finite_numbers.specs.declared.Lowest.the-variants.{None, At};
 use finite_numbers::Lowest;
 use marks::is_finished;
 use model::RunAnswer;
+use records::Record;
 use records::mark_of;
 
 // The lowest task that is unfinished.
-pub fn first_unfinished(records: &[[u8; 5]]) -> Lowest
+pub fn first_unfinished(records: &[Record]) -> Lowest
     ensures { λ r. ⌜ r ≡ firstOr (keep (λ p. not (finished (markAt (marksFrom (now (records .entry))) p))) (below (length (now (records .entry))))) At None ⌝ }
 {
     let mut p = 0;
@@ -27,7 +28,7 @@ pub fn first_unfinished(records: &[[u8; 5]]) -> Lowest
 }
 
 // Whether every task is finished.
-fn all_finished(records: &[[u8; 5]]) -> bool
+fn all_finished(records: &[Record]) -> bool
     ensures { λ r. ⌜ r ≡ every finished (marksFrom (now (records .entry))) ⌝ }
 {
     let task = first_unfinished(records);
@@ -38,7 +39,7 @@ fn all_finished(records: &[[u8; 5]]) -> bool
 }
 
 // What a run answers whose budget is spent, after n calls.
-pub fn answer_after(records: &[[u8; 5]], n: u64) -> RunAnswer
+pub fn answer_after(records: &[Record], n: u64) -> RunAnswer
     ensures { λ r. ⌜ r ≡ cond (every finished (marksFrom (now (records .entry)))) (Finished n) (Spent n) ⌝ }
 {
     if all_finished(records) {

@@ -4,7 +4,6 @@ use mathlib.Core.Bool.{Bool, true, false}
 use mathlib.Core.Path.{_≡_, sym, ap, _∙_}
 use mathlib.Core.List.{List}
 use lib.Ieee.{Float}
-use lib.ListN.{length}
 use Rattle.model.specs.declared.Sizes.{Sizes}
 use Rattle.worker.specs.declared.Worker.{Worker}
 use Rattle.model.specs.declared.Answer.{Answer}
@@ -17,9 +16,9 @@ use Rattle.answers.proofs.Refusals.{is-accepted, not-accepted}
 use Rattle.column_checks.proofs.Laws.{accepted-then}
 use Rattle.advancing.specs.Advancing.{Working}
 
-module _ (z : Sizes) (m : List Float) (l : List ℕ) (r : List (List ℕ)) (ws : List Worker) (w : ℕ) where
+module _ (z : Sizes) (m : List Float) (l : List ℕ) (r : List (List ℕ)) (ws : List Worker) (count w : ℕ) where
   abbrev old : Lent
-  old = lent m l r ws (z .workers)
+  old = lent m l r ws count
 
   module _ (a : Answer) (e : a ≡ columnAnswer z w old) (b : Bool) (f : b ≡ accepts a) where
     pub refused : b ≡ false → _≡_ {A = Reply} (record { answer = a; left = old }) (columnCall z w old)
@@ -27,10 +26,10 @@ module _ (z : Sizes) (m : List Float) (l : List ℕ) (r : List (List ℕ)) (ws :
     refused q = not-accepted a b old (advanced (planOf z) w old) f q ∙ ap (λ k. replied k old (advanced (planOf z) w old)) e
 
     module _ (q : b ≡ true) where
-      pub works-then : length ws ≡ 32 → Working z w m l r ws
-      works-then long =
-          let (s, x, y, t) = accepted-then z m l r ws w long (sym e ∙ is-accepted a b f q) in
-          record { sound = s; exists = x; busy = y; tiles-finite = t }
+      pub works-then : Working z w m l r ws × (count ≡ z .workers)
+      works-then =
+          let (n, s, x, y, t) = accepted-then z m l r ws count w (sym e ∙ is-accepted a b f q) in
+          (record { sound = s; exists = x; busy = y; tiles-finite = t }, n)
 
       pub worked : (left : Lent) → left ≡ advanced (planOf z) w old → _≡_ {A = Reply} (record { answer = a; left = left }) (columnCall z w old)
       unfolding columnCall replied

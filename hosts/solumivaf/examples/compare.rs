@@ -14,10 +14,10 @@ fn main() {
     let began = Instant::now();
     let (mut calls, mut texts, mut seed) = (0, 0, first);
     while began.elapsed() < limit {
-        calls += compare::calls_of(seed, 3200) + compare::columns_of(seed);
-        texts += compare::texts_of(seed);
+        calls += compare::calls_of(seed, 4000) + compare::columns_of(seed);
+        texts += compare::texts_of(seed) + compare::writings_of(seed);
         eprint!(
-            "\rseeds {first} to {seed}: {calls} calls and {texts} texts alike, {} s",
+            "\rseeds {first} to {seed}: {calls} calls and {texts} texts and writings alike, {} s",
             began.elapsed().as_secs()
         );
         seed += 1;

@@ -2,6 +2,9 @@
 
 mod raw;
 
+/// The version of the interface, as hosts/solumivaf.h has it.
+pub const VERSION: u32 = 2;
+
 /// The number of worker slots, and the most workers.
 pub const SLOTS: usize = 32;
 
@@ -13,7 +16,7 @@ pub struct Sizes {
     pub workers: usize,
 }
 
-/// A task: kind 1 to 4, k, i and j, and its mark: 0 waiting, 1 taken, 2 done, 3 failed, 4 spoiled.
+/// A task: kind 1 to 4, k, i and j, and its mark: 0 while it waits, 1 once taken, 2 to 4 when done, failed or spoiled.
 #[repr(C)]
 #[derive(Clone, Copy, Debug, Default, PartialEq, Eq)]
 pub struct Record {
@@ -24,9 +27,11 @@ pub struct Record {
     pub mark: u8,
 }
 
-/// The worker slots: slot v is idle, or holds a task and its next column.
+/// The worker slots: slot v is idle, or holds a task and its next column. The first `count` are the workers that are lent, and a call told another W
+/// is refused 2.
 #[derive(Clone, Debug, Default, PartialEq, Eq)]
 pub struct Workers {
+    pub count: usize,
     pub busy: [bool; SLOTS],
     pub task: [u16; SLOTS],
     pub column: [u8; SLOTS],
@@ -129,6 +134,7 @@ macro_rules! call {
                 $lent.workers.busy.$records(),
                 $lent.workers.task.$records(),
                 $lent.workers.column.$records(),
+                $lent.workers.count,
                 $($more),*
             )
         }
@@ -143,7 +149,7 @@ impl Lent {
             matrix,
             lists: vec![0; n * n * sizes.side],
             records: vec![Record::default(); n * (n + 1) * (2 * n + 1) / 6],
-            workers: Workers::default(),
+            workers: Workers { count: sizes.workers, ..Workers::default() },
         }
     }
 

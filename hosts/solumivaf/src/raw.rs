@@ -16,6 +16,7 @@ extern "C" {
         busy: *mut bool,
         task: *mut u16,
         column: *mut u8,
+        count: usize,
     ) -> Told;
 
     pub fn solumivaf_take(
@@ -31,6 +32,7 @@ extern "C" {
         busy: *mut bool,
         task: *mut u16,
         column: *mut u8,
+        count: usize,
         w: usize,
         p: usize,
     ) -> Told;
@@ -48,6 +50,7 @@ extern "C" {
         busy: *mut bool,
         task: *mut u16,
         column: *mut u8,
+        count: usize,
         w: usize,
     ) -> Told;
 
@@ -64,6 +67,7 @@ extern "C" {
         busy: *mut bool,
         task: *mut u16,
         column: *mut u8,
+        count: usize,
         budget: u64,
     ) -> Told;
 
@@ -80,6 +84,7 @@ extern "C" {
         busy: *const bool,
         task: *const u16,
         column: *const u8,
+        count: usize,
     ) -> Told;
 
     pub fn solumivaf_solve(
@@ -95,6 +100,7 @@ extern "C" {
         busy: *const bool,
         task: *const u16,
         column: *const u8,
+        count: usize,
         right: *const f64,
         right_length: usize,
         answers: *mut f64,

@@ -1,5 +1,5 @@
-//! Library and reference program on random call lists, single columns and texts: at least 20,000 calls, in a few seconds. Then specimens, T-3 before
-//! T-2, and a NaN written.
+//! Library and reference program on random call lists, single columns, texts and writings: at least 20,000 calls, in a few seconds. Then
+//! specimens, T-3 before T-2, a NaN written, other counts of workers than W, and the lengths of the buffers that the wrapper makes.
 
 mod compare;
 
@@ -10,7 +10,7 @@ fn same_answers_and_states() {
     let mut calls = 0;
     let mut seed = 1;
     while calls < 20_000 {
-        calls += compare::calls_of(seed, 3200);
+        calls += compare::calls_of(seed, 4000);
         seed += 1;
     }
 }
@@ -28,6 +28,12 @@ fn same_texts() {
         texts += compare::texts_of(seed);
     }
     assert!(texts > 1000, "only {texts} texts");
+}
+
+#[test]
+fn same_writings() {
+    let writings: usize = (1..=2).map(compare::writings_of).sum();
+    assert!(writings > 4000, "only {writings} writings");
 }
 
 #[test]
@@ -84,5 +90,54 @@ fn a_nan_has_one_text() {
     for bits in [0x7FF8_0000_0000_0000, 0x7FF8_0000_0000_0001, 0xFFF0_0000_0000_0005] {
         assert_eq!(solumivaf::write_system(1, 1, &[f64::from_bits(bits)], &mut text), Ok(30));
         assert_eq!(&text, b"010101\n0200007FF8000000000000\n");
+    }
+}
+
+/// A call that is told another W than the count of the workers lent is refused 2 and changes nothing, whatever the count.
+#[test]
+fn another_count() {
+    use solumivaf::{Lent, Refusal, Run, Sizes};
+    let two = Refusal { number: 2, place: 0 };
+    let sizes = Sizes { tiles: 2, side: 1, workers: 2 };
+    let mut lent = Lent::of(sizes, vec![1.0, 2.0, 4.0, 4.0]);
+    lent.open(sizes).unwrap();
+    for count in [0, 1, 3, 32, 33, 258, (1 << 32) + 2, usize::MAX] {
+        lent.workers.count = count;
+        let before = (bits(&lent.matrix), lent.lists.clone(), lent.records.clone(), lent.workers.clone());
+        let mut answers = [7.0; 2];
+        assert_eq!(lent.open(sizes), Err(two));
+        assert_eq!(lent.take(sizes, 0, 0), Err(two));
+        assert_eq!(lent.column(sizes, 0), Err(two));
+        assert_eq!(lent.run(sizes, u64::MAX), Err(two));
+        assert_eq!(lent.outcome(sizes), Err(two));
+        assert_eq!(lent.solve(sizes, &[3.0, 8.0], &mut answers), Err(two));
+        assert_eq!(answers, [7.0; 2]);
+        assert_eq!(
+            before,
+            (bits(&lent.matrix), lent.lists.clone(), lent.records.clone(), lent.workers.clone())
+        );
+        let beyond = Sizes { workers: 33, ..sizes };
+        assert_eq!(lent.run(beyond, 0), Err(Refusal { number: 1, place: 0 }));
+    }
+    lent.workers.count = 2;
+    assert_eq!(lent.take(Sizes { workers: 1, ..sizes }, 0, 0), Err(two));
+    assert_eq!(lent.take(Sizes { workers: 3, ..sizes }, 2, 0), Err(two));
+    assert_eq!(lent.run(sizes, u64::MAX), Ok(Run::Finished(10)));
+}
+
+/// The buffers that the wrapper makes have the lengths that the calls ask for, for every N and t.
+#[test]
+fn made_buffers() {
+    use solumivaf::{Ending, Lent, Record, Sizes};
+    for tiles in 1..=16 {
+        for side in 1..=16 {
+            let shape = reference::tile::Shape { tiles, side };
+            let sizes = Sizes { tiles, side, workers: 1 };
+            let mut lent = Lent::of(sizes, vec![1.0; shape.matrix_length()]);
+            assert_eq!(lent.lists, vec![0; shape.lists_length()]);
+            assert_eq!(lent.records, vec![Record::default(); reference::tasks::numbering(tiles).len()]);
+            assert_eq!(lent.open(sizes), Ok(()), "{shape:?}");
+            assert_eq!(lent.outcome(sizes), Ok(Ending::Unfinished(0)), "{shape:?}");
+        }
     }
 }

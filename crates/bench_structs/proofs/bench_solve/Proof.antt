@@ -24,7 +24,6 @@ use denote.RattleType.{owns}
 use denote.Laws.{Is, shows}
 use denote.Plain.{uint-lawful}
 use denote.Builtin.{u8, f64}
-use denote.Array.{Array, array-lawful}
 use denote.Signature.{plain, shrSliceOf}
 use denote.Ref.{RefT, now}
 use denote.Slice.{sliceVal, MutSlice, ShrSlice, Room, finally, slice-vals, mut-slice-tells, shr-slice-tells}
@@ -40,14 +39,14 @@ use denote.Triple.Walked.{says, Stays, gave-slice, stay-dropped, walkOf, AllGo, 
 use denote.Exit.{yes}
 use Rattle.model.specs.declared.Sizes.{Sizes}
 use Rattle.model.specs.declared.TaskRecord.{TaskRecord}
-use Rattle.worker.specs.declared.Worker.{Worker}
+use Rattle.worker.specs.declared.Workers.{Workers}
 use Rattle.copies.specs.Whole.{whole}
 use Rattle.copies.proofs.Steps.{unasked}
 use Rattle.model.proofs.TaskRecord as T
 use Rattle.model.proofs.Sizes as Sz
 use Rattle.model.proofs.Sizes.Laws as Sz′
-use Rattle.worker.proofs.Worker as Wk
-use Rattle.worker.proofs.Worker.Laws as Wk′
+use Rattle.worker.proofs.Workers as Wk
+use Rattle.worker.proofs.Workers.Laws as Wk′
 use denote.Enum.Laws as EL
 use Rattle.model.specs.declared.Answer.{Answer}
 use Rattle.model.proofs.Answer as Rp
@@ -155,7 +154,7 @@ module _ {M : Type 1} (𝓤 : URA M) (H : Heap 𝓤) (A : Atoms 𝓤) (W : Given
   abbrev Post : Val → SProp 𝓤
   Post = walkOf 𝓤 H A f.ended stayed (f.clauses 𝓤 H A mem run) .post (((κ₁, (κ₂, (κ₃, (κ₄, (κ₆, tt))))), (q₁, (q₂, (q₃, (q₄, (q₆, tt))))), tt, a, vs), tt)
 
-  exits : (r : ℕ) (v : Val) (us′ : List Float) → ((r ≡ answerNumber (solveCall z (whole ms ls ys idles (z .workers)) bs us .answer)) × (us′ ≡ solveCall z (whole ms ls ys idles (z .workers)) bs us .left)) → length us′ ≡ length us
+  exits : (r : ℕ) (v : Val) (us′ : List Float) → ((r ≡ answerNumber (solveCall z (whole ms ls ys (idles (z .workers))) bs us .answer)) × (us′ ≡ solveCall z (whole ms ls ys (idles (z .workers))) bs us .left)) → length us′ ≡ length us
       → ent 𝓤 (⋆ 𝓤 H A (‵ (flft κ₁ q₁) ∷ ‵ (flft κ₂ q₂) ∷ ‵ (flft κ₃ q₃) ∷ ‵ (flft κ₄ q₄) ∷ ‵ (flft κ₆ q₆) ∷ ‵ (finally f64 γ₆ us′) ∷ ‵ (u8 .own r (v ∷ [])) ∷ [])) (Post v)
   exits r v us′ e len₆ =
       qed W (‵ (flft κ₁ q₁) ∷ ‵ (flft κ₂ q₂) ∷ ‵ (flft κ₃ q₃) ∷ ‵ (flft κ₄ q₄) ∷ ‵ (flft κ₆ q₆) ∷ ‵ (finally f64 γ₆ us′) ∷ ‵ (u8 .own r (v ∷ [])) ∷ []) ∵
@@ -165,27 +164,27 @@ module _ {M : Type 1} (𝓤 : URA M) (H : Heap 𝓤) (A : Atoms 𝓤) (W : Given
 
   -- `idle_workers`
   abbrev to-mk : Make 𝓤 H A mem run .Ghost
-  to-mk = ((tt, tt, tt, tt, tt), tt)
+  to-mk = ((tt, tt, tt, (z, tt), (LL.vals Sz.the-type Sz′.the-laws z, tt)), tt)
 
   goes-mk : ent 𝓤 (sem 𝓤 H A ftrue) (Make 𝓤 H A mem run .pre to-mk)
-  goes-mk = unasked 𝓤 (qed W (‵ ftrue ∷ []) ∵ frame ! $ nothing ! $ done !)
+  goes-mk = unasked 𝓤 (qed W (‵ ftrue ∷ []) ∵ frame ! $ nothing ! $ owned ! Sz.the-row (Is Sz.the-row) (LL.makes Sz.the-type Sz′.the-plain 𝓤 H A) z _ z-is $ fjoin ! $ done !)
 
-  said-mk : (t : List Worker) → ent 𝓤 (ensured 𝓤 H A mk.ended (mk.clauses 𝓤 H A mem run) tt tt tt t) (fact 𝓤 (t ≡ idles))
-  said-mk t = exE 𝓤 _ (λ ws. snd∗ 𝓤 (sem 𝓤 H A (lasts mk.ended tt tt ws)) (fact 𝓤 (t ≡ idles)))
+  said-mk : (t : Workers) → ent 𝓤 (ensured 𝓤 H A mk.ended (mk.clauses 𝓤 H A mem run) tt (z, tt) tt t) (fact 𝓤 (t ≡ idles (z .workers)))
+  said-mk t = exE 𝓤 _ (λ ws. snd∗ 𝓤 (sem 𝓤 H A (lasts mk.ended tt (z, tt) ws)) (fact 𝓤 (t ≡ idles (z .workers))))
 
   -- `solve_call::solve`
-  abbrev to-co : List Worker → Val → Core 𝓤 H A mem run .Ghost
+  abbrev to-co : Workers → Val → Core 𝓤 H A mem run .Ghost
   to-co t v = (((κ₁, (κ₂, (κ₃, (κ₄, (κ₆, tt))))), (q₁, (q₂, (q₃, (q₄, (q₆, tt))))), tt, (z, (m, (ll, (rs, (t, (rr, (aa, tt))))))), (LL.vals Sz.the-type Sz′.the-laws z, (s₁ ∷ [], (s₂ ∷ [], (s₃ ∷ [], (v ∷ [], (s₄ ∷ [], (s₆ ∷ [], tt)))))))), tt)
 
-  goes-co : (t : List Worker) (v : Val) → ent 𝓤 (sep 𝓤 (sep 𝓤 (A .lft κ₁ q₁) (sep 𝓤 (A .lft κ₂ q₂) (sep 𝓤 (A .lft κ₃ q₃) (sep 𝓤 (A .lft κ₄ q₄) (A .lft κ₆ q₆))))) (sep 𝓤 (sep 𝓤 (sem 𝓤 H A Mat) (sep 𝓤 (sem 𝓤 H A Lis) (sep 𝓤 (sem 𝓤 H A Rec) (sep 𝓤 (sem 𝓤 H A Rig) (sem 𝓤 H A Ans))))) (sem 𝓤 H A (Array Wk.the-row 32 .own t (v ∷ []))))) (Core 𝓤 H A mem run .pre (to-co t v))
+  goes-co : (t : Workers) (v : Val) → ent 𝓤 (sep 𝓤 (sep 𝓤 (A .lft κ₁ q₁) (sep 𝓤 (A .lft κ₂ q₂) (sep 𝓤 (A .lft κ₃ q₃) (sep 𝓤 (A .lft κ₄ q₄) (A .lft κ₆ q₆))))) (sep 𝓤 (sep 𝓤 (sem 𝓤 H A Mat) (sep 𝓤 (sem 𝓤 H A Lis) (sep 𝓤 (sem 𝓤 H A Rec) (sep 𝓤 (sem 𝓤 H A Rig) (sem 𝓤 H A Ans))))) (sem 𝓤 H A (Wk.the-row .own t (v ∷ []))))) (Core 𝓤 H A mem run .pre (to-co t v))
   goes-co t v =
-      unasked 𝓤 (qed W ((‵ (flft κ₁ q₁) ⊛ ‵ (flft κ₂ q₂) ⊛ ‵ (flft κ₃ q₃) ⊛ ‵ (flft κ₄ q₄) ⊛ ‵ (flft κ₆ q₆)) ∷ (‵ Mat ⊛ ‵ Lis ⊛ ‵ Rec ⊛ ‵ Rig ⊛ ‵ Ans) ∷ ‵ (Array Wk.the-row 32 .own t (v ∷ [])) ∷ []) ∵ split3 ! $ move ! (2 ∷ []) $ split3 ! $
+      unasked 𝓤 (qed W ((‵ (flft κ₁ q₁) ⊛ ‵ (flft κ₂ q₂) ⊛ ‵ (flft κ₃ q₃) ⊛ ‵ (flft κ₄ q₄) ⊛ ‵ (flft κ₆ q₆)) ∷ (‵ Mat ⊛ ‵ Lis ⊛ ‵ Rec ⊛ ‵ Rig ⊛ ‵ Ans) ∷ ‵ (Wk.the-row .own t (v ∷ [])) ∷ []) ∵ split3 ! $ move ! (2 ∷ []) $ split3 ! $
       nothing ! $ move ! (3 ∷ 0 ∷ []) $ join ! $ move ! (2 ∷ 0 ∷ []) $ join ! $ move ! (1 ∷ 0 ∷ []) $ join ! $ move ! (2 ∷ 0 ∷ []) $ join ! $ move ! (1 ∷ 0 ∷ []) $ join ! $ frame ! $ split3 ! $ move ! (2 ∷ []) $ split3 ! $
       nothing ! $ move ! (3 ∷ 0 ∷ []) $ fjoin ! $ move ! (2 ∷ 0 ∷ []) $ fjoin ! $ move ! (4 ∷ 0 ∷ []) $ fjoin ! $ move ! (1 ∷ 0 ∷ []) $ fjoin ! $ move ! (2 ∷ 0 ∷ []) $ fjoin ! $ move ! (1 ∷ 0 ∷ []) $ fjoin ! $
       owned ! Sz.the-row (Is Sz.the-row) (LL.makes Sz.the-type Sz′.the-plain 𝓤 H A) z _ z-is $ fjoin ! $ done !)
 
-  abbrev Told : (t : List Worker) (r : Answer) (us′ : List Float) → Type 0
-  Told t r us′ = record { answer = r; left = us′ } ≡ solveCall z (whole ms ls ys t (z .workers)) bs us
+  abbrev Told : (t : Workers) (r : Answer) (us′ : List Float) → Type 0
+  Told t r us′ = record { answer = r; left = us′ } ≡ solveCall z (whole ms ls ys t) bs us
 
   -- `number_of`
   abbrev to-tl : Answer → Val → Tell 𝓤 H A mem run .Ghost
@@ -206,9 +205,9 @@ module _ {M : Type 1} (𝓤 : URA M) (H : Heap 𝓤) (A : Atoms 𝓤) (W : Given
         -- the tokens and the borrows to the front; then the locals, the last first, each with what says that it dies
         move ! (23 ∷ []) $ fsplit ! $ move ! (1 ∷ []) $ fsplit ! $ move ! (1 ∷ []) $ fsplit ! $ move ! (1 ∷ []) $ fsplit ! $ move ! (1 ∷ []) $ fsplit ! $ move ! (1 ∷ []) $ fsplit ! $ move ! (29 ∷ []) $ split ! $ move ! (1 ∷ []) $ split ! $ move ! (1 ∷ []) $ split ! $ move ! (1 ∷ []) $ split ! $ move ! (1 ∷ []) $ split ! $ keep ! (5 ∷ 4 ∷ 3 ∷ 2 ∷ 0 ∷ 11 ∷ 10 ∷ 9 ∷ 8 ∷ 6 ∷ 13 ∷ 14 ∷ 15 ∷ 16 ∷ 17 ∷ 18 ∷ 19 ∷ 20 ∷ 21 ∷ 22 ∷ 23 ∷ 24 ∷ 25 ∷ 26 ∷ 27 ∷ 28 ∷ 29 ∷ 30 ∷ 31 ∷ 32 ∷ 33 ∷ 34 ∷ []) $
         -- the workers
-        nothing ! $ use1 W (raw (Make 𝓤 H A mem run .pre to-mk)) (goes-mk) $ calls-at ! fm (Make 𝓤 H A mem run) known-mk to-mk (no-more !) (λ w₀.
-        use1 W (later (some (λ (t : List Worker). (‵ ftrue ⊛ ‵ (Array Wk.the-row 32 .own t (w₀ ∷ []))) ⊛ raw (ensured 𝓤 H A mk.ended (mk.clauses 𝓤 H A mem run) tt tt tt t)))) (id⊢ 𝓤 _) $ await ! tt $ pick ! (λ t₀. split ! $ move ! (1 ∷ []) $ use1 W (raw (fact 𝓤 (t₀ ≡ idles))) (said-mk t₀) $ heard ! (t₀ ≡ idles) (λ e₀. split ! $ drop ! $ peeks ! (Array Wk.the-row 32) (Is (Array Wk.the-row 32)) (shows 𝓤 H A (Array Wk.the-row 32)) t₀ (w₀ ∷ []) (λ is₀.
-        land ! (from ! (stop !)) (init ! 15 refl (array-lawful 𝓤 H A W Wk.the-row (LL.lawful Wk.the-type Wk′.the-laws 𝓤 H A W) 32 .typed t₀ _ is₀ .0)) $
+        nothing ! $ use1 W (raw (Make 𝓤 H A mem run .pre to-mk)) (goes-mk) $ calls-at ! fm (Make 𝓤 H A mem run) known-mk to-mk (and-then ! (load ! (from ! (stop !)) (look ! 29 refl)) (no-more !)) (λ w₀.
+        use1 W (later (some (λ (t : Workers). (‵ ftrue ⊛ ‵ (Wk.the-row .own t (w₀ ∷ []))) ⊛ raw (ensured 𝓤 H A mk.ended (mk.clauses 𝓤 H A mem run) tt (z, tt) tt t)))) (id⊢ 𝓤 _) $ await ! tt $ pick ! (λ t₀. split ! $ move ! (1 ∷ []) $ use1 W (raw (fact 𝓤 (t₀ ≡ idles (z .workers)))) (said-mk t₀) $ heard ! (t₀ ≡ idles (z .workers)) (λ e₀. split ! $ drop ! $ peeks ! (Wk.the-row) (Is (Wk.the-row)) (shows 𝓤 H A (Wk.the-row)) t₀ (w₀ ∷ []) (λ is₀.
+        land ! (from ! (stop !)) (init ! 15 refl (LL.lawful Wk.the-type Wk′.the-laws 𝓤 H A W .typed t₀ _ is₀ .0)) $
         assigns ! (addr ! (from ! (fld ! refl (hop ! (look-in ! 19 (sub ! 0 refl (all-of !))) (stop !))))) (from ! (stop !)) (init ! 13 refl (tt, tt)) $
         assigns ! (agg ! (and-then ! (load ! (from ! (stop !)) (look ! 13 refl)) (and-then ! (load ! (from ! (fld ! refl (stop !))) (look-in ! 19 (sub ! 1 refl (all-of !)))) (no-more !)))) (from ! (stop !)) (init ! 11 refl (tt, (tt, (record { fits = room₆ .0 }, tt)))) $
         -- the call
@@ -223,7 +222,7 @@ module _ {M : Type 1} (𝓤 : URA M) (H : Heap 𝓤) (A : Atoms 𝓤) (W : Given
         use1 W (later (some (λ (t : ℕ). (‵ ftrue ⊛ ‵ (u8 .own t (w₂ ∷ []))) ⊛ raw (ensured 𝓤 H A tl.ended (tl.clauses 𝓤 H A mem run) tt (t₁, tt) tt t)))) (id⊢ 𝓤 _) $ await ! tt $ pick ! (λ t₂. split ! $ move ! (1 ∷ []) $ use1 W (raw (fact 𝓤 (t₂ ≡ answerNumber t₁))) (said-tl t₁ t₂) $ heard ! (t₂ ≡ answerNumber t₁) (λ e₂. split ! $ drop ! $ peeks ! u8 (Is u8) (shows 𝓤 H A u8) t₂ (w₂ ∷ []) (λ is₂. land ! (from ! (stop !)) (init ! 23 refl (uint-lawful 𝓤 H A W w8 .typed t₂ _ is₂ .0)) $
         move ! (1 ∷ []) $ split ! $ move ! (1 ∷ []) $ split ! $ move ! (1 ∷ []) $ split ! $ move ! (1 ∷ []) $ split3 ! $ returns ! (look ! 28 refl) $ forget ! 28 refl $ forget ! 26 refl $ forget ! 24 refl $ forget ! 22 refl $ forget ! 20 refl $ forget ! 18 refl $ forget ! 16 refl $ forget ! 14 refl $ forget ! 12 refl $ forget ! 10 refl $ forget ! 8 refl $
         move ! (28 ∷ 29 ∷ []) $ free1 ! $ move ! (26 ∷ 27 ∷ []) $ free1 ! $ move ! (24 ∷ 25 ∷ []) $ free1 ! $ move ! (22 ∷ 23 ∷ []) $ free1 ! $ move ! (20 ∷ 21 ∷ []) $ free1 ! $ move ! (18 ∷ 19 ∷ []) $ free1 ! $ move ! (16 ∷ 17 ∷ []) $ free1 ! $ move ! (14 ∷ 15 ∷ []) $ free1 ! $ move ! (12 ∷ 13 ∷ []) $ free1 ! $ move ! (10 ∷ 11 ∷ []) $ free1 ! $ move ! (8 ∷ 9 ∷ []) $ free1 ! $ free0 ! $
-        keep ! (5 ∷ 4 ∷ 3 ∷ 0 ∷ 1 ∷ 7 ∷ 6 ∷ []) $ by ! (exits t₂ w₂ (ws₁ .1 .1 .1 .1 .1 .1 .0) (solves ms ls ys (z .workers) t₀ idles e₀ t₂ (λ (s : Lent). solveCall z s bs us) t₁ (ws₁ .1 .1 .1 .1 .1 .1 .0) e₁ e₂) same-answers))))))))))))))))))))))))))
+        keep ! (5 ∷ 4 ∷ 3 ∷ 0 ∷ 1 ∷ 7 ∷ 6 ∷ []) $ by ! (exits t₂ w₂ (ws₁ .1 .1 .1 .1 .1 .1 .0) (solves ms ls ys t₀ (idles (z .workers)) e₀ t₂ (λ (s : Lent). solveCall z s bs us) t₁ (ws₁ .1 .1 .1 .1 .1 .1 .0) e₁ e₂) same-answers))))))))))))))))))))))))))
 
 module _ {M : Type 1} (𝓤 : URA M) (H : Heap 𝓤) (A : Atoms 𝓤) (W : Given 𝓤 H A) (mem : Memory → SProp 𝓤) (run : Routine → Fun 𝓤) (𝓣 : Tables 𝓤 H) (known-mk : Triple 𝓤 (𝓣 .C #mk) (Make 𝓤 H A mem run)) (known-co : Triple 𝓤 (𝓣 .C #co) (Core 𝓤 H A mem run)) (known-tl : Triple 𝓤 (𝓣 .C #tl) (Tell 𝓤 H A mem run)) where
   walks : Walks 𝓤 H A f.ended stayed (WpFn 𝓤 H (𝓣 .C) (𝓣 .Λ) code.function) (f.clauses 𝓤 H A mem run)

@@ -11,7 +11,7 @@ idle-requires c κs = search needs
 
 returns : tie.Need-returns
 unfolding idles
-returns c = ap (replicate 32) (c .idle .ensures)
+returns c = λ i. record { slots = ap (replicate 32) (c .idle .ensures) i; count = c .before .args .z .workers }
 
 pub idle-workers-spec : {M : Type 1} → statement M
 idle-workers-spec = tie.close (tie.spec idle-requires returns)

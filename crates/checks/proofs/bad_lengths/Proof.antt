@@ -1,4 +1,4 @@
--- Each length is tested; of the 32 slots the right number is lent. Assumes nothing.
+-- Each length is tested. Assumes nothing.
 use native.Mathlib.Omega.{arith}
 use borrow.Author.Needs.{needs}
 use Rattle.checks.proofs.Laws.{small, lengths-are}
@@ -18,7 +18,7 @@ task-count-requires : tie.Need-task-count-requires
 task-count-requires c κs = search needs
 
 returns : tie.Need-returns
-returns c = λ slots e. lengths-are _ _ _ _ (c .before .before .before .before .before .pre) slots e (c .task-count .ensures)
+returns c = λ slots. lengths-are _ _ _ _ slots _ (c .before .task-count .ensures)
 
 pub bad-lengths-spec : {M : Type 1} → statement M
 bad-lengths-spec =

@@ -10,7 +10,7 @@ slice-relend-prefix-column : tie.Need-slice-relend-prefix-column
 slice-relend-prefix-column c = search needs
 
 slice-aggregate-column : tie.Need-slice-aggregate-column
-slice-aggregate-column c = sym (length-take-le (c .before .before .before .before .before .args .n) (c .before .before .before .before .before .args .records .now) (c .before .before .before .before .before .pre))
+slice-aggregate-column c = sym (length-take-le _ (c .before .before .before .before .before .args .records .now) (search needs))
 
 column-requires : tie.Need-column-requires
 column-requires c κs = search needs

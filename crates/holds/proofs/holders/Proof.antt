@@ -7,7 +7,8 @@ use lib.ListN.{length, getD}
 use Rattle.model.specs.Refusal.{holds}
 use Rattle.worker.specs.Holding.{idle}
 use Rattle.model.specs.Lists.{run, below, keep}
-use Rattle.laws.proofs.Searches.{keep-begins, keep-counts, keep-passes, keep-ends, keep-places}
+use Rattle.laws.proofs.Searches.{keep-begins, keep-counts, keep-passes, keep-ends}
+use Rattle.records.proofs.Laws.{keep-workers}
 use Rattle.holds.proofs.holders.Statement.{statement}
 use Rattle.holds.proofs.holders.Tie as tie
 
@@ -48,8 +49,7 @@ loop-again c = ⊎-elim
     (c .if1 .came)
 
 returns : tie.Need-returns Inv-loop μ-loop
-returns c = let e : length (c .before .before .args .t1) ≡ 32 = c .before .before .good .0 .1 .0 .1 in
-    keep-ends _ _ _ _ _ (c .loop-test .left) (c .before .loop .inv .2) ∙ sym (keep-places (holds (c .before .before .args .p)) (c .before .before .args .count) (c .before .before .args .t1) idle (omega arith))
+returns c = keep-ends _ _ _ _ _ (c .loop-test .left) (c .before .loop .inv .2) ∙ sym (keep-workers _ _ (holds (c .before .before .args .p)))
 
 pub holders-spec : {M : Type 1} → statement M
 holders-spec =

@@ -1,7 +1,9 @@
 -- Each variant tells. Assumes nothing.
 use mathlib.Core.Path.{sym, ap}
 use borrow.Author.Needs.{needs}
-use Rattle.host_answers.specs.Answers.{knownTold}
+use Rattle.model.specs.declared.Outcome.{Outcome}
+use Rattle.model.specs.declared.OutcomeAnswer.the-variants.{Known}
+use Rattle.host_answers.specs.Answers.{outcomeTold}
 use Rattle.host_answers.proofs.tell_known.Statement.{statement}
 use Rattle.host_answers.proofs.tell_known.Tie as tie
 
@@ -21,13 +23,13 @@ cast-t6 : tie.Need-cast-t6
 cast-t6 c = search needs
 
 returns : tie.Need-returns
-returns c = sym (ap knownTold (c .enum-told .given .1))
+returns c = sym (ap (λ (o : Outcome). outcomeTold (Known o)) (c .enum-told .given .1))
 
 returns-2 : tie.Need-returns-2
-returns-2 c = sym (ap knownTold (c .before .outcome .given .1))
+returns-2 c = sym (ap (λ (o : Outcome). outcomeTold (Known o)) (c .before .outcome .given .1))
 
 returns-3 : tie.Need-returns-3
-returns-3 c = sym (ap knownTold (c .before .outcome2 .given .1))
+returns-3 c = sym (ap (λ (o : Outcome). outcomeTold (Known o)) (c .before .outcome2 .given .1))
 
 pub tell-known-spec : {M : Type 1} → statement M
 tell-known-spec =

@@ -1,7 +1,9 @@
 -- Each variant tells. Assumes nothing.
 use mathlib.Core.Path.{sym, ap}
 use borrow.Author.Needs.{needs}
-use Rattle.host_answers.specs.Answers.{resultTold}
+use Rattle.model.specs.declared.Outcome.{Outcome}
+use Rattle.model.specs.declared.ReadAnswer.the-variants.{ResultRead}
+use Rattle.host_answers.specs.Answers.{readTold}
 use Rattle.host_answers.proofs.tell_result.Statement.{statement}
 use Rattle.host_answers.proofs.tell_result.Tie as tie
 
@@ -15,13 +17,13 @@ enum-known-outcome-2 : tie.Need-enum-known-outcome-2
 enum-known-outcome-2 c = search needs
 
 returns : tie.Need-returns
-returns c = sym (ap (resultTold (c .before .before .args .tiles) (c .before .before .args .side)) (c .enum-told .given .1))
+returns c = sym (ap (λ (o : Outcome). readTold (ResultRead (c .before .before .args .tiles) (c .before .before .args .side) o)) (c .enum-told .given .1))
 
 returns-2 : tie.Need-returns-2
-returns-2 c = sym (ap (resultTold (c .before .before .before .args .tiles) (c .before .before .before .args .side)) (c .before .outcome .given .1))
+returns-2 c = sym (ap (λ (o : Outcome). readTold (ResultRead (c .before .before .before .args .tiles) (c .before .before .before .args .side) o)) (c .before .outcome .given .1))
 
 returns-3 : tie.Need-returns-3
-returns-3 c = sym (ap (resultTold (c .before .before .before .args .tiles) (c .before .before .before .args .side)) (c .before .outcome2 .given .1))
+returns-3 c = sym (ap (λ (o : Outcome). readTold (ResultRead (c .before .before .before .args .tiles) (c .before .before .before .args .side) o)) (c .before .outcome2 .given .1))
 
 pub tell-result-spec : {M : Type 1} → statement M
 tell-result-spec =

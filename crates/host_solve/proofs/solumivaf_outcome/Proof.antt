@@ -1,9 +1,8 @@
 -- The workers are gathered, and the answer is told. Assumes nothing.
 use mathlib.Core.Path.{ap, _∙_}
-use mathlib.Core.List.{List}
-use Rattle.worker.specs.declared.Worker.{Worker}
+use Rattle.worker.specs.declared.Workers.{Workers}
 use Rattle.model.specs.Refusal.{outcomeCall}
-use Rattle.records.specs.Records.{lent}
+use Rattle.records.specs.Records.{allLent}
 use Rattle.host_answers.specs.Answers.{outcomeTold}
 use borrow.Author.Needs.{needs}
 use Rattle.host_solve.proofs.solumivaf_outcome.Statement.{statement}
@@ -21,7 +20,7 @@ tell-outcome-requires c κs = search needs
 returns : tie.Need-returns
 returns c =
     let a = c .before .before .before .before .before .before .before .before .args in
-    c .tell-outcome .ensures ∙ ap outcomeTold (c .before .outcome .ensures) ∙ ap (λ (k : List Worker). outcomeTold (outcomeCall (record { tiles = a .tiles; side = a .side; workers = a .workers }) (lent (a .matrix .now) (a .lists .now) (a .records .now) k (a .workers)))) (c .before .before .gather .ensures)
+    c .tell-outcome .ensures ∙ ap outcomeTold (c .before .outcome .ensures) ∙ ap (λ (k : Workers). outcomeTold (outcomeCall (record { tiles = a .tiles; side = a .side; workers = a .workers }) (allLent (a .matrix .now) (a .lists .now) (a .records .now) k))) (c .before .before .gather .ensures)
 
 pub solumivaf-outcome-spec : {M : Type 1} → statement M
 solumivaf-outcome-spec =

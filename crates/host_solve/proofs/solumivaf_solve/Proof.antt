@@ -22,7 +22,7 @@ returns : tie.Need-returns
 returns c =
     let e = c .before .before .before in
     let a = e .before .before .before .before .before .before .before .before .before .before .args in
-    solve-said (a .matrix .now) (a .lists .now) (a .records .now) (a .workers) _ (e .before .before .gather .result) (e .before .before .gather .ensures) (c .tell .result) (λ (s : Lent). solveCall (record { tiles = a .tiles; side = a .side; workers = a .workers }) s (a .right .now) (a .answers .now)) _ _ (e .solve .ensures) (c .tell .ensures)
+    solve-said (a .matrix .now) (a .lists .now) (a .records .now) _ (e .before .before .gather .result) (e .before .before .gather .ensures) (c .tell .result) (λ (s : Lent). solveCall (record { tiles = a .tiles; side = a .side; workers = a .workers }) s (a .right .now) (a .answers .now)) _ _ (e .solve .ensures) (c .tell .ensures)
 
 pub solumivaf-solve-spec : {M : Type 1} → statement M
 solumivaf-solve-spec =

@@ -9,10 +9,10 @@ use Rattle.host_workers.proofs.gather.Statement.{statement}
 use Rattle.host_workers.proofs.gather.Tie as tie
 
 abbrev Inv-loop : tie.InvT-loop
-Inv-loop busy task column workers₀ v₀ workers v = Alike busy task column workers v
+Inv-loop count busy task column slots₀ v₀ slots v = Alike busy task column slots v
 
 abbrev μ-loop : tie.MeasureT-loop
-μ-loop busy task column workers₀ v₀ workers v = 32 - v
+μ-loop count busy task column slots₀ v₀ slots v = 32 - v
 
 idle-requires : tie.Need-idle-requires Inv-loop μ-loop
 idle-requires c κs = search needs
@@ -27,23 +27,23 @@ loop-holds c = record {
   alike = λ i j. absurd (omega (arith, j));
 }
 
-array-read-t10 : tie.Need-array-read-t10 Inv-loop μ-loop
-array-read-t10 c = omega arith
+array-read-t11 : tie.Need-array-read-t11 Inv-loop μ-loop
+array-read-t11 c = omega arith
 
-mul-t13 : tie.Need-mul-t13 Inv-loop μ-loop
-mul-t13 c = omega arith
+mul-t14 : tie.Need-mul-t14 Inv-loop μ-loop
+mul-t14 c = omega arith
 
-array-read-t16 : tie.Need-array-read-t16 Inv-loop μ-loop
-array-read-t16 c = omega arith
+array-read-t17 : tie.Need-array-read-t17 Inv-loop μ-loop
+array-read-t17 c = omega arith
 
-array-read-t19 : tie.Need-array-read-t19 Inv-loop μ-loop
-array-read-t19 c = omega arith
+array-read-t20 : tie.Need-array-read-t20 Inv-loop μ-loop
+array-read-t20 c = omega arith
 
-mul-workers : tie.Need-mul-workers Inv-loop μ-loop
-mul-workers c = omega arith
+mul-slots : tie.Need-mul-slots Inv-loop μ-loop
+mul-slots c = omega arith
 
-array-set-from-workers : tie.Need-array-set-from-workers Inv-loop μ-loop
-array-set-from-workers c = omega arith
+array-set-from-slots : tie.Need-array-set-from-slots Inv-loop μ-loop
+array-set-from-slots c = omega arith
 
 add-v : tie.Need-add-v Inv-loop μ-loop
 add-v c = omega arith
@@ -56,10 +56,10 @@ unfolding workerIn
 loop-again c =
     let d = c .before in
     let a = d .before .before .args in
-    gathered (a .t1) (a .t2) (a .t3) (d .loop .workers) (d .loop .v) (d .loop .inv) (omega arith) _ refl
+    gathered (a .t1) (a .t2) (a .t3) (d .loop .slots) (d .loop .v) (d .loop .inv) (omega arith) _ refl
 
 returns : tie.Need-returns Inv-loop μ-loop
-returns c = all-alike _ _ _ _ (c .before .loop .v) (c .before .loop .inv) (omega arith)
+returns c = λ i. record { slots = all-alike _ _ _ _ (c .before .loop .v) (c .before .loop .inv) (omega arith) i; count = c .before .before .before .args .count }
 
 pub gather-spec : {M : Type 1} → statement M
 gather-spec =
@@ -69,12 +69,12 @@ gather-spec =
     μ-loop
     idle-requires
     loop-holds
-    array-read-t10
-    mul-t13
-    array-read-t16
-    array-read-t19
-    mul-workers
-    array-set-from-workers
+    array-read-t11
+    mul-t14
+    array-read-t17
+    array-read-t20
+    mul-slots
+    array-set-from-slots
     add-v
     loop-less
     loop-again

@@ -2,7 +2,7 @@
 use Prim.Native.Nat.{_-_}
 use mathlib.Core.Path.{refl, sym}
 use native.Mathlib.Omega.{arith}
-use borrow.Author.Needs.{needs}
+use Rattle.records.proofs.Laws.{length-slots}
 use Rattle.host_workers.proofs.Laws.{Alike, scattered, all-alike}
 use Rattle.host_workers.proofs.scatter.Statement.{statement}
 use Rattle.host_workers.proofs.scatter.Tie as tie
@@ -16,7 +16,7 @@ abbrev μ-loop : tie.MeasureT-loop
 loop-holds : tie.Need-loop-holds Inv-loop μ-loop
 loop-holds c = record {
   at-most = omega arith;
-  slots = search needs;
+  slots = length-slots (c .before .args .workers) _ (c .before .good .0 .1 .1 .0 .1 .0 .1);
   busy-long = refl;
   task-long = refl;
   column-long = refl;
@@ -50,7 +50,7 @@ loop-less c = omega arith
 loop-again : tie.Need-loop-again Inv-loop μ-loop
 loop-again c =
     let d = c .before .before in
-    scattered (d .loop .held) (d .loop .tasks) (d .loop .columns) (d .before .args .t1) (d .loop .v) (d .loop .inv) (omega arith) _ refl
+    scattered (d .loop .held) (d .loop .tasks) (d .loop .columns) (d .before .before .args .workers .slots) (d .loop .v) (d .loop .inv) (omega arith) _ refl
 
 returns : tie.Need-returns Inv-loop μ-loop
 returns c = sym (all-alike _ _ _ _ (c .before .loop .v) (c .before .loop .inv) (omega arith))

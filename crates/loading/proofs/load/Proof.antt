@@ -151,8 +151,8 @@ module _ {M : Type 1} (𝓤 : URA M) (H : Heap 𝓤) (A : Atoms 𝓤) (W : Given
   Nearer-wf : WellFounded Nearer
   Nearer-wf = InvImage·wf (λ (x : State). n - x .p) (Nat·lt-wfRel .wf)
 
-  abbrev start : State
-  start = record { p = 0; zs = xs; below = zero-le; len = refl; left = ap (λ (t : ℕ). copied t 0 ys (recordsFrom xs)) (sub-zero n) }
+  abbrev start : (p : ℕ) → copied (n - p) p ys (recordsFrom xs) ≡ copied n 0 ys (recordsFrom xs) → p ≤ n → State
+  start p left below = record { p = p; zs = xs; below = below; len = refl; left = left }
 
   -- a record more is put
   next-left : (x : State) (zs : List (List ℕ)) → x .p < n → recordsFrom zs ≡ set (recordsFrom (x .zs)) (x .p) (e x) → copied (n - (x .p + 1)) (x .p + 1) ys (recordsFrom zs) ≡ copied n 0 ys (recordsFrom xs)
@@ -271,15 +271,17 @@ module _ {M : Type 1} (𝓤 : URA M) (H : Heap 𝓤) (A : Atoms 𝓤) (W : Given
   walk : (𝓣 : Tables 𝓤 H) → FmC 𝓤 H (W .laws) (𝓣 .C) → Triple 𝓤 (𝓣 .C #put) (Put 𝓤 H A mem run)
       → ent 𝓤 (onEntry 𝓤 H A f.signature (κ, (κ′, tt)) (q, (q′, tt)) a vs) (WpFn 𝓤 H (𝓣 .C) (𝓣 .Λ) code.function (s ∷ s′ ∷ vint w64 n ∷ []) Post)
   walk 𝓣 fm known =
+      -- where the code starts the loop
+      let first-p : ℕ = _ in
       qed W ((‵ (flft κ q) ⊛ ‵ (flft κ′ q′) ⊛ ‵ ftrue) ∷ ‵ (owns (ShrSlice (named 0) κ R ∷ MutSlice (named 1) κ′ B ∷ usize ∷ []) a vs) ∷ []) ∵ enter ! (𝓣 .C) (𝓣 .Λ) code.function (s ∷ s′ ∷ vint w64 n ∷ []) _ $
       alloc1 ! (λ l₀. alloc1 ! (λ l₁. alloc1 ! (λ l₂. alloc1 ! (λ l₃. alloc1 ! (λ l₄. alloc1 ! (λ l₅. alloc1 ! (λ l₆. alloc1 ! (λ l₇. alloc1 ! (λ l₈. alloc1 ! (λ l₉. alloc1 ! (λ l₁₀. alloc1 ! (λ l₁₁. alloc1 ! (λ l₁₂. alloc0 ! $ params1 ! $
       pass1 ! (init ! 22 refl (tt, (tt, (record { fits = room .0 }, tt)))) $ pass1 ! (init ! 20 refl (tt, (tt, (record { fits = room′ .0 }, tt)))) $ pass1 ! (init ! 18 refl (tt, record { fits = n-fits })) $ pass0 ! $
-      assigns ! (of-opd ! (lit ! tt)) (from ! (stop !)) (init ! 16 refl (tt, record { fits = lit< tt })) $
+      assigns ! (of-opd ! (lit ! tt)) (from ! (stop !)) (init ! 16 refl (tt, record { fits = lit< {m = first-p} tt })) $
       -- the records are looked into; a copy of what they own is kept whole for the exit
       move ! (27 ∷ []) $ fsplit ! $ use1 W (‵ Own ⊛ ‵ Own) (shr-slice-copy 𝓤 H A W (named 0) κ R .twice r (s ∷ [])) $ split ! $ fsplit ! $ move ! (1 ∷ []) $ fsplit ! $ move ! (31 ∷ []) $ split3 ! $ move ! (4 ∷ 0 ∷ []) $
       looks-slice ! tt R P (sh 𝓤 H A) vals tells (cp 𝓤 H A W) ys b o (λ q″. move ! (8 ∷ []) $ fsplit ! $
       keep ! (2 ∷ 10 ∷ 11 ∷ 12 ∷ 13 ∷ 14 ∷ 15 ∷ 16 ∷ 17 ∷ 18 ∷ 19 ∷ 20 ∷ 21 ∷ 22 ∷ 23 ∷ 24 ∷ 25 ∷ 26 ∷ 27 ∷ 28 ∷ 29 ∷ 30 ∷ 31 ∷ 32 ∷ 33 ∷ 34 ∷ 35 ∷ 3 ∷ 9 ∷ 0 ∷ 5 ∷ []) $
-      first ! $ blocks ! $ loops ! 𝓣 Nearer Nearer-wf (At 𝓣 fm known q″ l₀ l₁ l₂ l₃ l₄ l₅ l₆ l₇ l₈ l₉ l₁₀ l₁₁ l₁₂) (turns 𝓣 fm known q″ l₀ l₁ l₂ l₃ l₄ l₅ l₆ l₇ l₈ l₉ l₁₀ l₁₁ l₁₂) start))))))))))))))
+      first ! $ blocks ! $ loops ! 𝓣 Nearer Nearer-wf (At 𝓣 fm known q″ l₀ l₁ l₂ l₃ l₄ l₅ l₆ l₇ l₈ l₉ l₁₀ l₁₁ l₁₂) (turns 𝓣 fm known q″ l₀ l₁ l₂ l₃ l₄ l₅ l₆ l₇ l₈ l₉ l₁₀ l₁₁ l₁₂) (start first-p (ap (λ (t : ℕ). copied t 0 ys (recordsFrom xs)) (sub-zero n)) zero-le)))))))))))))))
 
 module _ {M : Type 1} (𝓤 : URA M) (H : Heap 𝓤) (A : Atoms 𝓤) (W : Given 𝓤 H A) (mem : Memory → SProp 𝓤) (run : Routine → Fun 𝓤) (𝓣 : Tables 𝓤 H) (known : Triple 𝓤 (𝓣 .C #put) (Put 𝓤 H A mem run)) where
   walks : Walks 𝓤 H A f.ended stayed (WpFn 𝓤 H (𝓣 .C) (𝓣 .Λ) code.function) (f.clauses 𝓤 H A mem run)

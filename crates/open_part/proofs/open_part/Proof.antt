@@ -10,7 +10,7 @@ slice-relend-prefix-open : tie.Need-slice-relend-prefix-open
 slice-relend-prefix-open c = search needs
 
 slice-aggregate-open : tie.Need-slice-aggregate-open
-slice-aggregate-open c = sym (length-take-le (c .before .before .before .before .args .n) (c .before .before .before .before .args .records .now) (c .before .before .before .before .pre))
+slice-aggregate-open c = sym (length-take-le _ (c .before .before .before .before .args .records .now) (search needs))
 
 open-requires : tie.Need-open-requires
 open-requires c κs = search needs

@@ -6,18 +6,19 @@ use borrow.Author.Needs.{needs}
 use lib.ListN.{length, take, drop, replicate, length-set}
 use lib.Seq.{drop-set-lt}
 use Rattle.worker.specs.Holding.{idle}
+use Rattle.records.proofs.Laws.{first-slots, length-slots}
 use Rattle.opened.proofs.Laws.{idle-more}
 use Rattle.opened.proofs.idle_workers.Statement.{statement}
 use Rattle.opened.proofs.idle_workers.Tie as tie
 
 abbrev Inv-loop : tie.InvT-loop
-Inv-loop count left₀ v₀ left v = (v ≤ count) × (length left ≡ 32) × (take v left ≡ replicate v idle) × (drop count left ≡ drop count left₀)
+Inv-loop ws left₀ v₀ left v = (v ≤ ws .count) × (length left ≡ 32) × (take v left ≡ replicate v idle) × (drop (ws .count) left ≡ drop (ws .count) left₀)
 
 abbrev μ-loop : tie.MeasureT-loop
-μ-loop count left₀ v₀ left v = count - v
+μ-loop ws left₀ v₀ left v = ws .count - v
 
 loop-holds : tie.Need-loop-holds Inv-loop μ-loop
-loop-holds c = (omega arith, search needs, refl, refl)
+loop-holds c = (omega arith, length-slots (c .before .args .workers) _ (c .before .good .0 .1 .1 .0 .1 .0 .1), refl, refl)
 
 idle-requires : tie.Need-idle-requires Inv-loop μ-loop
 idle-requires c κs = search needs
@@ -36,17 +37,20 @@ loop-less c = omega arith
 
 loop-again : tie.Need-loop-again Inv-loop μ-loop
 loop-again c =
-    let i = c .before .before .loop .inv in (
+    let i = c .before .before .before .loop .inv in (
       omega arith,
-      length-set (c .before .before .loop .left) (c .before .before .loop .v) (c .idle .result) ∙ i .1,
-      idle-more (c .before .before .loop .left) (c .before .before .loop .v) (c .idle .result) (c .idle .ensures) (omega arith) (i .2),
-      drop-set-lt (c .before .before .before .args .count) (c .before .before .loop .left) (c .before .before .loop .v) (c .idle .result) (omega arith) ∙ i .3,
+      length-set (c .before .before .before .loop .left) (c .before .before .before .loop .v) (c .idle .result) ∙ i .1,
+      idle-more (c .before .before .before .loop .left) (c .before .before .before .loop .v) (c .idle .result) (c .idle .ensures) (omega arith) (i .2),
+      drop-set-lt (c .before .before .before .before .before .args .workers .count) (c .before .before .before .loop .left) (c .before .before .before .loop .v) (c .idle .result) (omega arith) ∙ i .3,
     )
 
 returns : tie.Need-returns Inv-loop μ-loop
 returns c =
-    let e : c .before .loop .v ≡ c .before .before .args .count = omega arith in
-    (subst (λ (k : ℕ). take k (c .before .loop .left) ≡ replicate k idle) e (c .before .loop .inv .2), c .before .loop .inv .3)
+    let e : c .before .before .loop .v ≡ c .before .before .before .before .args .workers .count = omega arith in
+    let i = c .before .before .loop .inv in (
+      first-slots _ _ (omega (arith, i .1)) ∙ subst (λ (k : ℕ). take k (c .before .before .loop .left) ≡ replicate k idle) e (i .2),
+      record { same-count = refl; same-slots = i .3 },
+    )
 
 pub idle-workers-spec : {M : Type 1} → statement M
 idle-workers-spec =

@@ -30,8 +30,7 @@ use denote.RattleType.{owns}
 use denote.Laws.{Is, shows}
 use denote.Plain.{uint-makes, uint-tells, uint-copy, uint-lawful}
 use denote.Builtin.{u8, f64, unit, usize}
-use denote.Array.{Array, arrayVal, array-vals, array-tells, array-makes, array-lawful, array-repeat, array-copy}
-use denote.Signature.Array.{arrayOf}
+use denote.Array.{Array, arrayVal, array-lawful, array-repeat, array-copy}
 use denote.Signature.{plain, shrSliceOf}
 use denote.Memory.{shares}
 use denote.Ref.{RefT, now}
@@ -49,8 +48,8 @@ use denote.Triple.Walked.{says, Stays, stay-dropped, walkOf, AllGo, goes-dropped
 use denote.Exit.{yes}
 use Rattle.model.specs.declared.Sizes.{Sizes}
 use Rattle.model.specs.declared.TaskRecord.{TaskRecord}
-use Rattle.worker.specs.declared.Worker.{Worker}
-use Rattle.records.specs.Records.{recordsFrom, lent}
+use Rattle.worker.specs.declared.Workers.{Workers}
+use Rattle.records.specs.Records.{recordsFrom, allLent}
 use Rattle.task_records.specs.Copies.{copied}
 use Rattle.task_records.proofs.Big.{big}
 use Rattle.task_records.proofs.Arrays.{lends-local, local-back, shares-local, local-shared-back}
@@ -59,8 +58,8 @@ use Rattle.copies.proofs.Steps.{N, B, room, vals₅, tells₅, val₅, unasked,
 use Rattle.model.proofs.TaskRecord as T
 use Rattle.model.proofs.Sizes as Sz
 use Rattle.model.proofs.Sizes.Laws as Sz′
-use Rattle.worker.proofs.Worker as Wk
-use Rattle.worker.proofs.Worker.Laws as Wk′
+use Rattle.worker.proofs.Workers as Wk
+use Rattle.worker.proofs.Workers.Laws as Wk′
 use Rattle.model.specs.declared.OutcomeAnswer.{OutcomeAnswer}
 use denote.Enum.Laws as EL
 use Rattle.model.proofs.OutcomeAnswer as Rp
@@ -85,7 +84,7 @@ use Rattle.outcome_call.proofs.outcome.Statement as stated
 use Rattle.outcome_call.proofs.outcome.Code as code
 
 abbrev stayed : Stays (f.ended .signature .params) (f.ended .kept)
-stayed = (stay-dropped (plain (λ _. Sz.the-row)) yes, (stay-dropped (shrSliceOf (0 ∷ []) tt (plain (λ _. f64))) yes, (stay-dropped (shrSliceOf (1 ∷ []) tt (plain (λ _. u8))) yes, (stay-dropped (shrSliceOf (2 ∷ []) tt (plain (λ _. T.the-row))) yes, (stay-dropped (arrayOf (plain (λ _. Wk.the-row)) 32) yes, tt)))))
+stayed = (stay-dropped (plain (λ _. Sz.the-row)) yes, (stay-dropped (shrSliceOf (0 ∷ []) tt (plain (λ _. f64))) yes, (stay-dropped (shrSliceOf (1 ∷ []) tt (plain (λ _. u8))) yes, (stay-dropped (shrSliceOf (2 ∷ []) tt (plain (λ _. T.the-row))) yes, (stay-dropped (plain (λ _. Wk.the-row)) yes, tt)))))
 
 module _ {M : Type 1} (𝓤 : URA M) (H : Heap 𝓤) (A : Atoms 𝓤) (mem : Memory → SProp 𝓤) (run : Routine → Fun 𝓤) where
   -- the contracts that the proof cites
@@ -103,9 +102,9 @@ module _ {M : Type 1} (𝓤 : URA M) (H : Heap 𝓤) (A : Atoms 𝓤) (W : Given
     (b₁ o₁ : ℕ) (γ₁ : GName) (ms : List Float) (room₁ : Room f64 (length ms))
     (b₂ o₂ : ℕ) (γ₂ : GName) (ls : List ℕ) (room₂ : Room u8 (length ls))
     (b₃ o₃ : ℕ) (γ₃ : GName) (ys : List TaskRecord) (room₃ : Room T.the-row (length ys))
-    (slots : List Worker) (slots-is : Is (Array Wk.the-row 32) slots (array-vals (LL.vals Wk.the-type Wk′.the-laws) slots)) where
+    (wk : Workers) (wk-is : Is Wk.the-row wk (LL.vals Wk.the-type Wk′.the-laws wk)) where
   abbrev Arg : Type 0
-  Arg = Sizes × (RefT (List Float) × (RefT (List ℕ) × (RefT (List TaskRecord) × (List Worker × Unit {0}))))
+  Arg = Sizes × (RefT (List Float) × (RefT (List ℕ) × (RefT (List TaskRecord) × (Workers × Unit {0}))))
 
   abbrev m : RefT (List Float)
   m = record { ptr = (b₁, o₁); name = γ₁; now = ms }
@@ -121,7 +120,7 @@ module _ {M : Type 1} (𝓤 : URA M) (H : Heap 𝓤) (A : Atoms 𝓤) (W : Given
   fl l δ xs = record { ptr = (l, 0); name = δ; now = xs }
 
   abbrev a : Arg
-  a = (z, (m, (ll, ((rs γ₃), (slots, tt)))))
+  a = (z, (m, (ll, ((rs γ₃), (wk, tt)))))
 
   abbrev s₁ : Val
   s₁ = sliceVal (b₁, o₁) (length ms)
@@ -139,10 +138,10 @@ module _ {M : Type 1} (𝓤 : URA M) (H : Heap 𝓤) (A : Atoms 𝓤) (W : Given
   zv = LL.val Sz.the-type Sz′.the-laws z
 
   abbrev wv : Val
-  wv = only (array-vals (LL.vals Wk.the-type Wk′.the-laws) slots)
+  wv = LL.val Wk.the-type Wk′.the-laws wk
 
   abbrev vs : List Val × (List Val × (List Val × (List Val × (List Val × Unit {0}))))
-  vs = (LL.vals Sz.the-type Sz′.the-laws z, (s₁ ∷ [], (s₂ ∷ [], (s₃ ∷ [], (array-vals (LL.vals Wk.the-type Wk′.the-laws) slots, tt)))))
+  vs = (LL.vals Sz.the-type Sz′.the-laws z, (s₁ ∷ [], (s₂ ∷ [], (s₃ ∷ [], (LL.vals Wk.the-type Wk′.the-laws wk, tt)))))
 
   -- how many records are copied, and the copies before
   abbrev n : ℕ
@@ -185,7 +184,7 @@ module _ {M : Type 1} (𝓤 : URA M) (H : Heap 𝓤) (A : Atoms 𝓤) (W : Given
   n-fits : n < 2 ^ 64
   n-fits = omega (arith, n-short)
 
-  exits : (r : OutcomeAnswer) (v : Val) → r ≡ outcomeCall z (whole ms ls ys slots (z .workers))
+  exits : (r : OutcomeAnswer) (v : Val) → r ≡ outcomeCall z (whole ms ls ys wk)
       → ent 𝓤 (⋆ 𝓤 H A (‵ (flft κ₁ q₁) ∷ ‵ (flft κ₂ q₂) ∷ ‵ (flft κ₃ q₃) ∷ ‵ (Rp.the-row .own r (v ∷ [])) ∷ [])) (Post v)
   exits r v e =
       qed W (‵ (flft κ₁ q₁) ∷ ‵ (flft κ₂ q₂) ∷ ‵ (flft κ₃ q₃) ∷ ‵ (Rp.the-row .own r (v ∷ [])) ∷ []) ∵
@@ -217,18 +216,18 @@ module _ {M : Type 1} (𝓤 : URA M) (H : Heap 𝓤) (A : Atoms 𝓤) (W : Given
 
   -- `outcome_part`
   abbrev to-co : ℕ → ℕ → GName → List (List ℕ) → Core 𝓤 H A mem run .Ghost
-  to-co l ν ε X = (((κ₁, (κ₂, (ν ∷ [], tt))), (q₁, (q₂, (fullShare, tt))), tt, (z, (m, (ll, (fl l ε X, (n, (slots, tt)))))), (LL.vals Sz.the-type Sz′.the-laws z, (s₁ ∷ [], (s₂ ∷ [], (s₅ l ∷ [], (vint w64 n ∷ [], (array-vals (LL.vals Wk.the-type Wk′.the-laws) slots, tt))))))), tt)
+  to-co l ν ε X = (((κ₁, (κ₂, (ν ∷ [], tt))), (q₁, (q₂, (fullShare, tt))), tt, (z, (m, (ll, (fl l ε X, (n, (wk, tt)))))), (LL.vals Sz.the-type Sz′.the-laws z, (s₁ ∷ [], (s₂ ∷ [], (s₅ l ∷ [], (vint w64 n ∷ [], (LL.vals Wk.the-type Wk′.the-laws wk, tt))))))), tt)
 
   goes-co : (l ν : ℕ) (ε : GName) (X : List (List ℕ)) → length X ≡ N → ent 𝓤 (sep 𝓤 (sep 𝓤 (A .lft κ₁ q₁) (sep 𝓤 (A .lft κ₂ q₂) (A .lft (ν ∷ []) fullShare))) (sep 𝓤 (sep 𝓤 (sem 𝓤 H A Mat) (sem 𝓤 H A Lis)) (sem 𝓤 H A (Imm l ν ε X)))) (Core 𝓤 H A mem run .pre (to-co l ν ε X))
   goes-co l ν ε X long =
       qed W ((‵ (flft κ₁ q₁) ⊛ ‵ (flft κ₂ q₂) ⊛ ‵ (flft (ν ∷ []) fullShare)) ∷ (‵ Mat ⊛ ‵ Lis) ∷ ‵ (Imm l ν ε X) ∷ []) ∵ says ! (subst (λ (k : ℕ). n ≤ k) (sym long) n-short) $ split3 ! $
       nothing ! $ move ! (3 ∷ 0 ∷ []) $ join ! $ move ! (2 ∷ 0 ∷ []) $ join ! $ move ! (1 ∷ 0 ∷ []) $ join ! $ frame ! $ split ! $
-      nothing ! $ owned ! (Array Wk.the-row 32) (Is (Array Wk.the-row 32)) (array-makes 𝓤 H A W Wk.the-row (LL.makes Wk.the-type Wk′.the-plain 𝓤 H A) 32) slots _ slots-is $ fjoin ! $
+      nothing ! $ owned ! Wk.the-row (Is Wk.the-row) (LL.makes Wk.the-type Wk′.the-plain 𝓤 H A) wk _ wk-is $ fjoin ! $
       owned ! usize (Is usize) (uint-makes 𝓤 H A W w64) n _ (refl, n-fits) $ fjoin ! $ move ! (3 ∷ 0 ∷ []) $ fjoin ! $ move ! (2 ∷ 0 ∷ []) $ fjoin ! $ move ! (1 ∷ 0 ∷ []) $ fjoin ! $
       owned ! Sz.the-row (Is Sz.the-row) (LL.makes Sz.the-type Sz′.the-plain 𝓤 H A) z _ z-is $ fjoin ! $ done !
 
   abbrev Told : (X : List (List ℕ)) (r : OutcomeAnswer) → Type 0
-  Told X r = r ≡ outcomeCall z (lent ms ls (upTo n X) slots (z .workers))
+  Told X r = r ≡ outcomeCall z (allLent ms ls (upTo n X) wk)
 
   unit-typed : (w : Val) → w ∷ [] ≡ vunit ∷ [] → Holds (hasTy tyUnit w) × WT w
   unit-typed w is = subst (λ (v : Val). Holds (hasTy tyUnit v) × WT v) (sym (ap only is)) (tt, tt)
@@ -236,9 +235,9 @@ module _ {M : Type 1} (𝓤 : URA M) (H : Heap 𝓤) (A : Atoms 𝓤) (W : Given
   module _ (C : Calls 𝓤 H) (Λ : Loops 𝓤 H) (fm : FmC 𝓤 H (W .laws) C) (known-lk : Triple 𝓤 (C #lk) (Look 𝓤 H A mem run)) (known-ld : Triple 𝓤 (C #ld) (Load 𝓤 H A mem run)) (known-co : Triple 𝓤 (C #co) (Core 𝓤 H A mem run)) where
     walk : ent 𝓤 (onEntry 𝓤 H A f.signature (κ₁, (κ₂, (κ₃, tt))) (q₁, (q₂, (q₃, tt))) a vs) (WpFn 𝓤 H C Λ code.function (zv ∷ s₁ ∷ s₂ ∷ s₃ ∷ wv ∷ []) Post)
     walk =
-        qed W ((‵ (flft κ₁ q₁) ⊛ ‵ (flft κ₂ q₂) ⊛ ‵ (flft κ₃ q₃) ⊛ ‵ ftrue) ∷ ‵ (owns (Sz.the-row ∷ ShrSlice (named 0) κ₁ f64 ∷ ShrSlice (named 1) κ₂ u8 ∷ ShrSlice (named 2) κ₃ T.the-row ∷ Array Wk.the-row 32 ∷ []) a vs) ∷ []) ∵ enter ! C Λ code.function (zv ∷ s₁ ∷ s₂ ∷ s₃ ∷ wv ∷ []) _ $
+        qed W ((‵ (flft κ₁ q₁) ⊛ ‵ (flft κ₂ q₂) ⊛ ‵ (flft κ₃ q₃) ⊛ ‵ ftrue) ∷ ‵ (owns (Sz.the-row ∷ ShrSlice (named 0) κ₁ f64 ∷ ShrSlice (named 1) κ₂ u8 ∷ ShrSlice (named 2) κ₃ T.the-row ∷ Wk.the-row ∷ []) a vs) ∷ []) ∵ enter ! C Λ code.function (zv ∷ s₁ ∷ s₂ ∷ s₃ ∷ wv ∷ []) _ $
         alloc1 ! (λ l₀. alloc1 ! (λ l₁. alloc1 ! (λ l₂. alloc1 ! (λ l₃. alloc1 ! (λ l₄. alloc1 ! (λ l₅. alloc1 ! (λ l₆. alloc1 ! (λ l₇. alloc1 ! (λ l₈. alloc1 ! (λ l₉. alloc1 ! (λ l₁₀. alloc1 ! (λ l₁₁. alloc1 ! (λ l₁₂. alloc1 ! (λ l₁₃. alloc1 ! (λ l₁₄. alloc0 ! $ params1 ! $
-        pass1 ! (init ! 26 refl (LL.lawful Sz.the-type Sz′.the-laws 𝓤 H A W .typed z _ z-is .0)) $ pass1 ! (init ! 24 refl (tt, (tt, (record { fits = room₁ .0 }, tt)))) $ pass1 ! (init ! 22 refl (tt, (tt, (record { fits = room₂ .0 }, tt)))) $ pass1 ! (init ! 20 refl (tt, (tt, (record { fits = room₃ .0 }, tt)))) $ pass1 ! (init ! 18 refl (array-lawful 𝓤 H A W Wk.the-row (LL.lawful Wk.the-type Wk′.the-laws 𝓤 H A W) 32 .typed slots _ slots-is .0)) $ pass0 ! $
+        pass1 ! (init ! 26 refl (LL.lawful Sz.the-type Sz′.the-laws 𝓤 H A W .typed z _ z-is .0)) $ pass1 ! (init ! 24 refl (tt, (tt, (record { fits = room₁ .0 }, tt)))) $ pass1 ! (init ! 22 refl (tt, (tt, (record { fits = room₂ .0 }, tt)))) $ pass1 ! (init ! 20 refl (tt, (tt, (record { fits = room₃ .0 }, tt)))) $ pass1 ! (init ! 18 refl (LL.lawful Wk.the-type Wk′.the-laws 𝓤 H A W .typed wk _ wk-is .0)) $ pass0 ! $
         -- the tokens and the borrows to the front; then the locals, the last first, each with what says that it dies
         move ! (31 ∷ []) $ move ! (0 ∷ []) $ fsplit ! $ move ! (1 ∷ []) $ fsplit ! $ move ! (1 ∷ []) $ fsplit ! $ move ! (1 ∷ []) $ fsplit ! $ move ! (35 ∷ []) $ split ! $ move ! (1 ∷ []) $ split ! $ move ! (1 ∷ []) $ split ! $ keep ! (3 ∷ 2 ∷ 0 ∷ 7 ∷ 6 ∷ 4 ∷ 9 ∷ 10 ∷ 11 ∷ 12 ∷ 13 ∷ 14 ∷ 15 ∷ 16 ∷ 17 ∷ 18 ∷ 19 ∷ 20 ∷ 21 ∷ 22 ∷ 23 ∷ 24 ∷ 25 ∷ 26 ∷ 27 ∷ 28 ∷ 29 ∷ 30 ∷ 31 ∷ 32 ∷ 33 ∷ 34 ∷ 35 ∷ 36 ∷ 37 ∷ 38 ∷ []) $
         -- the array is made
@@ -265,25 +264,25 @@ module _ {M : Type 1} (𝓤 : URA M) (H : Heap 𝓤) (A : Atoms 𝓤) (W : Given
         use2 W (later (some (λ (ε : GName). ‵ (Imm l₆ ν ε (ws₁ .1 .0)) ⊛ ‵ (flent (ν ∷ []) (arr-parts (shares B) N .part fullShare (ws₁ .1 .0) l₆ 0))))) (shares-local B tt vals₅ tells₅ N 𝓤 H A W (named 2) (ν ∷ []) (ws₁ .1 .0) _ l₆ room) $ await ! tt $ pick ! (λ ε. split ! $
         move ! (6 ∷ 2 ∷ []) $ join ! $ move ! (5 ∷ 0 ∷ []) $ join ! $ move ! (5 ∷ 6 ∷ []) $ join ! $ move ! (1 ∷ 0 ∷ 2 ∷ []) $
         use3 W (raw (Core 𝓤 H A mem run .pre (to-co l₆ ν ε (ws₁ .1 .0)))) (goes-co l₆ ν ε (ws₁ .1 .0) (good₁ .1 .0 .1)) $ calls-at ! fm (Core 𝓤 H A mem run) known-co (to-co l₆ ν ε (ws₁ .1 .0)) (and-then ! (load ! (from ! (stop !)) (look ! 29 refl)) (and-then ! (load ! (from ! (stop !)) (look ! 27 refl)) (and-then ! (load ! (from ! (stop !)) (look ! 25 refl)) (and-then ! (load ! (from ! (stop !)) (look ! 4 refl)) (and-then ! (load ! (from ! (stop !)) (look ! 18 refl)) (and-then ! (load ! (from ! (stop !)) (look ! 21 refl)) (no-more !))))))) (λ w₂.
-        use1 W (later (some (λ (t : OutcomeAnswer). ((‵ (flft κ₁ q₁) ⊛ ‵ (flft κ₂ q₂) ⊛ ‵ (flft (ν ∷ []) fullShare) ⊛ ‵ ftrue) ⊛ ‵ (Rp.the-row .own t (w₂ ∷ []))) ⊛ raw (ensured 𝓤 H A co.ended (co.clauses 𝓤 H A mem run) (κ₁, (κ₂, (ν ∷ [], tt))) (z, (m, (ll, (fl l₆ ε (ws₁ .1 .0), (n, (slots, tt)))))) tt t)))) (id⊢ 𝓤 _) $ await ! tt $ pick ! (λ t₂. split ! $ move ! (1 ∷ []) $
-        use1 W (some (λ (ws : Unit {0} × (Unit {0} × (Unit {0} × (Unit {0} × (Unit {0} × (Unit {0} × Unit {0})))))). ‵ (lasts co.ended (κ₁, (κ₂, (ν ∷ [], tt))) (z, (m, (ll, (fl l₆ ε (ws₁ .1 .0), (n, (slots, tt)))))) ws) ⊛ raw (fact 𝓤 (Told (ws₁ .1 .0) t₂)))) (id⊢ 𝓤 _) $ pick ! (λ ws₂. split ! $ move ! (1 ∷ []) $ heard ! (Told (ws₁ .1 .0) t₂) (λ e₂.
+        use1 W (later (some (λ (t : OutcomeAnswer). ((‵ (flft κ₁ q₁) ⊛ ‵ (flft κ₂ q₂) ⊛ ‵ (flft (ν ∷ []) fullShare) ⊛ ‵ ftrue) ⊛ ‵ (Rp.the-row .own t (w₂ ∷ []))) ⊛ raw (ensured 𝓤 H A co.ended (co.clauses 𝓤 H A mem run) (κ₁, (κ₂, (ν ∷ [], tt))) (z, (m, (ll, (fl l₆ ε (ws₁ .1 .0), (n, (wk, tt)))))) tt t)))) (id⊢ 𝓤 _) $ await ! tt $ pick ! (λ t₂. split ! $ move ! (1 ∷ []) $
+        use1 W (some (λ (ws : Unit {0} × (Unit {0} × (Unit {0} × (Unit {0} × (Unit {0} × (Unit {0} × Unit {0})))))). ‵ (lasts co.ended (κ₁, (κ₂, (ν ∷ [], tt))) (z, (m, (ll, (fl l₆ ε (ws₁ .1 .0), (n, (wk, tt)))))) ws) ⊛ raw (fact 𝓤 (Told (ws₁ .1 .0) t₂)))) (id⊢ 𝓤 _) $ pick ! (λ ws₂. split ! $ move ! (1 ∷ []) $ heard ! (Told (ws₁ .1 .0) t₂) (λ e₂.
         fsplit ! $ drop ! $ move ! (0 ∷ []) $ fsplit ! $ drop ! $ move ! (0 ∷ []) $ fsplit ! $ drop ! $ move ! (0 ∷ []) $ fsplit ! $ drop ! $ move ! (0 ∷ []) $ drop ! $
         move ! (0 ∷ []) $ split ! $ move ! (1 ∷ []) $ peeks ! Rp.the-row (Is Rp.the-row) (shows 𝓤 H A Rp.the-row) t₂ (w₂ ∷ []) (λ is₂.
         land ! (from ! (stop !)) (init ! 32 refl (EL.lawful Rp.the-type Rp′.the-laws 𝓤 H A W tt .typed t₂ _ is₂ .0)) $
         move ! (1 ∷ []) $ split ! $ move ! (1 ∷ []) $ split3 ! $ move ! (1 ∷ []) $ lft-end ! tt $ move ! (0 ∷ 5 ∷ []) $ use2 W (later (‵ (Cell l₆ (val₅ (ws₁ .1 .0))) ⊛ ‵ (Arr (ws₁ .1 .0) (val₅ (ws₁ .1 .0))))) (local-shared-back B tt vals₅ tells₅ N 𝓤 H A W (ν ∷ []) (ws₁ .1 .0) l₆) $ await ! tt $ split ! $
         returns ! (look ! 35 refl) $ forget ! 35 refl $ forget ! 33 refl $ forget ! 31 refl $ forget ! 29 refl $ forget ! 27 refl $ forget ! 25 refl $ forget ! 0 refl $ forget ! 22 refl $ forget ! 20 refl $ forget ! 18 refl $ forget ! 16 refl $ forget ! 14 refl $ forget ! 12 refl $ forget ! 10 refl $ forget ! 8 refl $
         move ! (35 ∷ 36 ∷ []) $ free1 ! $ move ! (33 ∷ 34 ∷ []) $ free1 ! $ move ! (31 ∷ 32 ∷ []) $ free1 ! $ move ! (29 ∷ 30 ∷ []) $ free1 ! $ move ! (27 ∷ 28 ∷ []) $ free1 ! $ move ! (25 ∷ 26 ∷ []) $ free1 ! $ move ! (0 ∷ 24 ∷ []) $ free1 ! $ move ! (21 ∷ 22 ∷ []) $ free1 ! $ move ! (19 ∷ 20 ∷ []) $ free1 ! $ move ! (17 ∷ 18 ∷ []) $ free1 ! $ move ! (15 ∷ 16 ∷ []) $ free1 ! $ move ! (13 ∷ 14 ∷ []) $ free1 ! $ move ! (11 ∷ 12 ∷ []) $ free1 ! $ move ! (9 ∷ 10 ∷ []) $ free1 ! $ move ! (7 ∷ 8 ∷ []) $ free1 ! $ free0 ! $
-        keep ! (3 ∷ 1 ∷ 5 ∷ 4 ∷ []) $ by ! (exits t₂ w₂ (e₂ ∙ outcome-whole z ms ls ys slots X₀ (ws₁ .1 .0) (good₁ .1 .0 .1) e₁)))))))))))))))))))))))))))))))))))))))
+        keep ! (3 ∷ 1 ∷ 5 ∷ 4 ∷ []) $ by ! (exits t₂ w₂ (e₂ ∙ outcome-whole z ms ls ys wk X₀ (ws₁ .1 .0) (good₁ .1 .0 .1) e₁)))))))))))))))))))))))))))))))))))))))
 
 module _ {M : Type 1} (𝓤 : URA M) (H : Heap 𝓤) (A : Atoms 𝓤) (W : Given 𝓤 H A) (mem : Memory → SProp 𝓤) (run : Routine → Fun 𝓤) (𝓣 : Tables 𝓤 H) (known-lk : Triple 𝓤 (𝓣 .C #lk) (Look 𝓤 H A mem run)) (known-ld : Triple 𝓤 (𝓣 .C #ld) (Load 𝓤 H A mem run)) (known-co : Triple 𝓤 (𝓣 .C #co) (Core 𝓤 H A mem run)) where
   walks : Walks 𝓤 H A f.ended stayed (WpFn 𝓤 H (𝓣 .C) (𝓣 .Λ) code.function) (f.clauses 𝓤 H A mem run)
-  walks = walked 𝓤 H A f.ended stayed (f.clauses 𝓤 H A mem run) (WpFn 𝓤 H (𝓣 .C) (𝓣 .Λ) code.function) (λ κs. (LL.vals Sz.the-type Sz′.the-laws, (slice-vals, (slice-vals, (slice-vals, (array-vals (LL.vals Wk.the-type Wk′.the-laws), tt))))))
-      (λ κs. (LL.tells Sz.the-type Sz′.the-laws, (shr-slice-tells (named 0) (κs .0) f64, (shr-slice-tells (named 1) (κs .1 .0) u8, (shr-slice-tells (named 2) (κs .1 .1 .0) T.the-row, (array-tells Wk.the-row (LL.vals Wk.the-type Wk′.the-laws) (LL.tells Wk.the-type Wk′.the-laws) 32, tt))))))
+  walks = walked 𝓤 H A f.ended stayed (f.clauses 𝓤 H A mem run) (WpFn 𝓤 H (𝓣 .C) (𝓣 .Λ) code.function) (λ κs. (LL.vals Sz.the-type Sz′.the-laws, (slice-vals, (slice-vals, (slice-vals, (LL.vals Wk.the-type Wk′.the-laws, tt))))))
+      (λ κs. (LL.tells Sz.the-type Sz′.the-laws, (shr-slice-tells (named 0) (κs .0) f64, (shr-slice-tells (named 1) (κs .1 .0) u8, (shr-slice-tells (named 2) (κs .1 .1 .0) T.the-row, (LL.tells Wk.the-type Wk′.the-laws, tt))))))
       (λ κs qs bounds a g are. via 𝓤 _ (fst∗ 𝓤 _ (emp 𝓤)) (walk 𝓤 H A W mem run (κs .0) (κs .1 .0) (κs .1 .1 .0) (qs .0) (qs .1 .0) (qs .1 .1 .0)
       (a .0) (are .0) (a .1 .0 .ptr .0) (a .1 .0 .ptr .1) (a .1 .0 .name) (a .1 .0 .now) (are .1 .0 .0 .1) (a .1 .1 .0 .ptr .0) (a .1 .1 .0 .ptr .1) (a .1 .1 .0 .name) (a .1 .1 .0 .now) (are .1 .1 .0 .0 .1) (a .1 .1 .1 .0 .ptr .0) (a .1 .1 .1 .0 .ptr .1) (a .1 .1 .1 .0 .name) (a .1 .1 .1 .0 .now) (are .1 .1 .1 .0 .0 .1) (a .1 .1 .1 .1 .0) (are .1 .1 .1 .1 .0) (𝓣 .C) (𝓣 .Λ) (fmOf 𝓤 H (W .laws) 𝓣) known-lk known-ld known-co))
 
   goes : AllGo 𝓤 H A W 3 (f.signature .params) (f.ended .kept) stayed
-  goes = (goes-dropped 𝓤 H A W 3 (plain (λ _. Sz.the-row)) yes (λ κs x f. refl), (goes-dropped 𝓤 H A W 3 (shrSliceOf (0 ∷ []) tt (plain (λ _. f64))) yes (λ κs x f. refl), (goes-dropped 𝓤 H A W 3 (shrSliceOf (1 ∷ []) tt (plain (λ _. u8))) yes (λ κs x f. refl), (goes-dropped 𝓤 H A W 3 (shrSliceOf (2 ∷ []) tt (plain (λ _. T.the-row))) yes (λ κs x f. refl), (goes-dropped 𝓤 H A W 3 (arrayOf (plain (λ _. Wk.the-row)) 32) yes (λ κs x f. refl), tt)))))
+  goes = (goes-dropped 𝓤 H A W 3 (plain (λ _. Sz.the-row)) yes (λ κs x f. refl), (goes-dropped 𝓤 H A W 3 (shrSliceOf (0 ∷ []) tt (plain (λ _. f64))) yes (λ κs x f. refl), (goes-dropped 𝓤 H A W 3 (shrSliceOf (1 ∷ []) tt (plain (λ _. u8))) yes (λ κs x f. refl), (goes-dropped 𝓤 H A W 3 (shrSliceOf (2 ∷ []) tt (plain (λ _. T.the-row))) yes (λ κs x f. refl), (goes-dropped 𝓤 H A W 3 (plain (λ _. Wk.the-row)) yes (λ κs x f. refl), tt)))))
 
   meets : Meets 𝓤 H A f.signature (WpFn 𝓤 H (𝓣 .C) (𝓣 .Λ) code.function) (f.spec 𝓤 H A mem run)
   meets = walk-meets 𝓤 H A f.ended stayed W goes (f.clauses 𝓤 H A mem run) (WpFn 𝓤 H (𝓣 .C) (𝓣 .Λ) code.function) (WpFn-mono 𝓤 H (W .laws) 𝓣 code.function) walks

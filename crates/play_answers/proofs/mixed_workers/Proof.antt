@@ -10,6 +10,9 @@ Inv-loop h workers r₀ k₀ r k = k ≤ 32
 abbrev μ-loop : tie.MeasureT-loop
 μ-loop h workers r₀ k₀ r k = 32 - k
 
+mixed-requires : tie.Need-mixed-requires Inv-loop μ-loop
+mixed-requires c κs = search needs
+
 loop-holds : tie.Need-loop-holds Inv-loop μ-loop
 loop-holds c = search needs
 
@@ -40,6 +43,7 @@ mixed-workers-spec =
     (tie.spec
     Inv-loop
     μ-loop
+    mixed-requires
     loop-holds
     mul-mixed-worker
     array-copy-out-mixed-worker

@@ -16,20 +16,23 @@ idle-requires c κs = search needs
 loop-holds : tie.Need-loop-holds Inv-loop μ-loop
 loop-holds c = search needs
 
+add-worker : tie.Need-add-worker Inv-loop μ-loop
+add-worker c = search needs
+
 mul-worker : tie.Need-mul-worker Inv-loop μ-loop
 mul-worker c = search needs
 
-add-worker : tie.Need-add-worker Inv-loop μ-loop
-add-worker c = search needs
+add-worker-2 : tie.Need-add-worker-2 Inv-loop μ-loop
+add-worker-2 c = search needs
 
 worker-requires : tie.Need-worker-requires Inv-loop μ-loop
 worker-requires c κs = search needs
 
-mul-workers : tie.Need-mul-workers Inv-loop μ-loop
-mul-workers c = search needs
+mul-slots : tie.Need-mul-slots Inv-loop μ-loop
+mul-slots c = search needs
 
-array-set-from-workers : tie.Need-array-set-from-workers Inv-loop μ-loop
-array-set-from-workers c = search needs
+array-set-from-slots : tie.Need-array-set-from-slots Inv-loop μ-loop
+array-set-from-slots c = search needs
 
 add-k : tie.Need-add-k Inv-loop μ-loop
 add-k c = search needs
@@ -39,6 +42,9 @@ loop-less c = search needs
 
 loop-again : tie.Need-loop-again Inv-loop μ-loop
 loop-again c = search needs
+
+number-requires : tie.Need-number-requires Inv-loop μ-loop
+number-requires c κs = search needs
 
 returns : tie.Need-returns Inv-loop μ-loop
 returns c = search needs
@@ -51,12 +57,14 @@ read-workers-spec =
     μ-loop
     idle-requires
     loop-holds
-    mul-worker
     add-worker
+    mul-worker
+    add-worker-2
     worker-requires
-    mul-workers
-    array-set-from-workers
+    mul-slots
+    array-set-from-slots
     add-k
     loop-less
     loop-again
+    number-requires
     returns)

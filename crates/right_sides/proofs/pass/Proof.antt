@@ -43,11 +43,13 @@ same-length c = c .before .before .before .before .before .stage .kept .1 .1 .1 
 returns : tie.Need-returns Inv-loop μ-loop
 unfolding passedOf
 returns c =
-    let i = c .before .before .before .before .before .before .before .before .loop .inv in
-    record {
-      is = left-stops _ (stage-keeps _ _) _ _ _ _ _ (i .3) (c .before .before .before .before .before .before .before .loop-test .taken) (halted _ _ _ (c .before .before .before .before .before .stage .ensures .is) _ (c .before .p .given .1));
-      finite-then = λ q. let x : _≡_ {A = ℕ} 0 1 = cc in absurd (omega arith);
-    }
+    let i = c .before .before .before .before .before .before .before .before .loop .inv in (
+      record {
+        is = left-stops _ (stage-keeps _ _) _ _ _ _ _ (i .3) (c .before .before .before .before .before .before .before .loop-test .taken) (halted _ _ _ (c .before .before .before .before .before .stage .ensures .is) _ (c .before .p .given .1));
+        finite-then = λ q. let x : _≡_ {A = ℕ} 0 1 = cc in absurd (omega arith);
+      },
+      c .before .before .before .before .before .stage .kept .1 .1 .1 .0 ∙ i .1,
+    )
 
 enum-told : tie.Need-enum-told Inv-loop μ-loop
 enum-told c = search needs
@@ -72,7 +74,7 @@ returns-2 : tie.Need-returns-2 Inv-loop μ-loop
 unfolding passedOf
 returns-2 c =
     let i = c .before .loop .inv in
-    record { is = left-ends _ (stage-keeps _ _) _ _ _ _ (i .3) (omega arith); finite-then = λ q. i .2 }
+    (record { is = left-ends _ (stage-keeps _ _) _ _ _ _ (i .3) (omega arith); finite-then = λ q. i .2 }, i .1)
 
 pub pass-spec : {M : Type 1} → statement M
 pass-spec =

@@ -10,7 +10,7 @@ slice-relend-prefix-run : tie.Need-slice-relend-prefix-run
 slice-relend-prefix-run c = search needs
 
 slice-aggregate-run : tie.Need-slice-aggregate-run
-slice-aggregate-run c = sym (length-take-le (c .before .before .before .before .before .args .n) (c .before .before .before .before .before .args .records .now) (c .before .before .before .before .before .pre))
+slice-aggregate-run c = sym (length-take-le _ (c .before .before .before .before .before .args .records .now) (search needs))
 
 run-requires : tie.Need-run-requires
 run-requires c κs = search needs

@@ -21,7 +21,7 @@ same-length-3 : tie.Need-same-length-3
 same-length-3 c = search needs
 
 returns : tie.Need-returns
-returns c = (refused _ _ _ _ (c .before .before .before .run-answer .ensures) _ _ (c .before .answer .given .1), refl)
+returns c = (refused _ _ _ _ (c .before .before .before .run-answer .ensures) _ _ (c .before .answer .given .1), record { same-count = refl; same-slots = refl })
 
 enum-told : tie.Need-enum-told
 enum-told c = search needs

@@ -30,8 +30,7 @@ use denote.RattleType.{owns}
 use denote.Laws.{Is, shows}
 use denote.Plain.{uint-makes, uint-tells, uint-copy, uint-lawful}
 use denote.Builtin.{u8, f64, unit, usize}
-use denote.Array.{Array, arrayVal, array-vals, array-tells, array-makes, array-lawful, array-repeat, array-copy}
-use denote.Signature.Array.{arrayOf}
+use denote.Array.{Array, arrayVal, array-lawful, array-repeat, array-copy}
 use denote.Signature.{plain, shrSliceOf}
 use denote.Memory.{shares}
 use denote.Ref.{RefT, now}
@@ -49,8 +48,8 @@ use denote.Triple.Walked.{says, Stays, gave-slice, stay-dropped, walkOf, AllGo, 
 use denote.Exit.{yes}
 use Rattle.model.specs.declared.Sizes.{Sizes}
 use Rattle.model.specs.declared.TaskRecord.{TaskRecord}
-use Rattle.worker.specs.declared.Worker.{Worker}
-use Rattle.records.specs.Records.{recordsFrom, lent}
+use Rattle.worker.specs.declared.Workers.{Workers}
+use Rattle.records.specs.Records.{recordsFrom, allLent}
 use Rattle.task_records.specs.Copies.{copied}
 use Rattle.task_records.proofs.Big.{big}
 use Rattle.task_records.proofs.Arrays.{lends-local, local-back, shares-local, local-shared-back}
@@ -59,8 +58,8 @@ use Rattle.copies.proofs.Steps.{N, B, room, vals₅, tells₅, val₅, unasked,
 use Rattle.model.proofs.TaskRecord as T
 use Rattle.model.proofs.Sizes as Sz
 use Rattle.model.proofs.Sizes.Laws as Sz′
-use Rattle.worker.proofs.Worker as Wk
-use Rattle.worker.proofs.Worker.Laws as Wk′
+use Rattle.worker.proofs.Workers as Wk
+use Rattle.worker.proofs.Workers.Laws as Wk′
 use Rattle.model.specs.declared.Answer.{Answer}
 use denote.Enum.Laws as EL
 use Rattle.model.proofs.Answer as Rp
@@ -85,7 +84,7 @@ use Rattle.solve_call.proofs.solve.Statement as stated
 use Rattle.solve_call.proofs.solve.Code as code
 
 abbrev stayed : Stays (f.ended .signature .params) (f.ended .kept)
-stayed = (stay-dropped (plain (λ _. Sz.the-row)) yes, (stay-dropped (shrSliceOf (0 ∷ []) tt (plain (λ _. f64))) yes, (stay-dropped (shrSliceOf (1 ∷ []) tt (plain (λ _. u8))) yes, (stay-dropped (shrSliceOf (2 ∷ []) tt (plain (λ _. T.the-row))) yes, (stay-dropped (arrayOf (plain (λ _. Wk.the-row)) 32) yes, (stay-dropped (shrSliceOf (3 ∷ []) tt (plain (λ _. f64))) yes, (gave-slice (4 ∷ []) tt (plain (λ _. f64)), tt)))))))
+stayed = (stay-dropped (plain (λ _. Sz.the-row)) yes, (stay-dropped (shrSliceOf (0 ∷ []) tt (plain (λ _. f64))) yes, (stay-dropped (shrSliceOf (1 ∷ []) tt (plain (λ _. u8))) yes, (stay-dropped (shrSliceOf (2 ∷ []) tt (plain (λ _. T.the-row))) yes, (stay-dropped (plain (λ _. Wk.the-row)) yes, (stay-dropped (shrSliceOf (3 ∷ []) tt (plain (λ _. f64))) yes, (gave-slice (4 ∷ []) tt (plain (λ _. f64)), tt)))))))
 
 module _ {M : Type 1} (𝓤 : URA M) (H : Heap 𝓤) (A : Atoms 𝓤) (mem : Memory → SProp 𝓤) (run : Routine → Fun 𝓤) where
   -- the contracts that the proof cites
@@ -103,11 +102,11 @@ module _ {M : Type 1} (𝓤 : URA M) (H : Heap 𝓤) (A : Atoms 𝓤) (W : Given
     (b₁ o₁ : ℕ) (γ₁ : GName) (ms : List Float) (room₁ : Room f64 (length ms))
     (b₂ o₂ : ℕ) (γ₂ : GName) (ls : List ℕ) (room₂ : Room u8 (length ls))
     (b₃ o₃ : ℕ) (γ₃ : GName) (ys : List TaskRecord) (room₃ : Room T.the-row (length ys))
-    (slots : List Worker) (slots-is : Is (Array Wk.the-row 32) slots (array-vals (LL.vals Wk.the-type Wk′.the-laws) slots))
+    (wk : Workers) (wk-is : Is Wk.the-row wk (LL.vals Wk.the-type Wk′.the-laws wk))
     (b₄ o₄ : ℕ) (γ₄ : GName) (bs : List Float) (room₄ : Room f64 (length bs))
     (b₆ o₆ : ℕ) (γ₆ : GName) (us : List Float) (room₆ : Room f64 (length us)) where
   abbrev Arg : Type 0
-  Arg = Sizes × (RefT (List Float) × (RefT (List ℕ) × (RefT (List TaskRecord) × (List Worker × (RefT (List Float) × (RefT (List Float) × Unit {0}))))))
+  Arg = Sizes × (RefT (List Float) × (RefT (List ℕ) × (RefT (List TaskRecord) × (Workers × (RefT (List Float) × (RefT (List Float) × Unit {0}))))))
 
   abbrev m : RefT (List Float)
   m = record { ptr = (b₁, o₁); name = γ₁; now = ms }
@@ -129,7 +128,7 @@ module _ {M : Type 1} (𝓤 : URA M) (H : Heap 𝓤) (A : Atoms 𝓤) (W : Given
   aa = record { ptr = (b₆, o₆); name = γ₆; now = us }
 
   abbrev a : Arg
-  a = (z, (m, (ll, ((rs γ₃), (slots, (rr, (aa, tt)))))))
+  a = (z, (m, (ll, ((rs γ₃), (wk, (rr, (aa, tt)))))))
 
   abbrev s₁ : Val
   s₁ = sliceVal (b₁, o₁) (length ms)
@@ -153,10 +152,10 @@ module _ {M : Type 1} (𝓤 : URA M) (H : Heap 𝓤) (A : Atoms 𝓤) (W : Given
   zv = LL.val Sz.the-type Sz′.the-laws z
 
   abbrev wv : Val
-  wv = only (array-vals (LL.vals Wk.the-type Wk′.the-laws) slots)
+  wv = LL.val Wk.the-type Wk′.the-laws wk
 
   abbrev vs : List Val × (List Val × (List Val × (List Val × (List Val × (List Val × (List Val × Unit {0}))))))
-  vs = (LL.vals Sz.the-type Sz′.the-laws z, (s₁ ∷ [], (s₂ ∷ [], (s₃ ∷ [], (array-vals (LL.vals Wk.the-type Wk′.the-laws) slots, (s₄ ∷ [], (s₆ ∷ [], tt)))))))
+  vs = (LL.vals Sz.the-type Sz′.the-laws z, (s₁ ∷ [], (s₂ ∷ [], (s₃ ∷ [], (LL.vals Wk.the-type Wk′.the-laws wk, (s₄ ∷ [], (s₆ ∷ [], tt)))))))
 
   -- how many records are copied, and the copies before
   abbrev n : ℕ
@@ -205,7 +204,7 @@ module _ {M : Type 1} (𝓤 : URA M) (H : Heap 𝓤) (A : Atoms 𝓤) (W : Given
   n-fits : n < 2 ^ 64
   n-fits = omega (arith, n-short)
 
-  exits : (r : Answer) (v : Val) (us′ : List Float) → record { answer = r; left = us′ } ≡ solveCall z (whole ms ls ys slots (z .workers)) bs us → length us′ ≡ length us
+  exits : (r : Answer) (v : Val) (us′ : List Float) → record { answer = r; left = us′ } ≡ solveCall z (whole ms ls ys wk) bs us → length us′ ≡ length us
       → ent 𝓤 (⋆ 𝓤 H A (‵ (flft κ₁ q₁) ∷ ‵ (flft κ₂ q₂) ∷ ‵ (flft κ₃ q₃) ∷ ‵ (flft κ₄ q₄) ∷ ‵ (flft κ₆ q₆) ∷ ‵ (finally f64 γ₆ us′) ∷ ‵ (Rp.the-row .own r (v ∷ [])) ∷ [])) (Post v)
   exits r v us′ e len₆ =
       qed W (‵ (flft κ₁ q₁) ∷ ‵ (flft κ₂ q₂) ∷ ‵ (flft κ₃ q₃) ∷ ‵ (flft κ₄ q₄) ∷ ‵ (flft κ₆ q₆) ∷ ‵ (finally f64 γ₆ us′) ∷ ‵ (Rp.the-row .own r (v ∷ [])) ∷ []) ∵
@@ -237,18 +236,18 @@ module _ {M : Type 1} (𝓤 : URA M) (H : Heap 𝓤) (A : Atoms 𝓤) (W : Given
 
   -- `solve_part`
   abbrev to-co : ℕ → ℕ → GName → List (List ℕ) → Core 𝓤 H A mem run .Ghost
-  to-co l ν ε X = (((κ₁, (κ₂, (ν ∷ [], (κ₄, (κ₆, tt))))), (q₁, (q₂, (fullShare, (q₄, (q₆, tt))))), tt, (z, (m, (ll, (fl l ε X, (n, (slots, (rr, (aa, tt)))))))), (LL.vals Sz.the-type Sz′.the-laws z, (s₁ ∷ [], (s₂ ∷ [], (s₅ l ∷ [], (vint w64 n ∷ [], (array-vals (LL.vals Wk.the-type Wk′.the-laws) slots, (s₄ ∷ [], (s₆ ∷ [], tt))))))))), tt)
+  to-co l ν ε X = (((κ₁, (κ₂, (ν ∷ [], (κ₄, (κ₆, tt))))), (q₁, (q₂, (fullShare, (q₄, (q₆, tt))))), tt, (z, (m, (ll, (fl l ε X, (n, (wk, (rr, (aa, tt)))))))), (LL.vals Sz.the-type Sz′.the-laws z, (s₁ ∷ [], (s₂ ∷ [], (s₅ l ∷ [], (vint w64 n ∷ [], (LL.vals Wk.the-type Wk′.the-laws wk, (s₄ ∷ [], (s₆ ∷ [], tt))))))))), tt)
 
   goes-co : (l ν : ℕ) (ε : GName) (X : List (List ℕ)) → length X ≡ N → ent 𝓤 (sep 𝓤 (sep 𝓤 (A .lft κ₁ q₁) (sep 𝓤 (A .lft κ₂ q₂) (sep 𝓤 (A .lft (ν ∷ []) fullShare) (sep 𝓤 (A .lft κ₄ q₄) (A .lft κ₆ q₆))))) (sep 𝓤 (sep 𝓤 (sem 𝓤 H A Mat) (sep 𝓤 (sem 𝓤 H A Lis) (sep 𝓤 (sem 𝓤 H A Rig) (sem 𝓤 H A Ans)))) (sem 𝓤 H A (Imm l ν ε X)))) (Core 𝓤 H A mem run .pre (to-co l ν ε X))
   goes-co l ν ε X long =
       qed W ((‵ (flft κ₁ q₁) ⊛ ‵ (flft κ₂ q₂) ⊛ ‵ (flft (ν ∷ []) fullShare) ⊛ ‵ (flft κ₄ q₄) ⊛ ‵ (flft κ₆ q₆)) ∷ (‵ Mat ⊛ ‵ Lis ⊛ ‵ Rig ⊛ ‵ Ans) ∷ ‵ (Imm l ν ε X) ∷ []) ∵ says ! (subst (λ (k : ℕ). n ≤ k) (sym long) n-short) $ split3 ! $ move ! (2 ∷ []) $ split3 ! $
       nothing ! $ move ! (3 ∷ 0 ∷ []) $ join ! $ move ! (2 ∷ 0 ∷ []) $ join ! $ move ! (1 ∷ 0 ∷ []) $ join ! $ move ! (2 ∷ 0 ∷ []) $ join ! $ move ! (1 ∷ 0 ∷ []) $ join ! $ frame ! $ split3 ! $ move ! (2 ∷ []) $ split ! $
-      nothing ! $ move ! (2 ∷ 0 ∷ []) $ fjoin ! $ move ! (1 ∷ 0 ∷ []) $ fjoin ! $ owned ! (Array Wk.the-row 32) (Is (Array Wk.the-row 32)) (array-makes 𝓤 H A W Wk.the-row (LL.makes Wk.the-type Wk′.the-plain 𝓤 H A) 32) slots _ slots-is $ fjoin ! $
+      nothing ! $ move ! (2 ∷ 0 ∷ []) $ fjoin ! $ move ! (1 ∷ 0 ∷ []) $ fjoin ! $ owned ! Wk.the-row (Is Wk.the-row) (LL.makes Wk.the-type Wk′.the-plain 𝓤 H A) wk _ wk-is $ fjoin ! $
       owned ! usize (Is usize) (uint-makes 𝓤 H A W w64) n _ (refl, n-fits) $ fjoin ! $ move ! (3 ∷ 0 ∷ []) $ fjoin ! $ move ! (2 ∷ 0 ∷ []) $ fjoin ! $ move ! (1 ∷ 0 ∷ []) $ fjoin ! $
       owned ! Sz.the-row (Is Sz.the-row) (LL.makes Sz.the-type Sz′.the-plain 𝓤 H A) z _ z-is $ fjoin ! $ done !
 
   abbrev Told : (X : List (List ℕ)) (r : Answer) (us′ : List Float) → Type 0
-  Told X r us′ = record { answer = r; left = us′ } ≡ solveCall z (lent ms ls (upTo n X) slots (z .workers)) bs us
+  Told X r us′ = record { answer = r; left = us′ } ≡ solveCall z (allLent ms ls (upTo n X) wk) bs us
 
   unit-typed : (w : Val) → w ∷ [] ≡ vunit ∷ [] → Holds (hasTy tyUnit w) × WT w
   unit-typed w is = subst (λ (v : Val). Holds (hasTy tyUnit v) × WT v) (sym (ap only is)) (tt, tt)
@@ -256,9 +255,9 @@ module _ {M : Type 1} (𝓤 : URA M) (H : Heap 𝓤) (A : Atoms 𝓤) (W : Given
   module _ (C : Calls 𝓤 H) (Λ : Loops 𝓤 H) (fm : FmC 𝓤 H (W .laws) C) (known-lk : Triple 𝓤 (C #lk) (Look 𝓤 H A mem run)) (known-ld : Triple 𝓤 (C #ld) (Load 𝓤 H A mem run)) (known-co : Triple 𝓤 (C #co) (Core 𝓤 H A mem run)) where
     walk : ent 𝓤 (onEntry 𝓤 H A f.signature (κ₁, (κ₂, (κ₃, (κ₄, (κ₆, tt))))) (q₁, (q₂, (q₃, (q₄, (q₆, tt))))) a vs) (WpFn 𝓤 H C Λ code.function (zv ∷ s₁ ∷ s₂ ∷ s₃ ∷ wv ∷ s₄ ∷ s₆ ∷ []) Post)
     walk =
-        qed W ((‵ (flft κ₁ q₁) ⊛ ‵ (flft κ₂ q₂) ⊛ ‵ (flft κ₃ q₃) ⊛ ‵ (flft κ₄ q₄) ⊛ ‵ (flft κ₆ q₆) ⊛ ‵ ftrue) ∷ ‵ (owns (Sz.the-row ∷ ShrSlice (named 0) κ₁ f64 ∷ ShrSlice (named 1) κ₂ u8 ∷ ShrSlice (named 2) κ₃ T.the-row ∷ Array Wk.the-row 32 ∷ ShrSlice (named 3) κ₄ f64 ∷ MutSlice (named 4) κ₆ f64 ∷ []) a vs) ∷ []) ∵ enter ! C Λ code.function (zv ∷ s₁ ∷ s₂ ∷ s₃ ∷ wv ∷ s₄ ∷ s₆ ∷ []) _ $
+        qed W ((‵ (flft κ₁ q₁) ⊛ ‵ (flft κ₂ q₂) ⊛ ‵ (flft κ₃ q₃) ⊛ ‵ (flft κ₄ q₄) ⊛ ‵ (flft κ₆ q₆) ⊛ ‵ ftrue) ∷ ‵ (owns (Sz.the-row ∷ ShrSlice (named 0) κ₁ f64 ∷ ShrSlice (named 1) κ₂ u8 ∷ ShrSlice (named 2) κ₃ T.the-row ∷ Wk.the-row ∷ ShrSlice (named 3) κ₄ f64 ∷ MutSlice (named 4) κ₆ f64 ∷ []) a vs) ∷ []) ∵ enter ! C Λ code.function (zv ∷ s₁ ∷ s₂ ∷ s₃ ∷ wv ∷ s₄ ∷ s₆ ∷ []) _ $
         alloc1 ! (λ l₀. alloc1 ! (λ l₁. alloc1 ! (λ l₂. alloc1 ! (λ l₃. alloc1 ! (λ l₄. alloc1 ! (λ l₅. alloc1 ! (λ l₆. alloc1 ! (λ l₇. alloc1 ! (λ l₈. alloc1 ! (λ l₉. alloc1 ! (λ l₁₀. alloc1 ! (λ l₁₁. alloc1 ! (λ l₁₂. alloc1 ! (λ l₁₃. alloc1 ! (λ l₁₄. alloc1 ! (λ l₁₅. alloc1 ! (λ l₁₆. alloc1 ! (λ l₁₇. alloc1 ! (λ l₁₈. alloc0 ! $ params1 ! $
-        pass1 ! (init ! 34 refl (LL.lawful Sz.the-type Sz′.the-laws 𝓤 H A W .typed z _ z-is .0)) $ pass1 ! (init ! 32 refl (tt, (tt, (record { fits = room₁ .0 }, tt)))) $ pass1 ! (init ! 30 refl (tt, (tt, (record { fits = room₂ .0 }, tt)))) $ pass1 ! (init ! 28 refl (tt, (tt, (record { fits = room₃ .0 }, tt)))) $ pass1 ! (init ! 26 refl (array-lawful 𝓤 H A W Wk.the-row (LL.lawful Wk.the-type Wk′.the-laws 𝓤 H A W) 32 .typed slots _ slots-is .0)) $ pass1 ! (init ! 24 refl (tt, (tt, (record { fits = room₄ .0 }, tt)))) $ pass1 ! (init ! 22 refl (tt, (tt, (record { fits = room₆ .0 }, tt)))) $ pass0 ! $
+        pass1 ! (init ! 34 refl (LL.lawful Sz.the-type Sz′.the-laws 𝓤 H A W .typed z _ z-is .0)) $ pass1 ! (init ! 32 refl (tt, (tt, (record { fits = room₁ .0 }, tt)))) $ pass1 ! (init ! 30 refl (tt, (tt, (record { fits = room₂ .0 }, tt)))) $ pass1 ! (init ! 28 refl (tt, (tt, (record { fits = room₃ .0 }, tt)))) $ pass1 ! (init ! 26 refl (LL.lawful Wk.the-type Wk′.the-laws 𝓤 H A W .typed wk _ wk-is .0)) $ pass1 ! (init ! 24 refl (tt, (tt, (record { fits = room₄ .0 }, tt)))) $ pass1 ! (init ! 22 refl (tt, (tt, (record { fits = room₆ .0 }, tt)))) $ pass0 ! $
         -- the tokens and the borrows to the front; then the locals, the last first, each with what says that it dies
         move ! (39 ∷ []) $ move ! (0 ∷ []) $ fsplit ! $ move ! (1 ∷ []) $ fsplit ! $ move ! (1 ∷ []) $ fsplit ! $ move ! (1 ∷ []) $ fsplit ! $ move ! (1 ∷ []) $ fsplit ! $ move ! (1 ∷ []) $ fsplit ! $ move ! (1 ∷ []) $ fsplit ! $ move ! (46 ∷ []) $ split ! $ move ! (1 ∷ []) $ split ! $ move ! (1 ∷ []) $ split ! $ move ! (1 ∷ []) $ split ! $ move ! (1 ∷ []) $ split ! $ keep ! (5 ∷ 4 ∷ 3 ∷ 2 ∷ 0 ∷ 12 ∷ 11 ∷ 10 ∷ 8 ∷ 6 ∷ 14 ∷ 15 ∷ 16 ∷ 17 ∷ 18 ∷ 19 ∷ 20 ∷ 21 ∷ 22 ∷ 23 ∷ 24 ∷ 25 ∷ 26 ∷ 27 ∷ 28 ∷ 29 ∷ 30 ∷ 31 ∷ 32 ∷ 33 ∷ 34 ∷ 35 ∷ 36 ∷ 37 ∷ 38 ∷ 39 ∷ 40 ∷ 41 ∷ 42 ∷ 43 ∷ 44 ∷ 45 ∷ 46 ∷ 47 ∷ 48 ∷ 49 ∷ 50 ∷ 51 ∷ []) $
         -- the array is made
@@ -287,25 +286,25 @@ module _ {M : Type 1} (𝓤 : URA M) (H : Heap 𝓤) (A : Atoms 𝓤) (W : Given
         use2 W (later (some (λ (ε : GName). ‵ (Imm l₈ ν ε (ws₁ .1 .0)) ⊛ ‵ (flent (ν ∷ []) (arr-parts (shares B) N .part fullShare (ws₁ .1 .0) l₈ 0))))) (shares-local B tt vals₅ tells₅ N 𝓤 H A W (named 2) (ν ∷ []) (ws₁ .1 .0) _ l₈ room) $ await ! tt $ pick ! (λ ε. split ! $
         move ! (7 ∷ 8 ∷ []) $ join ! $ move ! (3 ∷ 0 ∷ []) $ join ! $ move ! (6 ∷ 0 ∷ []) $ join ! $ move ! (5 ∷ 0 ∷ []) $ join ! $ move ! (7 ∷ 8 ∷ []) $ join ! $ move ! (7 ∷ 0 ∷ []) $ join ! $ move ! (6 ∷ 0 ∷ []) $ join ! $ move ! (1 ∷ 0 ∷ 2 ∷ []) $
         use3 W (raw (Core 𝓤 H A mem run .pre (to-co l₈ ν ε (ws₁ .1 .0)))) (goes-co l₈ ν ε (ws₁ .1 .0) (good₁ .1 .0 .1)) $ calls-at ! fm (Core 𝓤 H A mem run) known-co (to-co l₈ ν ε (ws₁ .1 .0)) (and-then ! (load ! (from ! (stop !)) (look ! 37 refl)) (and-then ! (load ! (from ! (stop !)) (look ! 35 refl)) (and-then ! (load ! (from ! (stop !)) (look ! 33 refl)) (and-then ! (load ! (from ! (stop !)) (look ! 8 refl)) (and-then ! (load ! (from ! (stop !)) (look ! 22 refl)) (and-then ! (load ! (from ! (stop !)) (look ! 29 refl)) (and-then ! (load ! (from ! (stop !)) (look ! 27 refl)) (and-then ! (load ! (from ! (stop !)) (look ! 4 refl)) (no-more !))))))))) (λ w₂.
-        use1 W (later (some (λ (t : Answer). ((‵ (flft κ₁ q₁) ⊛ ‵ (flft κ₂ q₂) ⊛ ‵ (flft (ν ∷ []) fullShare) ⊛ ‵ (flft κ₄ q₄) ⊛ ‵ (flft κ₆ q₆) ⊛ ‵ ftrue) ⊛ ‵ (Rp.the-row .own t (w₂ ∷ []))) ⊛ raw (ensured 𝓤 H A co.ended (co.clauses 𝓤 H A mem run) (κ₁, (κ₂, (ν ∷ [], (κ₄, (κ₆, tt))))) (z, (m, (ll, (fl l₈ ε (ws₁ .1 .0), (n, (slots, (rr, (aa, tt)))))))) tt t)))) (id⊢ 𝓤 _) $ await ! tt $ pick ! (λ t₂. split ! $ move ! (1 ∷ []) $
-        use1 W (some (λ (ws : Unit {0} × (Unit {0} × (Unit {0} × (Unit {0} × (Unit {0} × (Unit {0} × (Unit {0} × (List Float × Unit {0})))))))). ‵ (lasts co.ended (κ₁, (κ₂, (ν ∷ [], (κ₄, (κ₆, tt))))) (z, (m, (ll, (fl l₈ ε (ws₁ .1 .0), (n, (slots, (rr, (aa, tt)))))))) ws) ⊛ raw (fact 𝓤 (Told (ws₁ .1 .0) t₂ (ws .1 .1 .1 .1 .1 .1 .1 .0))))) (id⊢ 𝓤 _) $ pick ! (λ ws₂. split ! $ move ! (1 ∷ []) $ heard ! (Told (ws₁ .1 .0) t₂ (ws₂ .1 .1 .1 .1 .1 .1 .1 .0)) (λ e₂.
+        use1 W (later (some (λ (t : Answer). ((‵ (flft κ₁ q₁) ⊛ ‵ (flft κ₂ q₂) ⊛ ‵ (flft (ν ∷ []) fullShare) ⊛ ‵ (flft κ₄ q₄) ⊛ ‵ (flft κ₆ q₆) ⊛ ‵ ftrue) ⊛ ‵ (Rp.the-row .own t (w₂ ∷ []))) ⊛ raw (ensured 𝓤 H A co.ended (co.clauses 𝓤 H A mem run) (κ₁, (κ₂, (ν ∷ [], (κ₄, (κ₆, tt))))) (z, (m, (ll, (fl l₈ ε (ws₁ .1 .0), (n, (wk, (rr, (aa, tt)))))))) tt t)))) (id⊢ 𝓤 _) $ await ! tt $ pick ! (λ t₂. split ! $ move ! (1 ∷ []) $
+        use1 W (some (λ (ws : Unit {0} × (Unit {0} × (Unit {0} × (Unit {0} × (Unit {0} × (Unit {0} × (Unit {0} × (List Float × Unit {0})))))))). ‵ (lasts co.ended (κ₁, (κ₂, (ν ∷ [], (κ₄, (κ₆, tt))))) (z, (m, (ll, (fl l₈ ε (ws₁ .1 .0), (n, (wk, (rr, (aa, tt)))))))) ws) ⊛ raw (fact 𝓤 (Told (ws₁ .1 .0) t₂ (ws .1 .1 .1 .1 .1 .1 .1 .0))))) (id⊢ 𝓤 _) $ pick ! (λ ws₂. split ! $ move ! (1 ∷ []) $ heard ! (Told (ws₁ .1 .0) t₂ (ws₂ .1 .1 .1 .1 .1 .1 .1 .0)) (λ e₂.
         fsplit ! $ drop ! $ move ! (0 ∷ []) $ fsplit ! $ drop ! $ move ! (0 ∷ []) $ fsplit ! $ drop ! $ move ! (0 ∷ []) $ fsplit ! $ drop ! $ move ! (0 ∷ []) $ fsplit ! $ drop ! $ move ! (0 ∷ []) $ fsplit ! $ drop ! $ move ! (0 ∷ []) $ fsplit ! $ drop ! $ move ! (0 ∷ []) $ fsplit ! $ fsplit ! $ move ! (1 ∷ []) $ feqL ! (λ sameA. move ! (1 ∷ []) $ drop ! $
         move ! (1 ∷ []) $ split ! $ move ! (1 ∷ []) $ peeks ! Rp.the-row (Is Rp.the-row) (shows 𝓤 H A Rp.the-row) t₂ (w₂ ∷ []) (λ is₂.
         land ! (from ! (stop !)) (init ! 41 refl (EL.lawful Rp.the-type Rp′.the-laws 𝓤 H A W tt .typed t₂ _ is₂ .0)) $
         move ! (1 ∷ []) $ split ! $ move ! (1 ∷ []) $ split ! $ move ! (1 ∷ []) $ split ! $ move ! (1 ∷ []) $ split3 ! $ move ! (3 ∷ []) $ lft-end ! tt $ move ! (0 ∷ 8 ∷ []) $ use2 W (later (‵ (Cell l₈ (val₅ (ws₁ .1 .0))) ⊛ ‵ (Arr (ws₁ .1 .0) (val₅ (ws₁ .1 .0))))) (local-shared-back B tt vals₅ tells₅ N 𝓤 H A W (ν ∷ []) (ws₁ .1 .0) l₈) $ await ! tt $ split ! $
         returns ! (look ! 46 refl) $ forget ! 46 refl $ forget ! 44 refl $ forget ! 42 refl $ forget ! 40 refl $ forget ! 38 refl $ forget ! 36 refl $ forget ! 34 refl $ forget ! 32 refl $ forget ! 0 refl $ forget ! 29 refl $ forget ! 27 refl $ forget ! 25 refl $ forget ! 23 refl $ forget ! 21 refl $ forget ! 19 refl $ forget ! 17 refl $ forget ! 15 refl $ forget ! 13 refl $ forget ! 11 refl $
         move ! (46 ∷ 47 ∷ []) $ free1 ! $ move ! (44 ∷ 45 ∷ []) $ free1 ! $ move ! (42 ∷ 43 ∷ []) $ free1 ! $ move ! (40 ∷ 41 ∷ []) $ free1 ! $ move ! (38 ∷ 39 ∷ []) $ free1 ! $ move ! (36 ∷ 37 ∷ []) $ free1 ! $ move ! (34 ∷ 35 ∷ []) $ free1 ! $ move ! (32 ∷ 33 ∷ []) $ free1 ! $ move ! (0 ∷ 31 ∷ []) $ free1 ! $ move ! (28 ∷ 29 ∷ []) $ free1 ! $ move ! (26 ∷ 27 ∷ []) $ free1 ! $ move ! (24 ∷ 25 ∷ []) $ free1 ! $ move ! (22 ∷ 23 ∷ []) $ free1 ! $ move ! (20 ∷ 21 ∷ []) $ free1 ! $ move ! (18 ∷ 19 ∷ []) $ free1 ! $ move ! (16 ∷ 17 ∷ []) $ free1 ! $ move ! (14 ∷ 15 ∷ []) $ free1 ! $ move ! (12 ∷ 13 ∷ []) $ free1 ! $ move ! (10 ∷ 11 ∷ []) $ free1 ! $ free0 ! $
-        keep ! (5 ∷ 4 ∷ 8 ∷ 1 ∷ 2 ∷ 7 ∷ 6 ∷ []) $ by ! (exits t₂ w₂ (ws₂ .1 .1 .1 .1 .1 .1 .1 .0) (e₂ ∙ solve-whole z ms ls ys slots bs us X₀ (ws₁ .1 .0) (good₁ .1 .0 .1) e₁) sameA)))))))))))))))))))))))))))))))))))))))))))
+        keep ! (5 ∷ 4 ∷ 8 ∷ 1 ∷ 2 ∷ 7 ∷ 6 ∷ []) $ by ! (exits t₂ w₂ (ws₂ .1 .1 .1 .1 .1 .1 .1 .0) (e₂ ∙ solve-whole z ms ls ys wk bs us X₀ (ws₁ .1 .0) (good₁ .1 .0 .1) e₁) sameA)))))))))))))))))))))))))))))))))))))))))))
 
 module _ {M : Type 1} (𝓤 : URA M) (H : Heap 𝓤) (A : Atoms 𝓤) (W : Given 𝓤 H A) (mem : Memory → SProp 𝓤) (run : Routine → Fun 𝓤) (𝓣 : Tables 𝓤 H) (known-lk : Triple 𝓤 (𝓣 .C #lk) (Look 𝓤 H A mem run)) (known-ld : Triple 𝓤 (𝓣 .C #ld) (Load 𝓤 H A mem run)) (known-co : Triple 𝓤 (𝓣 .C #co) (Core 𝓤 H A mem run)) where
   walks : Walks 𝓤 H A f.ended stayed (WpFn 𝓤 H (𝓣 .C) (𝓣 .Λ) code.function) (f.clauses 𝓤 H A mem run)
-  walks = walked 𝓤 H A f.ended stayed (f.clauses 𝓤 H A mem run) (WpFn 𝓤 H (𝓣 .C) (𝓣 .Λ) code.function) (λ κs. (LL.vals Sz.the-type Sz′.the-laws, (slice-vals, (slice-vals, (slice-vals, (array-vals (LL.vals Wk.the-type Wk′.the-laws), (slice-vals, (slice-vals, tt))))))))
-      (λ κs. (LL.tells Sz.the-type Sz′.the-laws, (shr-slice-tells (named 0) (κs .0) f64, (shr-slice-tells (named 1) (κs .1 .0) u8, (shr-slice-tells (named 2) (κs .1 .1 .0) T.the-row, (array-tells Wk.the-row (LL.vals Wk.the-type Wk′.the-laws) (LL.tells Wk.the-type Wk′.the-laws) 32, (shr-slice-tells (named 3) (κs .1 .1 .1 .0) f64, (mut-slice-tells (named 4) (κs .1 .1 .1 .1 .0) f64, tt))))))))
+  walks = walked 𝓤 H A f.ended stayed (f.clauses 𝓤 H A mem run) (WpFn 𝓤 H (𝓣 .C) (𝓣 .Λ) code.function) (λ κs. (LL.vals Sz.the-type Sz′.the-laws, (slice-vals, (slice-vals, (slice-vals, (LL.vals Wk.the-type Wk′.the-laws, (slice-vals, (slice-vals, tt))))))))
+      (λ κs. (LL.tells Sz.the-type Sz′.the-laws, (shr-slice-tells (named 0) (κs .0) f64, (shr-slice-tells (named 1) (κs .1 .0) u8, (shr-slice-tells (named 2) (κs .1 .1 .0) T.the-row, (LL.tells Wk.the-type Wk′.the-laws, (shr-slice-tells (named 3) (κs .1 .1 .1 .0) f64, (mut-slice-tells (named 4) (κs .1 .1 .1 .1 .0) f64, tt))))))))
       (λ κs qs bounds a g are. via 𝓤 _ (fst∗ 𝓤 _ (emp 𝓤)) (walk 𝓤 H A W mem run (κs .0) (κs .1 .0) (κs .1 .1 .0) (κs .1 .1 .1 .0) (κs .1 .1 .1 .1 .0) (qs .0) (qs .1 .0) (qs .1 .1 .0) (qs .1 .1 .1 .0) (qs .1 .1 .1 .1 .0)
       (a .0) (are .0) (a .1 .0 .ptr .0) (a .1 .0 .ptr .1) (a .1 .0 .name) (a .1 .0 .now) (are .1 .0 .0 .1) (a .1 .1 .0 .ptr .0) (a .1 .1 .0 .ptr .1) (a .1 .1 .0 .name) (a .1 .1 .0 .now) (are .1 .1 .0 .0 .1) (a .1 .1 .1 .0 .ptr .0) (a .1 .1 .1 .0 .ptr .1) (a .1 .1 .1 .0 .name) (a .1 .1 .1 .0 .now) (are .1 .1 .1 .0 .0 .1) (a .1 .1 .1 .1 .0) (are .1 .1 .1 .1 .0) (a .1 .1 .1 .1 .1 .0 .ptr .0) (a .1 .1 .1 .1 .1 .0 .ptr .1) (a .1 .1 .1 .1 .1 .0 .name) (a .1 .1 .1 .1 .1 .0 .now) (are .1 .1 .1 .1 .1 .0 .0 .1) (a .1 .1 .1 .1 .1 .1 .0 .ptr .0) (a .1 .1 .1 .1 .1 .1 .0 .ptr .1) (a .1 .1 .1 .1 .1 .1 .0 .name) (a .1 .1 .1 .1 .1 .1 .0 .now) (are .1 .1 .1 .1 .1 .1 .0 .0 .1) (𝓣 .C) (𝓣 .Λ) (fmOf 𝓤 H (W .laws) 𝓣) known-lk known-ld known-co))
 
   goes : AllGo 𝓤 H A W 5 (f.signature .params) (f.ended .kept) stayed
-  goes = (goes-dropped 𝓤 H A W 5 (plain (λ _. Sz.the-row)) yes (λ κs x f. refl), (goes-dropped 𝓤 H A W 5 (shrSliceOf (0 ∷ []) tt (plain (λ _. f64))) yes (λ κs x f. refl), (goes-dropped 𝓤 H A W 5 (shrSliceOf (1 ∷ []) tt (plain (λ _. u8))) yes (λ κs x f. refl), (goes-dropped 𝓤 H A W 5 (shrSliceOf (2 ∷ []) tt (plain (λ _. T.the-row))) yes (λ κs x f. refl), (goes-dropped 𝓤 H A W 5 (arrayOf (plain (λ _. Wk.the-row)) 32) yes (λ κs x f. refl), (goes-dropped 𝓤 H A W 5 (shrSliceOf (3 ∷ []) tt (plain (λ _. f64))) yes (λ κs x f. refl), (goes-gave-slice 𝓤 H A W 5 4 tt (plain (λ _. f64)), tt)))))))
+  goes = (goes-dropped 𝓤 H A W 5 (plain (λ _. Sz.the-row)) yes (λ κs x f. refl), (goes-dropped 𝓤 H A W 5 (shrSliceOf (0 ∷ []) tt (plain (λ _. f64))) yes (λ κs x f. refl), (goes-dropped 𝓤 H A W 5 (shrSliceOf (1 ∷ []) tt (plain (λ _. u8))) yes (λ κs x f. refl), (goes-dropped 𝓤 H A W 5 (shrSliceOf (2 ∷ []) tt (plain (λ _. T.the-row))) yes (λ κs x f. refl), (goes-dropped 𝓤 H A W 5 (plain (λ _. Wk.the-row)) yes (λ κs x f. refl), (goes-dropped 𝓤 H A W 5 (shrSliceOf (3 ∷ []) tt (plain (λ _. f64))) yes (λ κs x f. refl), (goes-gave-slice 𝓤 H A W 5 4 tt (plain (λ _. f64)), tt)))))))
 
   meets : Meets 𝓤 H A f.signature (WpFn 𝓤 H (𝓣 .C) (𝓣 .Λ) code.function) (f.spec 𝓤 H A mem run)
   meets = walk-meets 𝓤 H A f.ended stayed W goes (f.clauses 𝓤 H A mem run) (WpFn 𝓤 H (𝓣 .C) (𝓣 .Λ) code.function) (WpFn-mono 𝓤 H (W .laws) 𝓣 code.function) walks

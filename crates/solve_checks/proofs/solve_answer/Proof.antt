@@ -1,9 +1,8 @@
 -- The first refusal that holds, in the table's order. Assumes nothing.
-use mathlib.Core.Path.{_≡_, sym, _∙_}
+use mathlib.Core.Path.{sym, _∙_}
 use native.Mathlib.Omega.{arith}
 use borrow.Author.Needs.{needs}
 use borrow.Author.Tests.{not-true, not-false}
-use lib.ListN.{length}
 use denote.Ref.{now}
 use Rattle.checks.proofs.Laws.{sized, small}
 use Rattle.solve_checks.proofs.Laws.{solve-1, solve-2, checked, solve-right, solve-answers, solve-4, solve-elements, solve-rest}
@@ -14,7 +13,7 @@ bad-sizes-requires : tie.Need-bad-sizes-requires
 bad-sizes-requires c κs = search needs
 
 returns : tie.Need-returns
-returns c = solve-1 _ _ _ _ _ _ _ _ (c .before .bad-sizes .ensures) (c .if1 .taken)
+returns c = solve-1 _ _ _ _ _ _ _ _ _ (c .before .bad-sizes .ensures) (c .if1 .taken)
 
 bad-lengths-requires : tie.Need-bad-lengths-requires
 bad-lengths-requires c κs = sized _ (sym (c .before .bad-sizes .ensures) ∙ c .if1 .left)
@@ -22,8 +21,7 @@ bad-lengths-requires c κs = sized _ (sym (c .before .bad-sizes .ensures) ∙ c 
 returns-2 : tie.Need-returns-2
 returns-2 c =
     let d = c .before .before .before .before .before .before .before .before in
-    let slots : length (d .args .workers) ≡ 32 = search needs in
-    solve-2 (d .args .z) _ _ _ (d .args .workers) _ _ _ (c .before .before .before .bad-sizes .ensures) (c .before .before .if1 .left) _ (c .before .bad-lengths .ensures (d .args .workers) slots) (c .if2 .taken)
+    solve-2 (d .args .z) _ _ _ (d .args .workers .slots) (d .args .workers .count) _ _ _ (c .before .before .before .bad-sizes .ensures) (c .before .before .if1 .left) _ (c .before .bad-lengths .ensures (d .args .workers .slots)) (c .if2 .taken)
 
 mul-order : tie.Need-mul-order
 mul-order c =
@@ -33,51 +31,44 @@ mul-order c =
 returns-3 : tie.Need-returns-3
 returns-3 c =
     let d = c .before .before .before .before .before .before .before .before .before .before in
-    let slots : length (d .args .workers) ≡ 32 = search needs in
-    solve-right (d .args .z) _ _ _ (d .args .workers) _ _ _ (c .before .before .before .before .before .bad-sizes .ensures) (c .before .before .before .before .if1 .left) _ (c .before .before .before .bad-lengths .ensures (d .args .workers) slots) (c .before .before .if2 .left) (c .if3 .taken)
+    solve-right (d .args .z) _ _ _ (d .args .workers .slots) (d .args .workers .count) _ _ _ (c .before .before .before .before .before .bad-sizes .ensures) (c .before .before .before .before .if1 .left) _ (c .before .before .before .bad-lengths .ensures (d .args .workers .slots)) (c .before .before .if2 .left) (c .if3 .taken)
 
 returns-4 : tie.Need-returns-4
 returns-4 c =
     let d = c .before .before .before .before .before .before .before .before .before .before .before in
-    let slots : length (d .args .workers) ≡ 32 = search needs in
-    solve-answers (d .args .z) _ _ _ (d .args .workers) _ _ _ (c .before .before .before .before .before .before .bad-sizes .ensures) (c .before .before .before .before .before .if1 .left) _ (c .before .before .before .before .bad-lengths .ensures (d .args .workers) slots) (c .before .before .before .if2 .left) (c .before .if3 .left) (c .if4 .taken)
+    solve-answers (d .args .z) _ _ _ (d .args .workers .slots) (d .args .workers .count) _ _ _ (c .before .before .before .before .before .before .bad-sizes .ensures) (c .before .before .before .before .before .if1 .left) _ (c .before .before .before .before .bad-lengths .ensures (d .args .workers .slots)) (c .before .before .before .if2 .left) (c .before .if3 .left) (c .if4 .taken)
 
 damaged-requires : tie.Need-damaged-requires
 damaged-requires c κs =
-    let d = c .before .before .before .before .before .before .before .before .before .before .before in
-    let slots : length (d .args .workers) ≡ 32 = search needs in
-    let k = checked (d .args .z) (now (d .args .matrix)) _ _ (d .args .workers) (now (d .args .right)) (now (d .args .answers)) _ (c .before .before .before .before .before .before .bad-sizes .ensures) (c .before .before .before .before .before .if1 .left) _ (c .before .before .before .before .bad-lengths .ensures (d .args .workers) slots) (c .before .before .before .if2 .left) in
-    (k .0, k .1 .lists-fit, k .1 .records-fit)
+    let d = c .before .before .before .before .before .before .before .before .before .before .before .before in
+    let k = checked (d .args .z) (now (d .args .matrix)) _ _ (d .args .workers .slots) (d .args .workers .count) (now (d .args .right)) (now (d .args .answers)) _ (c .before .before .before .before .before .before .before .bad-sizes .ensures) (c .before .before .before .before .before .before .if1 .left) _ (c .before .before .before .before .before .bad-lengths .ensures (d .args .workers .slots)) (c .before .before .before .before .if2 .left) in
+    (k .0, k .1 .buffers .lists-fit, k .1 .records-fit)
 
 returns-5 : tie.Need-returns-5
 returns-5 c =
-    let d = c .before .before .before .before .before .before .before .before .before .before .before .before .before in
-    let slots : length (d .args .workers) ≡ 32 = search needs in
-    solve-4 (d .args .z) _ _ _ (d .args .workers) _ _ _ (c .before .before .before .before .before .before .before .before .bad-sizes .ensures) (c .before .before .before .before .before .before .before .if1 .left) _ (c .before .before .before .before .before .before .bad-lengths .ensures (d .args .workers) slots) (c .before .before .before .before .before .if2 .left) (c .before .before .before .if3 .left) (c .before .before .if4 .left) _ (c .before .damaged .ensures (now (d .args .matrix))) (c .if5 .taken)
+    let d = c .before .before .before .before .before .before .before .before .before .before .before .before .before .before in
+    solve-4 (d .args .z) _ _ _ (d .args .workers .slots) (d .args .workers .count) _ _ _ (c .before .before .before .before .before .before .before .before .before .bad-sizes .ensures) (c .before .before .before .before .before .before .before .before .if1 .left) _ (c .before .before .before .before .before .before .before .bad-lengths .ensures (d .args .workers .slots)) (c .before .before .before .before .before .before .if2 .left) (c .before .before .before .before .if3 .left) (c .before .before .before .if4 .left) _ (c .before .damaged .ensures (now (d .args .matrix))) (c .if5 .taken)
 
 all-finite-requires : tie.Need-all-finite-requires
 all-finite-requires c κs = search needs
 
 returns-6 : tie.Need-returns-6
 returns-6 c =
-    let d = c .before .before .before .before .before .before .before .before .before .before .before .before .before .before .before in
-    let slots : length (d .args .workers) ≡ 32 = search needs in
-    solve-elements (d .args .z) _ _ _ (d .args .workers) _ _ _ (c .before .before .before .before .before .before .before .before .before .before .bad-sizes .ensures) (c .before .before .before .before .before .before .before .before .before .if1 .left) _ (c .before .before .before .before .before .before .before .before .bad-lengths .ensures (d .args .workers) slots) (c .before .before .before .before .before .before .before .if2 .left) (c .before .before .before .before .before .if3 .left) (c .before .before .before .before .if4 .left) _ (c .before .before .before .damaged .ensures (now (d .args .matrix))) (c .before .before .if5 .left)
+    let d = c .before .before .before .before .before .before .before .before .before .before .before .before .before .before .before .before in
+    solve-elements (d .args .z) _ _ _ (d .args .workers .slots) (d .args .workers .count) _ _ _ (c .before .before .before .before .before .before .before .before .before .before .before .bad-sizes .ensures) (c .before .before .before .before .before .before .before .before .before .before .if1 .left) _ (c .before .before .before .before .before .before .before .before .before .bad-lengths .ensures (d .args .workers .slots)) (c .before .before .before .before .before .before .before .before .if2 .left) (c .before .before .before .before .before .before .if3 .left) (c .before .before .before .before .before .if4 .left) _ (c .before .before .before .damaged .ensures (now (d .args .matrix))) (c .before .before .if5 .left)
     _ (c .before .all-finite .ensures) (not-true _ (c .if6 .taken))
 
 rest-answer-requires : tie.Need-rest-answer-requires
 rest-answer-requires c κs =
-    let d = c .before .before .before .before .before .before .before .before .before .before .before .before .before .before .before in
-    let slots : length (d .args .workers) ≡ 32 = search needs in
-    let k = checked (d .args .z) (now (d .args .matrix)) (now (d .args .lists)) _ (d .args .workers) (now (d .args .right)) (now (d .args .answers)) _ (c .before .before .before .before .before .before .before .before .before .before .bad-sizes .ensures) (c .before .before .before .before .before .before .before .before .before .if1 .left) _ (c .before .before .before .before .before .before .before .before .bad-lengths .ensures (d .args .workers) slots) (c .before .before .before .before .before .before .before .if2 .left) in
-    (k .0, k .1 .matrix-fits, k .1 .records-fit)
+    let d = c .before .before .before .before .before .before .before .before .before .before .before .before .before .before .before .before in
+    let k = checked (d .args .z) (now (d .args .matrix)) (now (d .args .lists)) _ (d .args .workers .slots) (d .args .workers .count) (now (d .args .right)) (now (d .args .answers)) _ (c .before .before .before .before .before .before .before .before .before .before .before .bad-sizes .ensures) (c .before .before .before .before .before .before .before .before .before .before .if1 .left) _ (c .before .before .before .before .before .before .before .before .before .bad-lengths .ensures (d .args .workers .slots)) (c .before .before .before .before .before .before .before .before .if2 .left) in
+    (k .0, k .1 .buffers .matrix-fits, k .1 .records-fit)
 
 returns-7 : tie.Need-returns-7
 returns-7 c =
-    let d = c .before .before .before .before .before .before .before .before .before .before .before .before .before .before .before .before in
-    let slots : length (d .args .workers) ≡ 32 = search needs in
-    solve-rest (d .args .z) _ _ _ (d .args .workers) _ _ _ (c .before .before .before .before .before .before .before .before .before .before .before .bad-sizes .ensures) (c .before .before .before .before .before .before .before .before .before .before .if1 .left) _ (c .before .before .before .before .before .before .before .before .before .bad-lengths .ensures (d .args .workers) slots) (c .before .before .before .before .before .before .before .before .if2 .left) (c .before .before .before .before .before .before .if3 .left) (c .before .before .before .before .before .if4 .left) _ (c .before .before .before .before .damaged .ensures (now (d .args .matrix))) (c .before .before .before .if5 .left)
-    _ (c .before .before .all-finite .ensures) (not-false _ (c .before .if6 .left)) _ (c .rest-answer .ensures (now (d .args .lists)) (d .args .workers))
+    let d = c .before .before .before .before .before .before .before .before .before .before .before .before .before .before .before .before .before in
+    solve-rest (d .args .z) _ _ _ (d .args .workers .slots) (d .args .workers .count) _ _ _ (c .before .before .before .before .before .before .before .before .before .before .before .before .bad-sizes .ensures) (c .before .before .before .before .before .before .before .before .before .before .before .if1 .left) _ (c .before .before .before .before .before .before .before .before .before .before .bad-lengths .ensures (d .args .workers .slots)) (c .before .before .before .before .before .before .before .before .before .if2 .left) (c .before .before .before .before .before .before .before .if3 .left) (c .before .before .before .before .before .before .if4 .left) _ (c .before .before .before .before .damaged .ensures (now (d .args .matrix))) (c .before .before .before .if5 .left)
+    _ (c .before .before .all-finite .ensures) (not-false _ (c .before .if6 .left)) _ (c .rest-answer .ensures (now (d .args .lists)) (d .args .workers .slots) (d .args .workers .count))
 
 pub solve-answer-spec : {M : Type 1} → statement M
 solve-answer-spec =

@@ -57,8 +57,10 @@ print-worked-requires c κs =
     let k = few-tasks _ (s .tiles .1) in (
       p,
       record {
-        matrix-fits = length-take-le _ _ (omega (arith, c .before .before .before .before .before .before .before .blank-numbers .ensures));
-        lists-fit = length-take-le _ _ (omega (arith, c .before .before .before .before .before .before .blank-entries .ensures));
+        buffers = record {
+          matrix-fits = length-take-le _ _ (omega (arith, c .before .before .before .before .before .before .before .blank-numbers .ensures));
+          lists-fit = length-take-le _ _ (omega (arith, c .before .before .before .before .before .before .blank-entries .ensures));
+        };
         records-fit = length-take-le _ _ (omega (arith, c .before .before .before .before .before .blank-records .ensures, c .before .before .before .before .task-count .ensures)) ∙ c .before .before .before .before .task-count .ensures;
       },
     )

@@ -37,8 +37,8 @@ returns c =
     let p = e .before .before .before .before .before .before .pre in
     let k = checked _ _ _ (p .0) in
     let read = numbers-read _ _ _ k _ _ _ _ _ (p .1) (e .read-system .ensures) in (
-      c .before .before .write-result .ensures ∙ result-printed _ _ _ k _ _ _ _ read (d .run-alone .ensures .0) _ (search needs) (search needs),
-      result-short _ _ _ k _ _ _ _ read (d .run-alone .ensures .0) (search needs) (search needs),
+      c .before .before .write-result .ensures ∙ result-printed _ _ _ k _ _ _ _ _ read (d .run-alone .ensures .0) _ (search needs) (search needs),
+      result-short _ _ _ k _ _ _ _ _ read (d .run-alone .ensures .0) (search needs) (search needs),
     )
 
 pub print-worked-spec : {M : Type 1} → statement M

@@ -10,7 +10,7 @@ slice-relend-prefix-take : tie.Need-slice-relend-prefix-take
 slice-relend-prefix-take c = search needs
 
 slice-aggregate-take : tie.Need-slice-aggregate-take
-slice-aggregate-take c = sym (length-take-le (c .before .before .before .args .n) (c .before .before .before .args .records .now) (c .before .before .before .pre))
+slice-aggregate-take c = sym (length-take-le _ (c .before .before .before .args .records .now) (search needs))
 
 take-requires : tie.Need-take-requires
 take-requires c κs = search needs

@@ -18,7 +18,7 @@ spoiled-at-requires c κs = search needs
 fill-task-requires : tie.Need-fill-task-requires
 fill-task-requires c κs =
     let d = c .before .before .before .before .before .before .before .pre in
-    (d .sizes, d .workable .matrix-long, d .workable .lists-long, subst (λ (r : TaskRecord). Inside (c .before .before .before .before .before .before .before .args .z .tiles) r) (sym (c .before .before .before .before .record-at .ensures)) (d .inside))
+    (d .sizes, d .workable .lengths .matrix-fits, d .workable .lengths .lists-fit, subst (λ (r : TaskRecord). Inside (c .before .before .before .before .before .before .before .args .z .tiles) r) (sym (c .before .before .before .before .record-at .ensures)) (d .inside))
 
 same-length : tie.Need-same-length
 same-length c = search needs

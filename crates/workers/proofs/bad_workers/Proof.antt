@@ -2,12 +2,14 @@
 use Prim.Native.Nat.{_-_, _≤_}
 use mathlib.Core.Path.{_≡_, sym, _∙_}
 use native.Mathlib.Omega.{arith}
-use lib.ListN.{length, getD, take}
+use lib.ListN.{getD}
 use Rattle.model.specs.Refusal.{badWorker}
 use Rattle.worker.specs.Holding.{idle}
 use Rattle.model.specs.Plan.{planOf}
 use Rattle.model.specs.Lists.{run, some}
-use Rattle.laws.proofs.Searches.{some-begins, some-stops, some-goes-on, some-ends, some-places}
+use Rattle.laws.proofs.Searches.{some-begins, some-stops, some-goes-on, some-ends}
+use Rattle.records.specs.Records.{crew}
+use Rattle.records.proofs.Laws.{some-worker}
 use Rattle.checks.specs.Checks.{recordsAlone}
 use Rattle.workers.proofs.bad_workers.Statement.{statement}
 use Rattle.workers.proofs.bad_workers.Tie as tie
@@ -15,14 +17,13 @@ use Rattle.workers.proofs.bad_workers.Tie as tie
 abbrev Inv-loop : tie.InvT-loop
 Inv-loop z records workers w₀ w =
     (w ≤ z .workers)
-    × (some (λ x. badWorker (planOf z) (recordsAlone records) (getD workers x idle)) (run w (z .workers - w)) ≡ some (badWorker (planOf z) (recordsAlone records)) (take (z .workers) workers))
+    × (some (λ x. badWorker (planOf z) (recordsAlone records) (getD workers x idle)) (run w (z .workers - w)) ≡ some (badWorker (planOf z) (recordsAlone records)) (crew workers (z .workers)))
 
 abbrev μ-loop : tie.MeasureT-loop
 μ-loop z records workers w₀ w = z .workers - w
 
 loop-holds : tie.Need-loop-holds Inv-loop μ-loop
-loop-holds c = let e : length (c .args .t3) ≡ 32 = c .good .1 .1 .0 .1 .0 .1 in
-    (omega arith, some-begins _ _ ∙ sym (some-places (badWorker (planOf (c .args .z)) (recordsAlone (c .args .records .now))) (c .args .z .workers) (c .args .t3) idle (omega (arith, c .pre .0 .few-workers))))
+loop-holds c = (omega arith, some-begins _ _ ∙ sym (some-worker _ _ (badWorker (planOf (c .args .z)) (recordsAlone (c .args .records .now)))))
 
 mul-bad-worker : tie.Need-mul-bad-worker Inv-loop μ-loop
 mul-bad-worker c = omega (arith, c .before .before .before .pre .0 .few-workers)

@@ -1,8 +1,7 @@
 -- A refusal leaves everything; else the worker's column is done. Assumes nothing.
-use mathlib.Core.Path.{_≡_, refl}
+use mathlib.Core.Path.{refl}
 use borrow.Author.Needs.{needs}
 use borrow.Author.Tests.{not-true, not-false}
-use lib.ListN.{length}
 use Rattle.working.proofs.Laws.{refused, works-then, worked}
 use Rattle.working.proofs.column.Statement.{statement}
 use Rattle.working.proofs.column.Tie as tie
@@ -25,13 +24,12 @@ same-length-3 c = search needs
 returns : tie.Need-returns
 returns c =
     let d = c .before .before .before .before .before .before .before .before in
-    (refused (d .args .z) _ _ _ (d .args .workers) _ _ (c .before .before .column-answer .ensures) _ (c .before .accepted .ensures) (not-true _ (c .if1 .taken)), refl)
+    (refused (d .args .z) _ _ _ (d .args .workers .slots) (d .args .workers .count) _ _ (c .before .before .column-answer .ensures) _ (c .before .accepted .ensures) (not-true _ (c .if1 .taken)), record { same-count = refl; same-slots = refl })
 
 advance-worker-requires : tie.Need-advance-worker-requires
 advance-worker-requires c κs =
     let d = c .before .before .before .before .before .before .before .before .before .before .before in
-    let slots : length (d .args .workers) ≡ 32 = search needs in
-    works-then (d .args .z) _ _ _ (d .args .workers) _ _ (c .before .before .before .before .before .column-answer .ensures) _ (c .before .before .before .before .accepted .ensures) (not-false _ (c .before .before .before .if1 .left)) slots
+    works-then (d .args .z) _ _ _ (d .args .workers .slots) (d .args .workers .count) _ _ (c .before .before .before .before .before .column-answer .ensures) _ (c .before .before .before .before .accepted .ensures) (not-false _ (c .before .before .before .if1 .left))
 
 same-length-4 : tie.Need-same-length-4
 same-length-4 c = search needs
@@ -45,7 +43,7 @@ same-length-6 c = search needs
 returns-2 : tie.Need-returns-2
 returns-2 c =
     let d = c .before .before .before .before .before .before .before .before .before .before .before .before .before .before .before .before .before in
-    (worked (d .args .z) _ _ _ (d .args .workers) _ _ (c .before .before .before .before .before .before .before .before .before .before .before .column-answer .ensures) _ (c .before .before .before .before .before .before .before .before .before .before .accepted .ensures) (not-false _ (c .before .before .before .before .before .before .before .before .before .if1 .left)) _ (c .before .before .before .before .before .advance-worker .ensures .0), c .before .before .before .before .before .advance-worker .ensures .1)
+    (worked (d .args .z) _ _ _ (d .args .workers .slots) (d .args .workers .count) _ _ (c .before .before .before .before .before .before .before .before .before .before .before .column-answer .ensures) _ (c .before .before .before .before .before .before .before .before .before .before .accepted .ensures) (not-false _ (c .before .before .before .before .before .before .before .before .before .if1 .left)) _ (c .before .before .before .before .before .advance-worker .ensures .0), c .before .before .before .before .before .advance-worker .ensures .1)
 
 pub column-spec : {M : Type 1} → statement M
 column-spec =

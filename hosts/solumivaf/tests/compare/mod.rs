@@ -9,6 +9,7 @@ use reference::script::{Player, COLUMN, LEND, OPENING, OUTCOME, RUN, SOLVE, TAKE
 use reference::texts::all_texts;
 use reference::vectors::script;
 use reference::writer::Options;
+use reference::writings::{all_writings, Writing};
 use solumivaf::{Ending, Lent, Outcome, Record, Refusal, Run, Sizes, SLOTS};
 
 /// What the reference has lent, in the library's buffers.
@@ -23,6 +24,7 @@ pub fn lent_of(theirs: &reference::lent::Lent) -> Lent {
             mark: record.mark,
         });
     }
+    ours.workers.count = theirs.count as usize;
     for slot in 0..SLOTS {
         ours.workers.busy[slot] = theirs.workers[slot].busy;
         ours.workers.task[slot] = theirs.workers[slot].task;
@@ -170,7 +172,7 @@ fn calls_in(script: &str) -> usize {
 
 /// Plays the script of a seed.
 pub fn calls_of(seed: u64, calls: usize) -> usize {
-    calls_in(&script(Options { seed, calls, max_bytes: 1_600_000 }))
+    calls_in(&script(Options { seed, calls, max_bytes: 2_400_000 }))
 }
 
 /// Plays the single columns of a seed.
@@ -205,7 +207,7 @@ fn lengths(text: &[u8]) -> (usize, usize) {
 
 fn system_text(text: &[u8]) {
     let (length, _) = lengths(text);
-    for length in [length, length + 1] {
+    for length in [length, length + 1, length - 1, 0] {
         let (mut ours, mut theirs) = (vec![7.0; length], vec![7.0; length]);
         let answer = solumivaf::read_system(text, &mut ours);
         let expected = reference::read::read_system(text, &mut theirs);
@@ -218,11 +220,15 @@ fn system_text(text: &[u8]) {
         assert_eq!(bits(&ours), bits(&theirs), "matrix of {}", shown(text));
         if let Ok((tiles, side)) = answer {
             for room in [text.len() + 3, text.len(), text.len() - 1] {
-                let (mut written, mut other) = (vec![b'x'; room], vec![b'x'; room]);
-                let answer = solumivaf::write_system(tiles, side, &ours, &mut written);
-                let expected = reference::write::write_system(tiles as u64, side as u64, &theirs, &mut other);
-                assert_eq!(answer, expected.map_err(refusal_of), "writing {}", shown(text));
-                assert_eq!(written, other, "writing {}", shown(text));
+                same_writing(&Writing {
+                    tiles: tiles as u64,
+                    side: side as u64,
+                    matrix: ours.clone(),
+                    lists: Vec::new(),
+                    outcome: reference::solve::Outcome::Good,
+                    room,
+                    is_result: false,
+                });
             }
         }
     }
@@ -230,7 +236,9 @@ fn system_text(text: &[u8]) {
 
 fn result_text(text: &[u8]) {
     let (length, entries) = lengths(text);
-    for (length, entries) in [(length, entries), (length + 1, entries), (length, entries + 1)] {
+    for (length, entries) in
+        [(length, entries), (length + 1, entries), (length, entries + 1), (length - 1, entries), (length, 0)]
+    {
         let (mut ours, mut theirs) = (vec![7.0; length], vec![7.0; length]);
         let (mut lists, mut their_lists) = (vec![9; entries], vec![9; entries]);
         let answer = solumivaf::read_result(text, &mut ours, &mut lists);
@@ -242,22 +250,46 @@ fn result_text(text: &[u8]) {
         assert_eq!((bits(&ours), &lists), (bits(&theirs), &their_lists), "buffers of {}", shown(text));
         if let Ok((tiles, side, outcome)) = answer {
             for room in [text.len() + 3, text.len(), text.len() - 1] {
-                let (mut written, mut other) = (vec![b'x'; room], vec![b'x'; room]);
-                let answer = solumivaf::write_result(tiles, side, &ours, &lists, outcome, &mut written);
-                let (tiles, side) = (tiles as u64, side as u64);
-                let expected = reference::write::write_result(
-                    tiles,
-                    side,
-                    &theirs,
-                    &their_lists,
-                    their_outcome(outcome),
-                    &mut other,
-                );
-                assert_eq!(answer, expected.map_err(refusal_of), "writing {}", shown(text));
-                assert_eq!(written, other, "writing {}", shown(text));
+                same_writing(&Writing {
+                    tiles: tiles as u64,
+                    side: side as u64,
+                    matrix: ours.clone(),
+                    lists: lists.clone(),
+                    outcome: their_outcome(outcome),
+                    room,
+                    is_result: true,
+                });
             }
         }
     }
+}
+
+/// Makes every writing of a seed, refused ones too; tells how many there were.
+pub fn writings_of(seed: u64) -> usize {
+    let writings = all_writings(seed);
+    writings.iter().for_each(same_writing);
+    writings.len()
+}
+
+/// Both writers tell the same and leave the same in the lent text.
+fn same_writing(writing: &Writing) {
+    let Writing { matrix, lists, outcome, .. } = writing;
+    let (tiles, side) = (writing.tiles as usize, writing.side as usize);
+    let (mut ours, mut theirs) = (vec![b'x'; writing.room], vec![b'x'; writing.room]);
+    let (answer, expected) = if writing.is_result {
+        (
+            solumivaf::write_result(tiles, side, matrix, lists, outcome_of(*outcome), &mut ours),
+            reference::write::write_result(writing.tiles, writing.side, matrix, lists, *outcome, &mut theirs),
+        )
+    } else {
+        (
+            solumivaf::write_system(tiles, side, matrix, &mut ours),
+            reference::write::write_system(writing.tiles, writing.side, matrix, &mut theirs),
+        )
+    };
+    let lengths = (matrix.len(), lists.len(), writing.room);
+    assert_eq!(answer, expected.map_err(refusal_of), "writing {tiles} {side} {lengths:?}");
+    assert!(ours == theirs, "text of {tiles} {side} {lengths:?}: {}", shown(&ours));
 }
 
 fn shown(text: &[u8]) -> String {
