@@ -5,7 +5,7 @@ is followed from the old place to the same place of the new walk; names of place
 """
 import re
 
-from carry_walk import stem
+from carry_walk import same_need, stem
 
 TOKEN = re.compile(r"--[^\n]*|\s+|\"[^\"\n]*\"|[()\[\]{},;]|[^\s()\[\]{},;\"]+")
 SIGN = re.compile(r"(?:(?:unfoldable|abbrev|pub) )*([^\s:]+)(?: \{[^}]*\})? :(?:\s|$)")
@@ -437,17 +437,21 @@ class Carrier:
             need, given = self.new.needs[name], "".join(" " + x for x in self.all_takes())
             head, where, term = "%s : tie.Need-%s%s" % (said, name, given), need.at, "%s = %s" % (need.binds, need.answer)
             if need.answer == "?":
-                like = next((x for x in [self.answer_like(d, need) for d in self.file] if x), None)
+                others = [d for d in self.file if not d.dropped] + [d for d in self.file if d.dropped]
+                like = next((x for x in [self.answer_like(d, need) for d in others] if x), None)
                 term = like[1] if like else "%s = %s" % (need.binds, "search needs" if self.new.takes else "?")
         self.holes = self.holes or term.endswith("= ?")
-        answer = "as %s is" % like[0] if like else "by `%s`" % term[term.index(" = ") + 3:]
+        answer = "as %s" % like[0] if like else "by `%s`" % term[term.index(" = ") + 3:]
         self.notes.append("%s: new: %s (%s), answered %s" % (self.path, said, where, answer))
         return "%s\n%s%s %s\n\n" % (head, like[2] if like else "", said, term)
 
     def answer_like(self, d, need):
-        """Of the answer of a need of this sort: its name, its term at the new need's place, and what it unfolds. None if it reads another place."""
+        """Of the answer of a need of this sort: its name, its term at the new need's place, and what it unfolds. None if it reads another place. A
+        need that is asked no longer may have another variable in its name: its statement may have moved."""
         old = self.answers.get(d.name)
-        if old is None or stem(old) != stem(need.name) or len(d.clauses) != 2 or d.dropped or not d.line:
+        if old is None or len(d.clauses) != 2 or not d.line:
+            return None
+        if same_need(old, need.name) is None if d.dropped else stem(old) != stem(need.name):
             return None
         copy, before = Declaration(d.name, "".join(d.tokens), d.line), (self.moved, self.renamed, list(self.left))
         first, end = copy.clauses
@@ -459,7 +463,8 @@ class Carrier:
         self.moved, self.renamed, self.left = before
         unfolds = re.search(r"^unfolding .*\n", "".join(copy.tokens[:first]), re.M)
         term = "".join(copy.out[first + 1:copy.section()]).strip()
-        return (self.names.get(d.name, d.name), term, unfolds.group() if unfolds else "") if fine else None
+        said = d.name + " was" if d.dropped else self.names.get(d.name, d.name) + " is"
+        return (said, term, unfolds.group() if unfolds else "") if fine else None
 
     def needs_use(self):
         """The line that `search needs` wants, where an answer has it and the file does not."""

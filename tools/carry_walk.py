@@ -362,4 +362,19 @@ def pairs(old, new, old_files, new_files):
             else:
                 todo.append((x, y))
                 s, t = a.first[x] - p, b.first[y] - q
+    add_moved(old, new, found["place"])
     return found["place"], found["need"]
+
+
+def add_moved(old, new, places):
+    """Adds the places that a statement took along to where it stands now: where one place alone is gone and one alone is new that bind the same."""
+    gone = [p for p in old.places.values() if p.name not in places and p.what != "-"]
+    fresh = [q for q in new.places.values() if q.name not in places.values()]
+    for p in gone:
+        later = [q for q in fresh if moved(p, q)]
+        if len(later) == 1 and not any(moved(other, later[0]) for other in gone if other is not p):
+            places[p.name] = later[0].name
+
+
+def moved(p, q):
+    return stem(p.name) == stem(q.name) and stem(p.own) == stem(q.own) and p.what == q.what

@@ -1,4 +1,5 @@
-"""Tests of tools/carry: proofs carried over a statement, a call and a branch that were added to three functions, and each form of a chain.
+"""Tests of tools/carry: proofs carried over a statement, a call and a branch that were added to three functions, over an expression that moved to a
+statement of its own, and each form of a chain.
 
 A case of carry_cases/ has the walks of the old and the new code, the proof, and what carrying it gives, which rt proved as it stands.
 """
@@ -97,11 +98,17 @@ class Cases(unittest.TestCase):
         return one
 
     def test_all_are_tested(self):
-        self.assertEqual(sorted(os.listdir(os.path.join(ROOT, "tools", "carry_cases"))), ["branch.txt", "call.txt", "statement.txt"])
+        self.assertEqual(sorted(os.listdir(os.path.join(ROOT, "tools", "carry_cases"))), ["branch.txt", "call.txt", "moved.txt", "statement.txt"])
 
     def test_statement(self):
         one = self.case("statement")
         self.assertEqual((one.notes, one.holes), ([], False))
+
+    def test_moved(self):
+        one = self.case("moved")
+        self.assertEqual([note.split(": ", 1)[1].split(" (")[0] for note in one.notes], ["mul-fill-numbers is asked no longer: taken out", "new: mul-size"])
+        self.assertTrue(one.notes[1].endswith("answered as mul-fill-numbers was"))
+        self.assertFalse(one.holes)
 
     def test_call(self):
         one = self.case("call")
@@ -198,6 +205,17 @@ class Pairs(unittest.TestCase):
         walks, files = carry_walk.read("file src/lib.rt\n|a\n|\n|b\n" + OLD)
         self.assertEqual(files, {"src/lib.rt": "a\n\nb"})
         self.assertEqual(carry_walk.written(walks, files), "file src/lib.rt\n|a\n|\n|b\n" + OLD)
+
+    def test_moved(self):
+        known = "place After-known %s known e -\n"
+        before, after = "place After-sum After-slice-known", "place Joined1 After-sum if1"
+        early = OLD.replace(before, known % "After-slice-known" + "place After-sum After-known")
+        late = OLD.replace(after, known % "After-sum" + "place Joined1 After-known if1")
+        for one, two in (early, late), (late, early):
+            self.assertEqual(carry_walk.pairs(walk(one), walk(two), OLD_FILE, OLD_FILE)[0], {name: name for name in walk(one).places})
+        twice = late.replace("place Joined1 After-known", "place After-known2 After-known known2 e -\nplace Joined1 After-known2")
+        for other in twice, late.replace("known e", "known f"):
+            self.assertNotIn("After-known", carry_walk.pairs(walk(early), walk(other), OLD_FILE, OLD_FILE)[0])
 
     def test_another_name(self):
         places, needs = carry_walk.pairs(walk(OLD), walk(OLD.replace("loop", "turns").replace("add-i", "add-j")), OLD_FILE, OLD_FILE)

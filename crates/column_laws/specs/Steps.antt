@@ -1,5 +1,5 @@
 -- What one column does to blocks of a flat slice, each block given by where it starts: what the columns' inner functions promise.
--- The multipliers l are handed over apart, so that a right side in a slice of its own is worked like a tile. Assumes nothing.
+-- The multiplier of row r is l r, wherever it stands, so that a right side in a slice of its own is worked like a tile. Assumes nothing.
 use Prim.Native.Nat.{ℕ, _+_, _*_}
 use mathlib.Core.Path.{_≡_}
 use mathlib.Core.Bool.{Bool, true, cond}

@@ -4,6 +4,7 @@ ghost use mathlib.Core.Bool.{true};
 ghost use Prim.Native.Nat.{_*_, _≤_};
 ghost use lib.ListN.{length};
 ghost use lib.Ieee.{binary64, ofBits};
+ghost use Rattle.model.specs.Limits.{mostTiles, mostSide};
 ghost use Rattle.model.specs.Num.{finite};
 ghost use Rattle.model.specs.Read.{isDigit, digitValue, field};
 ghost use Rattle.digits_read.specs.Digits.{FieldOfDigits};
@@ -84,7 +85,7 @@ fn load_tile(line: &[u8], tile: &mut [f64])
 pub fn load_tiles(text: &[u8], at: usize, s: usize, count: usize, matrix: &mut [f64])
     requires { ⌜ TileLines s count at (now text) ⌝ }
     requires { ⌜ length (now matrix) ≡ count * s ⌝ }
-    requires { ⌜ (s ≤ 256) × (count ≤ 256) ⌝ }
+    requires { ⌜ (s ≤ mostSide * mostSide) × (count ≤ mostTiles * mostTiles) ⌝ }
     ensures { λ r. ⌜ now (matrix .exit) ≡ tilesFrom s count at (now (text .entry)) ⌝ }
 {
     let size = 7 + 16 * s;
