@@ -1,4 +1,5 @@
-/* The calls of the library, for C and C++. Link target/staticlib/libsolumivaf.a, which hosts/build writes (x86-64 Linux).
+/* The calls of the library, for C and C++. Link target/staticlib/libsolumivaf.a, or libsolumivaf.so beside it: hosts/build writes both (x86-64
+ * Linux). hosts/c/return.c is a host to look at.
  *
  * Sizes: a system has N = `tiles` tiles a side, 1 to 16, each with t = `side` numbers a side, 1 to 16, and W = `workers` workers, 1 to 32.
  * Workers, tasks, rows, columns and offsets count from 0.
@@ -8,14 +9,21 @@
  *   lists     N^2 * t bytes: a row list of t entries for each tile, in the same order
  *   records   N * (N + 1) * (2 * N + 1) / 6, one for each task
  *   busy, task, column   SOLUMIVAF_SLOTS each: slot v says whether worker v is busy, its task and its next column. The first `count` are the
- *             workers lent, and W is their number; the others are not looked at and stay as they are. A bool is one byte, 0 or 1, and no
- *             other value
+ *             workers lent, and W is their number; the others are not looked at and stay as they are. A byte of `busy` is 0 for an idle
+ *             worker, and any other byte is busy. A call leaves 0 for an idle worker, and for a busy one the byte that it had, or 1 where that was 0
  *   right, answers       N * t numbers each
  *   text      of a system to write: 7 + N^2 * (7 + 16 * t^2) bytes or more. Of a result: that, N * (N + 1) / 2 * (7 + 2 * t) and 9 more
- * A pointer and the length after it are one slice. A length that differs from the one stated, or a count that differs from W, is refusal 2.
+ * A pointer and the length after it are one slice. A length that differs from the one stated, or a count that differs from W, is refusal 2. The
+ * macros below, SOLUMIVAF_MATRIX_LENGTH and so on, compute these lengths.
  *
  * Pointers are never null and are aligned for their type, also where a length is 0. What a call writes through one pointer may not be reached
- * through another of its pointers, and during the call by no other thread. A function keeps no pointer and allocates nothing.
+ * through another of its pointers, and during the call by no other thread. A function keeps no pointer and allocates nothing. So threads that
+ * share what is lent share one lock as well, and each holds it during a call.
+ *
+ * Arithmetic: every thread that calls is in IEEE 754's default mode: it rounds to nearest, ties to even, and keeps subnormal numbers, as operands
+ * and as results. The library computes in the calling thread's mode and does not test it: in another mode it gets other bits and refuses nothing.
+ * fesetround sets another mode, and so do -ffast-math, -Ofast and -funsafe-math-optimizations where a program or a shared library is linked with
+ * them. A thread starts in the mode of the one that starts it. solumivaf_arithmetic() tests the mode in some nanoseconds: ask it before a call.
  *
  * A refusal changes nothing, and has a number and a place:
  *    1  tiles, side or workers is out of range. In a file: on line 1, with that line as the place
@@ -38,19 +46,71 @@
 #ifndef SOLUMIVAF_H
 #define SOLUMIVAF_H
 
-#include <stdbool.h>
 #include <stddef.h>
 #include <stdint.h>
+#include <string.h>
 
 #ifdef __cplusplus
 extern "C" {
 #endif
 
 /* The version of this interface: another one where a function or a struct that crosses has changed. */
-#define SOLUMIVAF_VERSION 2
+#define SOLUMIVAF_VERSION 3
 
-/* The most workers, and the number of worker slots. */
+/* Limits: the most tiles a side, numbers a side of a tile, and tasks; the most workers, which is the number of worker slots. */
+#define SOLUMIVAF_MOST_TILES 16
+#define SOLUMIVAF_MOST_SIDE 16
+#define SOLUMIVAF_MOST_TASKS 1496
 #define SOLUMIVAF_SLOTS 32
+
+/* The lengths listed above, by N and t in range. An argument is computed more than once. */
+#define SOLUMIVAF_RIGHT_LENGTH(tiles, side) ((size_t)(tiles) * (size_t)(side))
+#define SOLUMIVAF_MATRIX_LENGTH(tiles, side) (SOLUMIVAF_RIGHT_LENGTH(tiles, side) * SOLUMIVAF_RIGHT_LENGTH(tiles, side))
+#define SOLUMIVAF_LISTS_LENGTH(tiles, side) ((size_t)(tiles) * SOLUMIVAF_RIGHT_LENGTH(tiles, side))
+#define SOLUMIVAF_RECORDS_LENGTH(tiles) ((size_t)(tiles) * ((size_t)(tiles) + 1) * (2 * (size_t)(tiles) + 1) / 6)
+#define SOLUMIVAF_SYSTEM_LENGTH(tiles, side) (7 + (size_t)(tiles) * (size_t)(tiles) * (7 + 16 * (size_t)(side) * (size_t)(side)))
+#define SOLUMIVAF_RESULT_LENGTH(tiles, side) \
+    (SOLUMIVAF_SYSTEM_LENGTH(tiles, side) + (size_t)(tiles) * ((size_t)(tiles) + 1) / 2 * (7 + 2 * (size_t)(side)) + 9)
+
+/* The refusals, as listed above. */
+enum {
+    SOLUMIVAF_REFUSED_SIZES = 1,
+    SOLUMIVAF_REFUSED_LENGTH = 2,
+    SOLUMIVAF_REFUSED_NOT_FINITE = 3,
+    SOLUMIVAF_REFUSED_DAMAGED = 4,
+    SOLUMIVAF_REFUSED_WORKER = 5,
+    SOLUMIVAF_REFUSED_NO_TASK = 6,
+    SOLUMIVAF_REFUSED_NOT_READY = 7,
+    SOLUMIVAF_REFUSED_TOO_EARLY = 8,
+    SOLUMIVAF_REFUSED_OVERFLOW = 9,
+    SOLUMIVAF_REFUSED_SINGULAR = 10,
+    SOLUMIVAF_REFUSED_SOLVING = 11,
+    SOLUMIVAF_REFUSED_MALFORMED = 12,
+    SOLUMIVAF_REFUSED_OUT_OF_ORDER = 13,
+    SOLUMIVAF_REFUSED_END = 14,
+    SOLUMIVAF_REFUSED_SHORT_TEXT = 15
+};
+
+/* The kinds of tasks: T-1 to T-4. */
+enum { SOLUMIVAF_TASK_FACTOR = 1, SOLUMIVAF_TASK_APPLY = 2, SOLUMIVAF_TASK_COUPLE = 3, SOLUMIVAF_TASK_PAIR = 4 };
+
+/* The marks of a task. From SOLUMIVAF_MARK_DONE on it is finished. */
+enum {
+    SOLUMIVAF_MARK_WAITING = 0,
+    SOLUMIVAF_MARK_TAKEN = 1,
+    SOLUMIVAF_MARK_DONE = 2,
+    SOLUMIVAF_MARK_FAILED = 3,
+    SOLUMIVAF_MARK_SPOILED = 4
+};
+
+/* How a run ended, and the outcomes. */
+enum { SOLUMIVAF_RUN_FINISHED = 1, SOLUMIVAF_RUN_SPENT = 2 };
+enum {
+    SOLUMIVAF_OUTCOME_GOOD = 0,
+    SOLUMIVAF_OUTCOME_OVERFLOW = 1,
+    SOLUMIVAF_OUTCOME_SINGULAR = 2,
+    SOLUMIVAF_OUTCOME_UNFINISHED = 3
+};
 
 /* A task: its kind (1 to 4 for T-1 to T-4), k, i and j, 0 where the kind has none, and its mark:
  * 0 waits, 1 is taken, 2 done, 3 failed, 4 spoiled. */
@@ -83,38 +143,71 @@ typedef struct {
     uint8_t kind;
 } solumivaf_read;
 
+/* Whether a sum or a product has the bits that are due. The operands are volatile, so that it is computed when it is asked; bits are compared, since
+ * a comparison of numbers can take a subnormal number for zero. */
+static inline int solumivaf_computes(uint64_t left, char operation, uint64_t right, uint64_t due) {
+    double x, y;
+    memcpy(&x, &left, sizeof x);
+    memcpy(&y, &right, sizeof y);
+    volatile double a = x, b = y;
+    volatile double c = operation == '+' ? a + b : a * b;
+    x = c;
+    memcpy(&left, &x, sizeof x);
+    return left == due;
+}
+
+/* Nonzero where the calling thread is in IEEE 754's default mode. */
+static inline int solumivaf_arithmetic(void) {
+    const uint64_t one = UINT64_C(0x3FF0000000000000), minus_one = UINT64_C(0xBFF0000000000000);
+    const uint64_t tie = UINT64_C(0x3CA0000000000000); /* 2^-53, half of the last place of 1 */
+    return solumivaf_computes(one, '+', UINT64_C(0x3C30000000000000), one)                /* 1 + 2^-60: not up */
+        && solumivaf_computes(minus_one, '+', UINT64_C(0xBC30000000000000), minus_one)    /* -1 - 2^-60: not down */
+        && solumivaf_computes(one, '+', UINT64_C(0x3CA0200000000000), one + 1)            /* 1 + (2^-53 + 2^-60): not toward zero */
+        && solumivaf_computes(one, '+', tie, one)                                         /* ties to even, below */
+        && solumivaf_computes(one + 1, '+', tie, one + 2)                                 /* and above */
+        && solumivaf_computes(UINT64_C(0x0010000000000000), '*', UINT64_C(0x3FE0000000000000), UINT64_C(0x0008000000000000)) /* 2^-1022 / 2 */
+        && solumivaf_computes(1, '*', UINT64_C(0x7E70000000000000), UINT64_C(0x3B50000000000000)); /* 2^-1074 * 2^1000 */
+}
+
+/* The SOLUMIVAF_VERSION of the header that the library was built for. A host compares it with its own before any other call. */
+size_t solumivaf_version(void);
+
 /* Starts the work on a matrix, which it reads and leaves as it is. Sets the lists to 0, the records to the tasks in order, all waiting, and the
  * workers to idle; what these held before does not matter. */
 solumivaf_told solumivaf_open(size_t tiles, size_t side, size_t workers, const double *matrix, size_t matrix_length, uint8_t *lists,
-                              size_t lists_length, solumivaf_record *records, size_t records_length, bool *busy, uint16_t *task,
+                              size_t lists_length, solumivaf_record *records, size_t records_length, uint8_t *busy, uint16_t *task,
                               uint8_t *column, size_t count);
 
 /* Worker w takes task p. Writes the task's mark and the worker's slot. */
 solumivaf_told solumivaf_take(size_t tiles, size_t side, size_t workers, const double *matrix, size_t matrix_length, const uint8_t *lists,
-                              size_t lists_length, solumivaf_record *records, size_t records_length, bool *busy, uint16_t *task,
+                              size_t lists_length, solumivaf_record *records, size_t records_length, uint8_t *busy, uint16_t *task,
                               uint8_t *column, size_t count, size_t w, size_t p);
 
 /* Worker w does the next column of its task. Writes tiles and a list of that task and the worker's slot, and where the task ends its mark. */
 solumivaf_told solumivaf_column(size_t tiles, size_t side, size_t workers, double *matrix, size_t matrix_length, uint8_t *lists,
-                                size_t lists_length, solumivaf_record *records, size_t records_length, bool *busy, uint16_t *task,
+                                size_t lists_length, solumivaf_record *records, size_t records_length, uint8_t *busy, uint16_t *task,
                                 uint8_t *column, size_t count, size_t w);
 
 /* Takes and columns, worker after worker from 0 on, until all tasks are finished or `budget` calls are made. Any budget is allowed: UINT64_MAX
  * runs to the end. Writes what these calls write. */
 solumivaf_told solumivaf_run(size_t tiles, size_t side, size_t workers, double *matrix, size_t matrix_length, uint8_t *lists,
-                             size_t lists_length, solumivaf_record *records, size_t records_length, bool *busy, uint16_t *task,
+                             size_t lists_length, solumivaf_record *records, size_t records_length, uint8_t *busy, uint16_t *task,
                              uint8_t *column, size_t count, uint64_t budget);
 
 /* The outcome by the marks and the diagonal, or the lowest unfinished task. Writes nothing. */
 solumivaf_told solumivaf_outcome(size_t tiles, size_t side, size_t workers, const double *matrix, size_t matrix_length,
                                  const uint8_t *lists, size_t lists_length, const solumivaf_record *records, size_t records_length,
-                                 const bool *busy, const uint16_t *task, const uint8_t *column, size_t count);
+                                 const uint8_t *busy, const uint16_t *task, const uint8_t *column, size_t count);
 
 /* Solves a factored system for one right side. Writes only the answers, and these only where nothing is refused. */
 solumivaf_told solumivaf_solve(size_t tiles, size_t side, size_t workers, const double *matrix, size_t matrix_length, const uint8_t *lists,
-                               size_t lists_length, const solumivaf_record *records, size_t records_length, const bool *busy,
+                               size_t lists_length, const solumivaf_record *records, size_t records_length, const uint8_t *busy,
                                const uint16_t *task, const uint8_t *column, size_t count, const double *right, size_t right_length,
                                double *answers, size_t answers_length);
+
+/* Tells N and t by line 1 of a text, of a system or of a result alike, so that a host knows what to lend to a reading. Looks at nothing after line 1
+ * and writes nothing. Refusals are those that a reading has for line 1. */
+solumivaf_read solumivaf_read_sizes(const uint8_t *text, size_t text_length);
 
 /* Reads a system file. Writes the matrix, which has the length that the text's first line calls for. */
 solumivaf_read solumivaf_read_system(const uint8_t *text, size_t text_length, double *matrix, size_t matrix_length);

@@ -29,7 +29,8 @@ def exported(crate):
 
 def declared_in_c(text):
     for told, name, listed in re.findall(r"^(\w+) (solumivaf_\w+)\(([^)]*)\);", text, re.M):
-        found = [re.fullmatch(r"(const )?(\w+) (\*?)(\w+)", " ".join(part.split())).groups() for part in parameters(listed)]
+        passed = [] if listed == "void" else parameters(listed)
+        found = [re.fullmatch(r"(const )?(\w+) (\*?)(\w+)", " ".join(part.split())).groups() for part in passed]
         yield name, [(own, ("*const " if const else "*mut " if star else "") + C.get(kind, kind)) for const, kind, star, own in found], C[told]
 
 
@@ -51,13 +52,15 @@ class Hosts(unittest.TestCase):
     def test_library(self):
         crates = re.search(r"^crates=\(([^)]*)\)", text_of("hosts", "build"), re.M).group(1).split()
         library = exports(*crates)
-        self.assertEqual(len(library), 10)
+        self.assertEqual(len(library), 12)
         self.assertEqual(list(declared_in_c(text_of("hosts", "solumivaf.h"))), library)
         self.assertEqual(list(declared_in_rust(text_of("hosts", "solumivaf", "src", "raw.rs"))), library)
 
     def test_version(self):
         header = re.search(r"^#define SOLUMIVAF_VERSION (\d+)$", text_of("hosts", "solumivaf.h"), re.M).group(1)
         self.assertIn("pub const VERSION: u32 = %s;" % header, text_of("hosts", "solumivaf", "src", "lib.rs"))
+        self.assertIn("\nVERSION = %s\n" % header, text_of("hosts", "python", "solumivaf.py"))
+        self.assertIn("const VERSION: usize = %s;" % header, text_of("crates", "host_start", "src", "lib.rt"))
 
     def test_structs(self):
         rattle = text_of("crates", "host_answers", "src", "lib.rt") + text_of("crates", "model", "src", "lib.rt")

@@ -346,7 +346,7 @@ fn single_calls(table: &mut Table, tiles: usize, t: usize, rounds: usize) {
     factorize(&s, 1, (p * (t + 1)) as u64, &mut start);
     let mut taken = start.clone();
     taken.to.records[p].mark = loops::TAKEN;
-    taken.to.workers.busy[0] = true;
+    taken.to.workers.busy[0] = 1;
     taken.to.workers.task[0] = p as u16;
     for workers in [1, 32] {
         let times = compare(rounds, 1, &start, versions!(plain_take, |x| &s, workers, p, x), |x| rattle_take(&s, workers, p, x));

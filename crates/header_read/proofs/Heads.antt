@@ -14,12 +14,14 @@ use Rattle.model.specs.declared.Answer.{Answer}
 use Rattle.model.specs.declared.Answer.the-variants.{Accepted, Refused}
 use Rattle.model.specs.Refusal.{refuse}
 use Rattle.model.specs.Text.{badShape}
-use Rattle.model.specs.Read.{Frame, kindIn, tilesIn, sideIn, lineLength, linesFrom, lastLine, notDigits, badLine, linesAnswer, fileAnswer}
+use Rattle.model.specs.declared.ReadAnswer.the-variants.{SystemRead, ReadRefused}
+use Rattle.model.specs.Read.{Frame, kindIn, tilesIn, sideIn, lineLength, linesFrom, lastLine, notDigits, badLine, linesAnswer, fileAnswer, systemReading, noLimit}
 use Rattle.digits_read.specs.Digits.{FieldOfDigits}
 use Rattle.lines_read.specs.Line.{malformed}
 use Rattle.lines_read.proofs.Tested.{line-of-digits, field-in, well-formed, as-malformed}
+use Rattle.header_read.specs.declared.Header.{Header}
 use Rattle.header_read.specs.declared.Header.the-variants.{Shape, Unread}
-use Rattle.header_read.specs.Heads.{headerLine, headerAnswer, headerOf}
+use Rattle.header_read.specs.Heads.{headerLine, headerAnswer, shaped, headerOf, sizesIn, sizesTold, Foretells}
 use Rattle.frames_read.proofs.Lines.{First, none, bad, good, first}
 use Rattle.frames_read.proofs.Followed.{passed, bad-line, refuse-passed}
 
@@ -122,3 +124,78 @@ module _ (limit : ℕ) (frames : ℕ → List Frame) (lengths : ℕ → ℕ → 
       go (good h q e) =
           ap (fileAnswer limit frames lengths) e ∙ file-of (take 7 text) (linesFrom [] (drop 7 text))
           ∙ own-passed (badLine 0 1 (take 7 text)) (take 7 text) r ∙ sym (ap (λ (a : Answer). passed a r) (head-good text h))
+
+-- ---- line 1 by itself
+
+abbrev noneDue : ℕ → List Frame
+noneDue N = []
+
+abbrev anyLength : ℕ → ℕ → Bool
+anyLength N t = false
+
+abbrev lineAlone : List (List ℕ) → Answer
+lineAlone ls = fileAnswer noLimit noneDue anyLength (take 1 ls)
+
+-- where ls are the lines of the text, what line 1 tells is what the header answers
+abbrev Alone : List ℕ → List (List ℕ) → Type 0
+Alone text ls = systemReading (lineAlone ls) (take 1 ls) [] .answer ≡ sizesTold (headerOf noLimit text)
+
+alone-none : Alone [] (linesFrom [] [])
+unfolding fileAnswer linesFrom lastLine headerOf headerAnswer refuse systemReading
+alone-none = refl
+
+alone-bad : (text : List ℕ) (ls : List (List ℕ)) → lineAlone ls ≡ Refused 12 1 → headerAnswer noLimit text ≡ Refused 12 1 → Alone text ls
+unfolding headerOf systemReading
+alone-bad text ls p q = rw (p, q)
+
+alone-told : (a : Answer) (h : List ℕ) → systemReading a (h ∷ []) [] .answer ≡ sizesTold (shaped a h)
+unfolding systemReading
+alone-told Accepted h = refl
+alone-told (Refused n x) h = refl
+
+nothing-behind : (h : List ℕ) → behindHeader noLimit noneDue anyLength h [] ≡ Accepted
+unfolding linesAnswer refuse
+nothing-behind h = refl
+
+module _ (text : List ℕ) where
+  alone-good : (ls : List (List ℕ)) → 7 ≤ length text → Alone text (headerLine text ∷ ls)
+  unfolding headerOf
+  alone-good ls h =
+      let l = headerLine text in
+      let e : lineAlone (l ∷ ls) ≡ headerAnswer noLimit text =
+      file-of noLimit noneDue anyLength l [] ∙ ap (ownAnswer noLimit noneDue anyLength (badLine 0 1 l) l) (nothing-behind l) ∙ sym (head-good noLimit noneDue anyLength text h) in
+      ap (λ (a : Answer). systemReading a (l ∷ []) [] .answer) e ∙ alone-told (headerAnswer noLimit text) l
+
+  alone : First 7 text → Alone text (linesFrom [] text)
+  unfolding lineLength
+  alone (none e) = subst (λ (ys : List ℕ). Alone ys (linesFrom [] ys)) (sym e) alone-none
+  alone (bad l ls h e b n) =
+      alone-bad text (linesFrom [] text)
+      (ap lineAlone e ∙ file-of noLimit noneDue anyLength l [] ∙ bad-first noLimit noneDue anyLength l (behindHeader noLimit noneDue anyLength l []) (bad-line 0 1 l b))
+      (head-bad noLimit noneDue anyLength text h n)
+  alone (good h q e) = subst (Alone text) (sym e) (alone-good (linesFrom [] (drop 7 text)) h)
+
+  pub sizes-alone : (r : Header) → r ≡ headerOf noLimit text → sizesTold r ≡ sizesIn text
+  unfolding sizesIn
+  sizes-alone r e = ap sizesTold e ∙ sym (alone (first 7 text (omega arith)))
+
+  -- what it says of every reading
+  module _ (frames : ℕ → List Frame) (lengths : ℕ → ℕ → Bool) where
+    abbrev behind : Answer
+    behind = behindHeader noLimit frames lengths (headerLine text) (linesFrom [] (drop 7 text))
+
+    told-refused : (a : Answer) (n x : ℕ) → sizesTold (shaped a (headerLine text)) ≡ ReadRefused n x → passed a behind ≡ Refused n x
+    told-refused Accepted n x e = let z : _≡_ {A = ℕ} 0 1 = cc in absurd (omega arith)
+    told-refused (Refused m y) n x e = cc
+
+    told-sized : (a : Answer) (N t : ℕ) → sizesTold (shaped a (headerLine text)) ≡ SystemRead N t
+        → passed a behind ≡ refuse 2 0 (lengths N t) (linesAnswer t 2 (frames N) (linesFrom [] (drop 7 text)))
+    told-sized Accepted N t e = let p : tilesIn (headerLine text) ≡ N = cc in let q : sideIn (headerLine text) ≡ t = cc in rw (p, q)
+    told-sized (Refused m y) N t e = let z : _≡_ {A = ℕ} 0 1 = cc in absurd (omega arith)
+
+  pub foretold : (r : Header) → r ≡ headerOf noLimit text → Foretells text (sizesTold r)
+  unfolding headerOf
+  foretold r e = record {
+    refused = λ n x q frames lengths. file-headed noLimit frames lengths text ∙ told-refused frames lengths (headerAnswer noLimit text) n x (sym (ap sizesTold e) ∙ q);
+    sized = λ N t q frames lengths. file-headed noLimit frames lengths text ∙ told-sized frames lengths (headerAnswer noLimit text) N t (sym (ap sizesTold e) ∙ q);
+  }

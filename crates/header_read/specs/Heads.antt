@@ -1,14 +1,17 @@
 -- What the header answers, by the seven bytes that it has. Assumes nothing.
 use Prim.Native.Nat.{ℕ, _*_}
-use mathlib.Core.Bool.{not, _||_}
-use mathlib.Core.List.{List}
+use mathlib.Core.Path.{_≡_}
+use mathlib.Core.Bool.{Bool, false, not, _||_}
+use mathlib.Core.List.{List, []}
 use lib.Dec.{eqb, ltb}
-use lib.ListN.{length, take}
+use lib.ListN.{length, take, drop}
 use Rattle.model.specs.declared.Answer.{Answer}
 use Rattle.model.specs.declared.Answer.the-variants.{Accepted, Refused}
 use Rattle.model.specs.Refusal.{refuse, _otherwise_}
 use Rattle.model.specs.Text.{badShape}
-use Rattle.model.specs.Read.{kindIn, tilesIn, sideIn}
+use Rattle.model.specs.declared.ReadAnswer.{ReadAnswer}
+use Rattle.model.specs.declared.ReadAnswer.the-variants.{SystemRead, ReadRefused}
+use Rattle.model.specs.Read.{Frame, kindIn, tilesIn, sideIn, linesFrom, linesAnswer, fileAnswer, systemReading, noLimit}
 use Rattle.lines_read.specs.Line.{malformed}
 use Rattle.header_read.specs.declared.Header.{Header}
 use Rattle.header_read.specs.declared.Header.the-variants.{Shape, Unread}
@@ -36,3 +39,19 @@ shaped (Refused n x) h = Unread n x
 -- what line 1 of a text tells
 unfoldable pub headerOf : ℕ → List ℕ → Header
 headerOf limit text = shaped (headerAnswer limit text) (headerLine text)
+
+-- what line 1 tells by itself: a text that ends with it, where no frame is due after it
+unfoldable pub sizesIn : List ℕ → ReadAnswer
+sizesIn text = let ls = take 1 (linesFrom [] text) in systemReading (fileAnswer noLimit (λ N. []) (λ N t. false) ls) ls [] .answer
+
+-- the same answer as a header has it
+abbrev pub sizesTold : Header → ReadAnswer
+sizesTold (Shape N t) = SystemRead N t
+sizesTold (Unread n x) = ReadRefused n x
+
+-- What line 1 told as r says of every reading of the text, whatever frames are due and lengths are lent: where it is refused, the reading is
+-- refused alike; else lengths are judged by the N and t told, and then the lines after it
+pub record Foretells (text : List ℕ) (r : ReadAnswer) : Type 0 where
+  pub refused : (n x : ℕ) → r ≡ ReadRefused n x → (frames : ℕ → List Frame) (lengths : ℕ → ℕ → Bool) → fileAnswer noLimit frames lengths (linesFrom [] text) ≡ Refused n x
+  pub sized : (N t : ℕ) → r ≡ SystemRead N t → (frames : ℕ → List Frame) (lengths : ℕ → ℕ → Bool)
+      → fileAnswer noLimit frames lengths (linesFrom [] text) ≡ refuse 2 0 (lengths N t) (linesAnswer t 2 (frames N) (linesFrom [] (drop 7 text)))

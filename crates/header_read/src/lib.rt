@@ -4,9 +4,11 @@ ghost use mathlib.Core.Bool.{_||_};
 ghost use Prim.Native.Nat.{_*_};
 ghost use lib.Dec.{ltb};
 ghost use Rattle.model.specs.Text.{badShape};
-ghost use Rattle.header_read.specs.Heads.{headerOf};
+ghost use Rattle.header_read.specs.Heads.{headerOf, sizesIn, Foretells};
 use digits_read::field_at;
 use lines_read::is_malformed;
+use model::MOST_ORDER;
+use model::ReadAnswer;
 use shapes::bad_shape;
 
 // N and t of an accepted header, or a refusal's number and place.
@@ -48,4 +50,15 @@ pub fn check_header(text: &[u8], limit: usize) -> Header
         return Header::Unread(1, 1);
     }
     Header::Shape(tiles, side)
+}
+
+// N and t by line 1 of a system or of a result, whatever comes after it.
+pub fn read_sizes(text: &[u8]) -> ReadAnswer
+    ensures { λ r. ⌜ r ≡ sizesIn (now (text .entry)) ⌝ }
+    ensures { λ r. ⌜ Foretells (now (text .entry)) r ⌝ }
+{
+    match check_header(text, MOST_ORDER) {
+        Header::Shape(tiles, side) => ReadAnswer::SystemRead(tiles, side),
+        Header::Unread(n, x) => ReadAnswer::ReadRefused(n, x),
+    }
 }

@@ -19,6 +19,10 @@ use Rattle.model.specs.Refusal.{answerNumber, answerPlace}
 use Rattle.host_answers.specs.declared.Told.{Told}
 use Rattle.host_answers.specs.declared.ReadTold.{ReadTold}
 
+-- the version of the calls for hosts: another one where a function or a struct that crosses has changed
+abbrev pub interfaceVersion : ℕ
+interfaceVersion = 3
+
 -- a refusal's number and place, both 0 where there is none
 abbrev pub told : Answer → Told
 told a = record { place = answerPlace a; count = 0; number = answerNumber a; kind = 0 }

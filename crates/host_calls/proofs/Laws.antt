@@ -15,40 +15,44 @@ use Rattle.model.specs.Solve.{Answers}
 use Rattle.records.specs.Records.{allLent, OthersKept}
 use Rattle.host_answers.specs.declared.Told.{Told}
 use Rattle.host_answers.specs.Answers.{told, runTold}
-use Rattle.host_calls.specs.Hosted.{Hosted, Called, Ran, Solved}
+use Rattle.host_workers.specs.Workers.{bytesLeft}
+use Rattle.host_calls.specs.Hosted.{Hosted, Kept, Called, Ran, Solved}
 
 -- given and left are the workers in the arrays before and after; those by value are the same
-module _ (m m′ : List Float) (l l′ : List ℕ) (r r′ : List (List ℕ)) (given : Workers) (left : List Worker) (gathered : Workers) (g : gathered ≡ given) (t : Told) where
+module _ (m m′ : List Float) (l l′ : List ℕ) (r r′ : List (List ℕ)) (b b′ : List ℕ) (given : Workers) (left : List Worker) (gathered : Workers) (g : gathered ≡ given) (t : Told) where
   abbrev before : Hosted
-  before = record { matrix = m; lists = l; records = r; workers = given }
+  before = record { matrix = m; lists = l; records = r; busy = b; workers = given }
 
   abbrev after : Hosted
-  after = record { matrix = m′; lists = l′; records = r′; workers = record { slots = left; count = given .count } }
+  after = record { matrix = m′; lists = l′; records = r′; busy = b′; workers = record { slots = left; count = given .count } }
 
-  module _ (ws : Workers) (k : OthersKept gathered ws) (s : left ≡ ws .slots) where
+  module _ (ws : Workers) (k : OthersKept gathered ws) (s : left ≡ ws .slots) (q : b′ ≡ bytesLeft b (ws .slots)) where
     back : after .workers ≡ ws
     back = λ i. record { slots = s i; count = (ap (λ (x : Workers). x .count) (sym g) ∙ sym (k .same-count)) i }
 
-    kept : OthersKept given (after .workers)
+    kept : Kept before after
     kept = record {
-      same-count = refl;
-      same-slots = ap (drop (given .count)) s ∙ subst (λ (x : Workers). drop (x .count) (ws .slots) ≡ drop (x .count) (x .slots)) g (k .same-slots);
+      others = record {
+        same-count = refl;
+        same-slots = ap (drop (given .count)) s ∙ subst (λ (x : Workers). drop (x .count) (ws .slots) ≡ drop (x .count) (x .slots)) g (k .same-slots);
+      };
+      bytes = q ∙ ap (bytesLeft b) (sym s);
     }
 
   pub call-said : (call : Lent → Reply) (reply : CallReply) → _≡_ {A = Reply} (record { answer = reply .answer; left = allLent m′ l′ r′ (reply .workers) }) (call (allLent m l r gathered))
-      → OthersKept gathered (reply .workers) → left ≡ reply .workers .slots → t ≡ told (reply .answer) → Called call before after t
-  call-said call reply e k s a = record {
+      → OthersKept gathered (reply .workers) → left ≡ reply .workers .slots → b′ ≡ bytesLeft b (reply .workers .slots) → t ≡ told (reply .answer) → Called call before after t
+  call-said call reply e k s q a = record {
     tells = a ∙ ap (λ (x : Reply). told (x .answer)) e ∙ ap (λ x. told (call (allLent m l r x) .answer)) g;
-    leaves = ap (allLent m′ l′ r′) (back (reply .workers) k s) ∙ ap (λ (x : Reply). x .left) e ∙ ap (λ x. call (allLent m l r x) .left) g;
-    keeps = kept (reply .workers) k s;
+    leaves = ap (allLent m′ l′ r′) (back (reply .workers) k s q) ∙ ap (λ (x : Reply). x .left) e ∙ ap (λ x. call (allLent m l r x) .left) g;
+    keeps = kept (reply .workers) k s q;
   }
 
   pub run-said : (call : Lent → RunEnd) (reply : RunReply) → _≡_ {A = RunEnd} (record { answer = reply .answer; left = allLent m′ l′ r′ (reply .workers) }) (call (allLent m l r gathered))
-      → OthersKept gathered (reply .workers) → left ≡ reply .workers .slots → t ≡ runTold (reply .answer) → Ran call before after t
-  run-said call reply e k s a = record {
+      → OthersKept gathered (reply .workers) → left ≡ reply .workers .slots → b′ ≡ bytesLeft b (reply .workers .slots) → t ≡ runTold (reply .answer) → Ran call before after t
+  run-said call reply e k s q a = record {
     tells = a ∙ ap (λ (x : RunEnd). runTold (x .answer)) e ∙ ap (λ x. runTold (call (allLent m l r x) .answer)) g;
-    leaves = ap (allLent m′ l′ r′) (back (reply .workers) k s) ∙ ap (λ (x : RunEnd). x .left) e ∙ ap (λ x. call (allLent m l r x) .left) g;
-    keeps = kept (reply .workers) k s;
+    leaves = ap (allLent m′ l′ r′) (back (reply .workers) k s q) ∙ ap (λ (x : RunEnd). x .left) e ∙ ap (λ x. call (allLent m l r x) .left) g;
+    keeps = kept (reply .workers) k s q;
   }
 
 module _ (m : List Float) (l : List ℕ) (r : List (List ℕ)) (given gathered : Workers) (g : gathered ≡ given) (t : Told) where

@@ -1,9 +1,19 @@
 // Reading system and result files, for hosts. hosts/solumivaf.h declares them.
 ghost use mathlib.Core.Path.{_≡_};
 ghost use Rattle.model.specs.Read.{readSystem, readResult};
+ghost use Rattle.header_read.specs.Heads.{sizesIn};
 ghost use Rattle.host_answers.specs.Answers.{readTold};
 use host_answers::ReadTold;
 use host_answers::tell_read;
+
+// Tells N and t by line 1 of a system file or of a result file.
+#[no_mangle]
+pub extern "C" fn solumivaf_read_sizes(text: &[u8]) -> ReadTold
+    ensures { λ r. ⌜ r ≡ readTold (sizesIn (now (text .entry))) ⌝ }
+{
+    let answer = header_read::read_sizes(text);
+    tell_read(answer)
+}
 
 // Reads a system file into the lent matrix.
 #[no_mangle]

@@ -19,7 +19,7 @@ pub extern "C" fn solumivaf_run(
     matrix: &mut [f64],
     lists: &mut [u8],
     records: &mut [Record],
-    busy: &mut [bool; SLOTS],
+    busy: &mut [u8; SLOTS],
     task: &mut [u16; SLOTS],
     column: &mut [u8; SLOTS],
     count: usize,

@@ -1,6 +1,8 @@
-// The opening and a take, for hosts. hosts/solumivaf.h declares them.
+// The interface's version, the opening and a take, for hosts. hosts/solumivaf.h declares them.
+ghost use mathlib.Core.Path.{_≡_};
 ghost use Rattle.model.specs.Refusal.{openCall, takeCall};
 ghost use Rattle.model.specs.Plan.{sizes};
+ghost use Rattle.host_answers.specs.Answers.{interfaceVersion};
 ghost use Rattle.host_calls.specs.Hosted.{hosted, Called};
 use host_answers::Told;
 use host_answers::tell;
@@ -9,6 +11,16 @@ use host_workers::scatter;
 use model::Sizes;
 use records::Record;
 use worker::SLOTS;
+
+const VERSION: usize = 3;
+
+// The version of the interface, as the header has it.
+#[no_mangle]
+pub extern "C" fn solumivaf_version() -> usize
+    ensures { λ r. ⌜ r ≡ interfaceVersion ⌝ }
+{
+    VERSION
+}
 
 // Opens a system.
 #[no_mangle]
@@ -19,7 +31,7 @@ pub extern "C" fn solumivaf_open(
     matrix: &[f64],
     lists: &mut [u8],
     records: &mut [Record],
-    busy: &mut [bool; SLOTS],
+    busy: &mut [u8; SLOTS],
     task: &mut [u16; SLOTS],
     column: &mut [u8; SLOTS],
     count: usize,
@@ -50,7 +62,7 @@ pub extern "C" fn solumivaf_take(
     matrix: &[f64],
     lists: &[u8],
     records: &mut [Record],
-    busy: &mut [bool; SLOTS],
+    busy: &mut [u8; SLOTS],
     task: &mut [u16; SLOTS],
     column: &mut [u8; SLOTS],
     count: usize,

@@ -1,12 +1,12 @@
 // The workers of a host: their slots in three arrays, and their count.
 ghost use mathlib.Core.Path.{_≡_};
-ghost use Rattle.host_workers.specs.Workers.{slotsIn, workersIn};
+ghost use Rattle.host_workers.specs.Workers.{slotsIn, workersIn, byteLeft, bytesLeft};
 use worker::SLOTS;
 use worker::Worker;
 use worker::Workers;
 
 // The workers that three arrays hold, `count` of them.
-pub fn gather(busy: [bool; SLOTS], task: [u16; SLOTS], column: [u8; SLOTS], count: usize) -> Workers
+pub fn gather(busy: [u8; SLOTS], task: [u16; SLOTS], column: [u8; SLOTS], count: usize) -> Workers
     ensures { λ r. ⌜ r ≡ workersIn busy task column count ⌝ }
 {
     let idle = Worker::idle();
@@ -14,7 +14,7 @@ pub fn gather(busy: [bool; SLOTS], task: [u16; SLOTS], column: [u8; SLOTS], coun
     let mut v = 0;
     while v < SLOTS {
         slots[v] = Worker {
-            busy: busy[v],
+            busy: busy[v] != 0,
             task: task[v],
             column: column[v],
         };
@@ -23,28 +23,43 @@ pub fn gather(busy: [bool; SLOTS], task: [u16; SLOTS], column: [u8; SLOTS], coun
     Workers { slots, count }
 }
 
-// Puts the slots of workers into three arrays.
+// The byte of a worker that is busy or idle, where `was` stood: the same byte, if it says the same.
+fn byte_left(was: u8, busy: bool) -> u8
+    ensures { λ r. ⌜ r ≡ byteLeft was busy ⌝ }
+{
+    if !busy {
+        return 0;
+    }
+    if was == 0 {
+        return 1;
+    }
+    was
+}
+
+// Puts the slots of workers into three arrays. A byte of `busy` that says what it should stays.
 pub fn scatter(
     workers: Workers,
-    busy: &mut [bool; SLOTS],
+    busy: &mut [u8; SLOTS],
     task: &mut [u16; SLOTS],
     column: &mut [u8; SLOTS],
 )
     ensures { λ _. ⌜ slotsIn (now (busy .exit)) (now (task .exit)) (now (column .exit)) ≡ workers .slots ⌝ }
+    ensures { λ _. ⌜ now (busy .exit) ≡ bytesLeft (now (busy .entry)) (workers .slots) ⌝ }
 {
     let slots = workers.slots;
-    let mut held = [false; SLOTS];
+    let given = *busy;
+    let mut bytes = [0; SLOTS];
     let mut tasks = [0; SLOTS];
     let mut columns = [0; SLOTS];
     let mut v = 0;
     while v < SLOTS {
         let h = slots[v];
-        held[v] = h.busy;
+        bytes[v] = byte_left(given[v], h.busy);
         tasks[v] = h.task;
         columns[v] = h.column;
         v += 1;
     }
-    *busy = held;
+    *busy = bytes;
     *task = tasks;
     *column = columns;
 }

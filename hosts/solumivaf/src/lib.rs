@@ -1,9 +1,49 @@
 //! The proved library for Rust hosts: what is lent to the calls, and each call as a safe function.
+//!
+//! A system of n = N t equations is factored by tasks, which W workers take and do column by column, in any order: the bits that are left are
+//! always the same. hosts/solumivaf.h says what each buffer holds and what each refusal means.
+//!
+//! ```
+//! use solumivaf::{Ending, Lent, Outcome, Sizes};
+//!
+//! // The rows 0.25 -0.125 and -0.5 1, as 2 by 2 tiles of one number each, for one worker.
+//! let sizes = Sizes { tiles: 2, side: 1, workers: 1 };
+//! let mut lent = Lent::of(sizes, vec![0.25, -0.125, -0.5, 1.0]);
+//! lent.open(sizes)?;
+//! lent.run(sizes, u64::MAX)?;
+//! assert_eq!(lent.outcome(sizes)?, Ending::Ended(Outcome::Good));
+//!
+//! let mut answers = [0.0; 2];
+//! lent.solve(sizes, &[0.25, 4.0], &mut answers)?;
+//! assert_eq!(answers, [4.0, 6.0]);
+//! # Ok::<(), solumivaf::Error>(())
+//! ```
+//!
+//! # Errors
+//!
+//! The calls on [`Lent`] answer an [`Error`]: a refusal of the library, or that this thread's floating-point mode or the library linked is not
+//! the one that the results need. The functions over texts answer a [`Refusal`], which `?` turns into an [`Error`]. Whatever is answered, nothing
+//! that was lent has changed.
+//!
+//! # Threads
+//!
+//! Threads that share the work share one [`Lent`] behind one lock, and each makes the calls of its own worker: examples/on_threads.rs.
 
+#![deny(missing_docs)]
+
+mod arithmetic;
+mod files;
+mod lengths;
 mod raw;
+mod refusal;
+
+pub use arithmetic::arithmetic_is_default;
+pub use files::{read_result, read_sizes, read_system, write_result, write_system};
+pub use lengths::{lists_length, matrix_length, records_length, result_length, system_length};
+pub use refusal::{Error, Refusal};
 
 /// The version of the interface, as hosts/solumivaf.h has it.
-pub const VERSION: u32 = 2;
+pub const VERSION: u32 = 3;
 
 /// The number of worker slots, and the most workers.
 pub const SLOTS: usize = 32;
@@ -11,67 +51,90 @@ pub const SLOTS: usize = 32;
 /// N, t and W as told to a call, in range or not.
 #[derive(Clone, Copy, Debug, PartialEq, Eq)]
 pub struct Sizes {
+    /// N, the tiles a side: 1 to 16.
     pub tiles: usize,
+    /// t, the numbers a side of a tile: 1 to 16.
     pub side: usize,
+    /// W, the workers: 1 to 32.
     pub workers: usize,
 }
 
-/// A task: kind 1 to 4, k, i and j, and its mark: 0 while it waits, 1 once taken, 2 to 4 when done, failed or spoiled.
+/// A task: its kind, its k, i and j (0 where the kind has none), and its mark.
 #[repr(C)]
 #[derive(Clone, Copy, Debug, Default, PartialEq, Eq)]
 pub struct Record {
+    /// 1 to 4 for T-1 to T-4.
     pub kind: u8,
+    /// The stage.
     pub k: u8,
+    /// The tile row.
     pub i: u8,
+    /// The tile column.
     pub j: u8,
+    /// 0 while it waits, 1 once taken, 2 when done, 3 when failed, 4 when spoiled.
     pub mark: u8,
 }
 
 /// The worker slots: slot v is idle, or holds a task and its next column. The first `count` are the workers that are lent, and a call told another W
-/// is refused 2.
+/// is refused 2. The other slots are not looked at and stay as they are.
 #[derive(Clone, Debug, Default, PartialEq, Eq)]
 pub struct Workers {
+    /// How many workers are lent.
     pub count: usize,
-    pub busy: [bool; SLOTS],
+    /// 0 for an idle worker, any other byte for a busy one. A worker that gets busy gets 1; one that stays busy keeps its byte.
+    pub busy: [u8; SLOTS],
+    /// The task that a busy worker holds.
     pub task: [u16; SLOTS],
+    /// The next column of that task.
     pub column: [u8; SLOTS],
+}
+
+impl Workers {
+    /// Whether a worker is busy. A worker beyond the slots is not.
+    pub fn is_busy(&self, worker: usize) -> bool {
+        self.busy.get(worker).is_some_and(|&byte| byte != 0)
+    }
 }
 
 /// Everything lent to a call.
 #[derive(Clone, Debug, Default)]
 pub struct Lent {
+    /// The numbers, tile after tile, each row by row.
     pub matrix: Vec<f64>,
+    /// The row lists, one for each tile in the same order.
     pub lists: Vec<u8>,
+    /// The tasks in number order.
     pub records: Vec<Record>,
+    /// The workers.
     pub workers: Workers,
-}
-
-/// A refusal's number and place.
-#[derive(Clone, Copy, Debug, PartialEq, Eq)]
-pub struct Refusal {
-    pub number: u8,
-    pub place: usize,
 }
 
 /// How a run ended, with the count of its calls.
 #[derive(Clone, Copy, Debug, PartialEq, Eq)]
 pub enum Run {
+    /// Every task is finished.
     Finished(u64),
+    /// The budget is spent.
     Spent(u64),
 }
 
-/// How a finished system ended: good, overflow with its lowest failed task, or singular with the lowest row whose diagonal is zero.
+/// How a finished system ended.
 #[derive(Clone, Copy, Debug, PartialEq, Eq)]
 pub enum Outcome {
+    /// It can be solved.
     Good,
+    /// A task computed a number that isn't finite: the lowest such task.
     Overflow(u16),
+    /// The final diagonal has a zero: the lowest such row.
     Singular(u16),
 }
 
-/// What the outcome call tells: the outcome, or the lowest unfinished task.
+/// What the outcome call tells.
 #[derive(Clone, Copy, Debug, PartialEq, Eq)]
 pub enum Ending {
+    /// Every task is finished.
     Ended(Outcome),
+    /// The lowest unfinished task.
     Unfinished(usize),
 }
 
@@ -111,6 +174,28 @@ fn outcome_of(kind: u8, place: u16) -> Outcome {
     }
 }
 
+// ---- what is tested before a call
+
+/// Refuses to compute in another mode.
+fn arithmetic() -> Result<(), Error> {
+    if arithmetic_is_default() {
+        Ok(())
+    } else {
+        Err(Error::Arithmetic)
+    }
+}
+
+/// Refuses a library of another version.
+fn version() -> Result<(), Error> {
+    // SAFETY: the function takes nothing and reads nothing.
+    let linked = unsafe { raw::solumivaf_version() };
+    if linked == VERSION as usize {
+        Ok(())
+    } else {
+        Err(Error::Version(linked))
+    }
+}
+
 // ---- the calls on what is lent
 
 /// A call with the sizes and everything lent. A buffer is lent by `as_ptr` to be read, or by `as_mut_ptr` to be written; the worker slots
@@ -119,7 +204,7 @@ macro_rules! call {
     ($function:ident, $sizes:expr, $lent:expr, $matrix:ident, $lists:ident, $records:ident $(, $more:expr)*) => {
         // SAFETY: the header's conditions hold. Each pointer is of a Vec, an array or a slice with the length that goes with it, which the
         // borrow of `$lent` and of what else is passed keeps alive, and which no one else writes during the call. Buffers do not overlap.
-        // A `bool` is 0 or 1, `Record` is laid out as in C, and wrong sizes and lengths are refused.
+        // `Record` is laid out as in C, any byte may be in `busy`, and wrong sizes and lengths are refused.
         unsafe {
             raw::$function(
                 $sizes.tiles,
@@ -141,45 +226,52 @@ macro_rules! call {
     };
 }
 
+/// The calls. All but [`take`](Lent::take) depend on the floating-point mode and test it first.
 impl Lent {
-    /// Buffers of the lengths that a system calls for, around its matrix, for sizes in range.
+    /// Buffers of the lengths that a system calls for, around its matrix. For N or t out of range lists and records are empty, and
+    /// [`open`](Lent::open) refuses 1.
     pub fn of(sizes: Sizes, matrix: Vec<f64>) -> Lent {
-        let n = sizes.tiles;
         Lent {
             matrix,
-            lists: vec![0; n * n * sizes.side],
-            records: vec![Record::default(); n * (n + 1) * (2 * n + 1) / 6],
+            lists: vec![0; lists_length(sizes.tiles, sizes.side)],
+            records: vec![Record::default(); records_length(sizes.tiles)],
             workers: Workers { count: sizes.workers, ..Workers::default() },
         }
     }
 
-    /// Starts the work on the matrix: lists of 0, every task waiting, every worker idle.
-    pub fn open(&mut self, sizes: Sizes) -> Result<(), Refusal> {
+    /// Starts the work on the matrix: lists of 0, every task waiting, every worker idle. Tests the version of the library too.
+    pub fn open(&mut self, sizes: Sizes) -> Result<(), Error> {
+        version()?;
+        arithmetic()?;
         let told = call!(solumivaf_open, sizes, self, as_ptr, as_mut_ptr, as_mut_ptr);
-        accepted(told.number, told.place)
+        Ok(accepted(told.number, told.place)?)
     }
 
     /// A worker takes a task that is ready.
-    pub fn take(&mut self, sizes: Sizes, worker: usize, task: usize) -> Result<(), Refusal> {
+    pub fn take(&mut self, sizes: Sizes, worker: usize, task: usize) -> Result<(), Error> {
         let told = call!(solumivaf_take, sizes, self, as_ptr, as_ptr, as_mut_ptr, worker, task);
-        accepted(told.number, told.place)
+        Ok(accepted(told.number, told.place)?)
     }
 
     /// A busy worker does the next column of its task. The task's mark tells how it goes on.
-    pub fn column(&mut self, sizes: Sizes, worker: usize) -> Result<(), Refusal> {
+    pub fn column(&mut self, sizes: Sizes, worker: usize) -> Result<(), Error> {
+        arithmetic()?;
         let told = call!(solumivaf_column, sizes, self, as_mut_ptr, as_mut_ptr, as_mut_ptr, worker);
-        accepted(told.number, told.place)
+        Ok(accepted(told.number, told.place)?)
     }
 
     /// The workers take turns from 0 until all tasks are finished, or as many calls are made as the budget allows.
-    pub fn run(&mut self, sizes: Sizes, budget: u64) -> Result<Run, Refusal> {
+    pub fn run(&mut self, sizes: Sizes, budget: u64) -> Result<Run, Error> {
+        arithmetic()?;
         let told = call!(solumivaf_run, sizes, self, as_mut_ptr, as_mut_ptr, as_mut_ptr, budget);
         accepted(told.number, told.place)?;
         Ok(if told.kind == 1 { Run::Finished(told.count) } else { Run::Spent(told.count) })
     }
 
     /// The outcome by the marks and the diagonal, or the lowest unfinished task. Only sizes and lengths are checked.
-    pub fn outcome(&self, sizes: Sizes) -> Result<Ending, Refusal> {
+    pub fn outcome(&self, sizes: Sizes) -> Result<Ending, Error> {
+        // A subnormal number on the diagonal is not zero, unless the mode makes it so.
+        arithmetic()?;
         let told = call!(solumivaf_outcome, sizes, self, as_ptr, as_ptr, as_ptr);
         accepted(told.number, told.place)?;
         Ok(match told.kind {
@@ -188,8 +280,9 @@ impl Lent {
         })
     }
 
-    /// Solves for one right side. The answers change only where the call is accepted.
-    pub fn solve(&self, sizes: Sizes, right: &[f64], answers: &mut [f64]) -> Result<(), Refusal> {
+    /// Solves for one right side. Right side and answers have n = N t numbers each. The answers change only where the call is accepted.
+    pub fn solve(&self, sizes: Sizes, right: &[f64], answers: &mut [f64]) -> Result<(), Error> {
+        arithmetic()?;
         let told = call!(
             solumivaf_solve,
             sizes,
@@ -202,65 +295,6 @@ impl Lent {
             answers.as_mut_ptr(),
             answers.len()
         );
-        accepted(told.number, told.place)
+        Ok(accepted(told.number, told.place)?)
     }
-}
-
-// ---- files
-
-// SAFETY, of each call below: as above, each pointer is a slice's and goes with its length, the slices written are borrowed alone, and
-// wrong sizes and lengths are refused.
-
-/// Reads a system into the lent matrix, and tells N and t.
-pub fn read_system(text: &[u8], matrix: &mut [f64]) -> Result<(usize, usize), Refusal> {
-    let read =
-        unsafe { raw::solumivaf_read_system(text.as_ptr(), text.len(), matrix.as_mut_ptr(), matrix.len()) };
-    accepted(read.number, read.place)?;
-    Ok((read.tiles, read.side))
-}
-
-/// Reads a result into the lent matrix and lists, and tells N, t and the outcome.
-pub fn read_result(
-    text: &[u8],
-    matrix: &mut [f64],
-    lists: &mut [u8],
-) -> Result<(usize, usize, Outcome), Refusal> {
-    let (numbers, entries) = (matrix.len(), lists.len());
-    let (matrix, lists) = (matrix.as_mut_ptr(), lists.as_mut_ptr());
-    let read =
-        unsafe { raw::solumivaf_read_result(text.as_ptr(), text.len(), matrix, numbers, lists, entries) };
-    accepted(read.number, read.place)?;
-    Ok((read.tiles, read.side, outcome_of(read.kind, read.at)))
-}
-
-/// Writes a system into the front of the lent text, and tells its length.
-pub fn write_system(tiles: usize, side: usize, matrix: &[f64], text: &mut [u8]) -> Result<usize, Refusal> {
-    let told = unsafe {
-        raw::solumivaf_write_system(tiles, side, matrix.as_ptr(), matrix.len(), text.as_mut_ptr(), text.len())
-    };
-    accepted(told.number, told.place)?;
-    Ok(told.count as usize)
-}
-
-/// Writes a result into the front of the lent text, and tells its length.
-pub fn write_result(
-    tiles: usize,
-    side: usize,
-    matrix: &[f64],
-    lists: &[u8],
-    outcome: Outcome,
-    text: &mut [u8],
-) -> Result<usize, Refusal> {
-    let (kind, place) = match outcome {
-        Outcome::Good => (0, 0),
-        Outcome::Overflow(task) => (1, task),
-        Outcome::Singular(row) => (2, row),
-    };
-    let (numbers, entries, room) = (matrix.len(), lists.len(), text.len());
-    let (matrix, lists, text) = (matrix.as_ptr(), lists.as_ptr(), text.as_mut_ptr());
-    let told = unsafe {
-        raw::solumivaf_write_result(tiles, side, matrix, numbers, lists, entries, kind, place, text, room)
-    };
-    accepted(told.number, told.place)?;
-    Ok(told.count as usize)
 }

@@ -3,6 +3,8 @@
 use crate::{Read, Record, Told};
 
 extern "C" {
+    pub fn solumivaf_version() -> usize;
+
     pub fn solumivaf_open(
         tiles: usize,
         side: usize,
@@ -13,7 +15,7 @@ extern "C" {
         lists_length: usize,
         records: *mut Record,
         records_length: usize,
-        busy: *mut bool,
+        busy: *mut u8,
         task: *mut u16,
         column: *mut u8,
         count: usize,
@@ -29,7 +31,7 @@ extern "C" {
         lists_length: usize,
         records: *mut Record,
         records_length: usize,
-        busy: *mut bool,
+        busy: *mut u8,
         task: *mut u16,
         column: *mut u8,
         count: usize,
@@ -47,7 +49,7 @@ extern "C" {
         lists_length: usize,
         records: *mut Record,
         records_length: usize,
-        busy: *mut bool,
+        busy: *mut u8,
         task: *mut u16,
         column: *mut u8,
         count: usize,
@@ -64,7 +66,7 @@ extern "C" {
         lists_length: usize,
         records: *mut Record,
         records_length: usize,
-        busy: *mut bool,
+        busy: *mut u8,
         task: *mut u16,
         column: *mut u8,
         count: usize,
@@ -81,7 +83,7 @@ extern "C" {
         lists_length: usize,
         records: *const Record,
         records_length: usize,
-        busy: *const bool,
+        busy: *const u8,
         task: *const u16,
         column: *const u8,
         count: usize,
@@ -97,7 +99,7 @@ extern "C" {
         lists_length: usize,
         records: *const Record,
         records_length: usize,
-        busy: *const bool,
+        busy: *const u8,
         task: *const u16,
         column: *const u8,
         count: usize,
@@ -106,6 +108,8 @@ extern "C" {
         answers: *mut f64,
         answers_length: usize,
     ) -> Told;
+
+    pub fn solumivaf_read_sizes(text: *const u8, text_length: usize) -> Read;
 
     pub fn solumivaf_read_system(
         text: *const u8,

@@ -4,6 +4,11 @@
 mod compare;
 
 use reference::numbers::bits;
+use solumivaf::{Ending, Error, Lent, Outcome, Record, Refusal, Run, Sizes};
+
+fn refused(number: u8, place: usize) -> Error {
+    Error::Refused(Refusal { number, place })
+}
 
 #[test]
 fn same_answers_and_states() {
@@ -38,11 +43,10 @@ fn same_writings() {
 
 #[test]
 fn specimens() {
-    use solumivaf::{Ending, Lent, Outcome, Refusal, Run, Sizes};
     let sizes = Sizes { tiles: 2, side: 1, workers: 1 };
     let mut lent = Lent::of(sizes, vec![1.0, 2.0, 4.0, 4.0]);
     lent.open(sizes).unwrap();
-    assert_eq!(lent.take(sizes, 0, 1), Err(Refusal { number: 7, place: 1 }));
+    assert_eq!(lent.take(sizes, 0, 1), Err(refused(7, 1)));
     assert_eq!(lent.run(sizes, 0), Ok(Run::Spent(0)));
     assert_eq!(lent.run(sizes, u64::MAX), Ok(Run::Finished(10)));
     assert_eq!(lent.matrix, [4.0, 4.0, 0.25, 1.0]);
@@ -56,7 +60,6 @@ fn specimens() {
 /// For N = 2 task 2 is taken right after task 0 and worked while task 1 waits. The end is that of the old loops, where tasks fail too.
 #[test]
 fn couple_before_apply() {
-    use solumivaf::{Ending, Lent, Refusal, Sizes};
     for crafted in reference::crafted::all_crafted() {
         if crafted.shape.tiles != 2 {
             continue;
@@ -64,15 +67,15 @@ fn couple_before_apply() {
         let sizes = Sizes { tiles: 2, side: crafted.shape.side, workers: 2 };
         let mut lent = Lent::of(sizes, crafted.matrix.clone());
         lent.open(sizes).unwrap();
-        assert_eq!(lent.take(sizes, 0, 2), Err(Refusal { number: 7, place: 2 }));
+        assert_eq!(lent.take(sizes, 0, 2), Err(refused(7, 2)));
         for task in [0, 2] {
             lent.take(sizes, 0, task).unwrap();
-            while lent.workers.busy[0] {
+            while lent.workers.is_busy(0) {
                 lent.column(sizes, 0).unwrap();
             }
         }
         assert_eq!(lent.records[1].mark, 0);
-        assert_eq!(lent.take(sizes, 0, 3), Err(Refusal { number: 7, place: 3 }));
+        assert_eq!(lent.take(sizes, 0, 3), Err(refused(7, 3)));
         lent.run(sizes, u64::MAX).unwrap();
 
         let last = reference::loops::old_loops(crafted.shape, &crafted.matrix);
@@ -96,8 +99,7 @@ fn a_nan_has_one_text() {
 /// A call that is told another W than the count of the workers lent is refused 2 and changes nothing, whatever the count.
 #[test]
 fn another_count() {
-    use solumivaf::{Lent, Refusal, Run, Sizes};
-    let two = Refusal { number: 2, place: 0 };
+    let two = refused(2, 0);
     let sizes = Sizes { tiles: 2, side: 1, workers: 2 };
     let mut lent = Lent::of(sizes, vec![1.0, 2.0, 4.0, 4.0]);
     lent.open(sizes).unwrap();
@@ -117,7 +119,7 @@ fn another_count() {
             (bits(&lent.matrix), lent.lists.clone(), lent.records.clone(), lent.workers.clone())
         );
         let beyond = Sizes { workers: 33, ..sizes };
-        assert_eq!(lent.run(beyond, 0), Err(Refusal { number: 1, place: 0 }));
+        assert_eq!(lent.run(beyond, 0), Err(refused(1, 0)));
     }
     lent.workers.count = 2;
     assert_eq!(lent.take(Sizes { workers: 1, ..sizes }, 0, 0), Err(two));
@@ -128,7 +130,6 @@ fn another_count() {
 /// The buffers that the wrapper makes have the lengths that the calls ask for, for every N and t.
 #[test]
 fn made_buffers() {
-    use solumivaf::{Ending, Lent, Record, Sizes};
     for tiles in 1..=16 {
         for side in 1..=16 {
             let shape = reference::tile::Shape { tiles, side };

@@ -19,7 +19,7 @@ const IDLE: Duration = Duration::from_micros(200);
 fn work(sizes: Sizes, shared: &Mutex<Lent>, worker: usize) {
     loop {
         let mut lent = shared.lock().unwrap();
-        if lent.workers.busy[worker] {
+        if lent.workers.is_busy(worker) {
             lent.column(sizes, worker).unwrap();
         } else {
             let count = lent.records.len();
@@ -28,7 +28,7 @@ fn work(sizes: Sizes, shared: &Mutex<Lent>, worker: usize) {
                 return;
             }
         }
-        let busy = lent.workers.busy[worker];
+        let busy = lent.workers.is_busy(worker);
         drop(lent);
         // A worker with nothing to do leaves the lock to the others: each of its looks costs a take call for every task.
         if busy {

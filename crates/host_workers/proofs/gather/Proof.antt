@@ -3,7 +3,7 @@ use Prim.Native.Nat.{_-_}
 use mathlib.Core.Path.{refl}
 use native.Mathlib.Omega.{arith}
 use borrow.Author.Needs.{needs}
-use Rattle.host_workers.specs.Workers.{workerIn}
+use Rattle.host_workers.specs.Workers.{saysBusy, workerIn}
 use Rattle.host_workers.proofs.Laws.{Alike, gathered, all-alike}
 use Rattle.host_workers.proofs.gather.Statement.{statement}
 use Rattle.host_workers.proofs.gather.Tie as tie
@@ -27,17 +27,17 @@ loop-holds c = record {
   alike = λ i j. absurd (omega (arith, j));
 }
 
-array-read-t11 : tie.Need-array-read-t11 Inv-loop μ-loop
-array-read-t11 c = omega arith
+array-read-t14 : tie.Need-array-read-t14 Inv-loop μ-loop
+array-read-t14 c = omega arith
 
-mul-t14 : tie.Need-mul-t14 Inv-loop μ-loop
-mul-t14 c = omega arith
+mul-t15 : tie.Need-mul-t15 Inv-loop μ-loop
+mul-t15 c = omega arith
 
-array-read-t17 : tie.Need-array-read-t17 Inv-loop μ-loop
-array-read-t17 c = omega arith
+array-read-t18 : tie.Need-array-read-t18 Inv-loop μ-loop
+array-read-t18 c = omega arith
 
-array-read-t20 : tie.Need-array-read-t20 Inv-loop μ-loop
-array-read-t20 c = omega arith
+array-read-t21 : tie.Need-array-read-t21 Inv-loop μ-loop
+array-read-t21 c = omega arith
 
 mul-slots : tie.Need-mul-slots Inv-loop μ-loop
 mul-slots c = omega arith
@@ -52,7 +52,7 @@ loop-less : tie.Need-loop-less Inv-loop μ-loop
 loop-less c = omega arith
 
 loop-again : tie.Need-loop-again Inv-loop μ-loop
-unfolding workerIn
+unfolding workerIn saysBusy
 loop-again c =
     let d = c .before in
     let a = d .before .before .args in
@@ -69,10 +69,10 @@ gather-spec =
     μ-loop
     idle-requires
     loop-holds
-    array-read-t11
-    mul-t14
-    array-read-t17
-    array-read-t20
+    array-read-t14
+    mul-t15
+    array-read-t18
+    array-read-t21
     mul-slots
     array-set-from-slots
     add-v

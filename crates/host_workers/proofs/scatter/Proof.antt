@@ -1,27 +1,31 @@
--- After v turns the arrays have the first v workers. Assumes nothing.
+-- After v turns the arrays have the first v workers, and bytes that say the same stand as they were. Assumes nothing.
 use Prim.Native.Nat.{_-_}
 use mathlib.Core.Path.{refl, sym}
 use native.Mathlib.Omega.{arith}
+use borrow.Author.Needs.{needs}
 use Rattle.records.proofs.Laws.{length-slots}
-use Rattle.host_workers.proofs.Laws.{Alike, scattered, all-alike}
+use Rattle.host_workers.proofs.Laws.{Alike, Left, scattered, byte-put, all-alike, all-left}
 use Rattle.host_workers.proofs.scatter.Statement.{statement}
 use Rattle.host_workers.proofs.scatter.Tie as tie
 
 abbrev Inv-loop : tie.InvT-loop
-Inv-loop busy task column workers held₀ tasks₀ columns₀ v₀ held tasks columns v = Alike held tasks columns workers v
+Inv-loop busy task column slots given bytes₀ tasks₀ columns₀ v₀ bytes tasks columns v = Alike bytes tasks columns slots v × Left given bytes slots v
 
 abbrev μ-loop : tie.MeasureT-loop
-μ-loop busy task column workers held₀ tasks₀ columns₀ v₀ held tasks columns v = 32 - v
+μ-loop busy task column slots given bytes₀ tasks₀ columns₀ v₀ bytes tasks columns v = 32 - v
 
 loop-holds : tie.Need-loop-holds Inv-loop μ-loop
-loop-holds c = record {
-  at-most = omega arith;
-  slots = length-slots (c .before .args .workers) _ (c .before .good .0 .1 .1 .0 .1 .0 .1);
-  busy-long = refl;
-  task-long = refl;
-  column-long = refl;
-  alike = λ i j. absurd (omega (arith, j));
-}
+loop-holds c = (
+  record {
+    at-most = omega arith;
+    slots = length-slots (c .before .before .args .workers) _ (c .before .before .good .0 .1 .1 .0 .1 .0 .1);
+    busy-long = refl;
+    task-long = refl;
+    column-long = refl;
+    alike = λ i j. absurd (omega (arith, j));
+  },
+  record { left = λ i j. absurd (omega (arith, j)) },
+)
 
 mul-h : tie.Need-mul-h Inv-loop μ-loop
 mul-h c = omega arith
@@ -29,8 +33,14 @@ mul-h c = omega arith
 array-copy-out-h : tie.Need-array-copy-out-h Inv-loop μ-loop
 array-copy-out-h c = omega arith
 
-array-write-held : tie.Need-array-write-held Inv-loop μ-loop
-array-write-held c = omega arith
+array-read-byte-left : tie.Need-array-read-byte-left Inv-loop μ-loop
+array-read-byte-left c = omega arith
+
+byte-left-requires : tie.Need-byte-left-requires Inv-loop μ-loop
+byte-left-requires c κs = search needs
+
+array-write-bytes : tie.Need-array-write-bytes Inv-loop μ-loop
+array-write-bytes c = omega arith
 
 mul-tasks : tie.Need-mul-tasks Inv-loop μ-loop
 mul-tasks c = omega arith
@@ -49,11 +59,18 @@ loop-less c = omega arith
 
 loop-again : tie.Need-loop-again Inv-loop μ-loop
 loop-again c =
-    let d = c .before .before in
-    scattered (d .loop .held) (d .loop .tasks) (d .loop .columns) (d .before .before .args .workers .slots) (d .loop .v) (d .loop .inv) (omega arith) _ refl
+    let d = c .before .before .before in
+    let s = d .before .before .before .args .workers .slots in
+    let g = d .before .before .before .args .busy .now in
+    let h = d .loop .inv .0 in (
+      scattered (d .loop .bytes) (d .loop .tasks) (d .loop .columns) s (d .loop .v) h (omega arith) g _ refl (c .byte-left .result) (c .byte-left .ensures),
+      byte-put (d .loop .bytes) (d .loop .tasks) (d .loop .columns) s (d .loop .v) h (omega arith) g _ refl (c .byte-left .result) (c .byte-left .ensures) (d .loop .inv .1),
+    )
 
 returns : tie.Need-returns Inv-loop μ-loop
-returns c = sym (all-alike _ _ _ _ (c .before .loop .v) (c .before .loop .inv) (omega arith))
+returns c =
+    let d = c .before in
+    (sym (all-alike _ _ _ _ (d .loop .v) (d .loop .inv .0) (omega arith)), all-left _ _ _ _ (d .loop .v) (d .loop .inv .0) (omega arith) _ (d .loop .inv .1))
 
 pub scatter-spec : {M : Type 1} → statement M
 scatter-spec =
@@ -64,7 +81,9 @@ scatter-spec =
     loop-holds
     mul-h
     array-copy-out-h
-    array-write-held
+    array-read-byte-left
+    byte-left-requires
+    array-write-bytes
     mul-tasks
     array-write-tasks
     array-write-columns

@@ -1,16 +1,13 @@
--- `solumivaf::main` meets its contract: what is printed lies in the buffer. Assumes nothing.
+-- What was read lies in the buffer. Assumes nothing.
 use borrow.Author.Needs.{needs}
 use mathlib.Core.Path.{sym}
 use lib.Seq.{length-take-le}
-use Rattle.printing.proofs.Printed.{printed-within}
+use Rattle.solumivaf.proofs.Inputs.{bytes-within}
 use Rattle.solumivaf.proofs.main.Statement.{statement}
 use Rattle.solumivaf.proofs.main.Tie as tie
 
 large-buffer-requires : tie.Need-large-buffer-requires
 large-buffer-requires c κs = search needs
-
-large-buffer-requires-2 : tie.Need-large-buffer-requires-2
-large-buffer-requires-2 c κs = search needs
 
 slice-aggregate-read-due : tie.Need-slice-aggregate-read-due
 slice-aggregate-read-due c = search needs
@@ -18,32 +15,26 @@ slice-aggregate-read-due c = search needs
 read-due-requires : tie.Need-read-due-requires
 read-due-requires c κs = search needs
 
+enum-known-n : tie.Need-enum-known-n
+enum-known-n c = search needs
+
 array-share-prefix-input : tie.Need-array-share-prefix-input
-array-share-prefix-input c = search needs
+array-share-prefix-input c = let h = bytes-within (c .before .before .before .before .read-due .ensures) (c .before .n .given .1) in search (needs, h)
 
-slice-aggregate-print-result : tie.Need-slice-aggregate-print-result
-slice-aggregate-print-result c = sym (length-take-le _ _ (search needs))
+slice-aggregate-print : tie.Need-slice-aggregate-print
+slice-aggregate-print c = let h = bytes-within (c .before .before .before .before .before .read-due .ensures) (c .before .before .n .given .1) in sym (length-take-le _ _ (search (needs, h)))
 
-slice-aggregate-print-result-2 : tie.Need-slice-aggregate-print-result-2
-slice-aggregate-print-result-2 c = search needs
-
-print-result-requires : tie.Need-print-result-requires
-print-result-requires c κs = search needs
-
-enum-known-k : tie.Need-enum-known-k
-enum-known-k c = search needs
-
-array-share-prefix-output : tie.Need-array-share-prefix-output
-array-share-prefix-output c = printed-within _ _ _ _ _ (c .before .before .before .before .print-result .ensures .0) (c .before .k .given .1)
-
-slice-aggregate-write-all : tie.Need-slice-aggregate-write-all
-slice-aggregate-write-all c = sym (length-take-le _ _ (printed-within _ _ _ _ _ (c .before .before .before .before .before .print-result .ensures .0) (c .before .before .k .given .1)))
-
-write-all-requires : tie.Need-write-all-requires
-write-all-requires c κs = search needs
+print-requires : tie.Need-print-requires
+print-requires c κs = search needs
 
 enum-told : tie.Need-enum-told
 enum-told c = search needs
+
+slice-aggregate-fail : tie.Need-slice-aggregate-fail
+slice-aggregate-fail c = search needs
+
+fail-requires : tie.Need-fail-requires
+fail-requires c κs = search needs
 
 returns : tie.Need-returns
 returns c = search needs
@@ -56,17 +47,14 @@ main-spec =
     tie.close
     (tie.spec
     large-buffer-requires
-    large-buffer-requires-2
     slice-aggregate-read-due
     read-due-requires
+    enum-known-n
     array-share-prefix-input
-    slice-aggregate-print-result
-    slice-aggregate-print-result-2
-    print-result-requires
-    enum-known-k
-    array-share-prefix-output
-    slice-aggregate-write-all
-    write-all-requires
+    slice-aggregate-print
+    print-requires
     enum-told
+    slice-aggregate-fail
+    fail-requires
     returns
     returns-2)

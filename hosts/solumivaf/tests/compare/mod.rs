@@ -10,7 +10,7 @@ use reference::texts::all_texts;
 use reference::vectors::script;
 use reference::writer::Options;
 use reference::writings::{all_writings, Writing};
-use solumivaf::{Ending, Lent, Outcome, Record, Refusal, Run, Sizes, SLOTS};
+use solumivaf::{Ending, Error, Lent, Outcome, Record, Refusal, Run, Sizes, SLOTS};
 
 /// What the reference has lent, in the library's buffers.
 pub fn lent_of(theirs: &reference::lent::Lent) -> Lent {
@@ -26,7 +26,7 @@ pub fn lent_of(theirs: &reference::lent::Lent) -> Lent {
     }
     ours.workers.count = theirs.count as usize;
     for slot in 0..SLOTS {
-        ours.workers.busy[slot] = theirs.workers[slot].busy;
+        ours.workers.busy[slot] = theirs.workers[slot].busy as u8;
         ours.workers.task[slot] = theirs.workers[slot].task;
         ours.workers.column[slot] = theirs.workers[slot].column;
     }
@@ -43,6 +43,10 @@ fn same_state(ours: &Lent, theirs: &reference::lent::Lent) -> bool {
 
 fn refusal_of(refusal: reference::lent::Refusal) -> Refusal {
     Refusal { number: refusal.number, place: refusal.place as usize }
+}
+
+fn error_of(refusal: reference::lent::Refusal) -> Error {
+    Error::Refused(refusal_of(refusal))
 }
 
 pub fn outcome_of(outcome: reference::solve::Outcome) -> Outcome {
@@ -103,14 +107,14 @@ impl Players {
             }
             OPENING => {
                 let (ours, theirs) = Players::sizes(&mut fields);
-                let expected = reference::calls::opening(theirs, &mut self.theirs.lent).map_err(refusal_of);
+                let expected = reference::calls::opening(theirs, &mut self.theirs.lent).map_err(error_of);
                 assert_eq!(self.ours.open(ours), expected, "opening {ours:?}");
             }
             TAKE => {
                 let (ours, theirs) = Players::sizes(&mut fields);
                 let (worker, task) = (fields.take(16), fields.take(16));
                 let expected =
-                    reference::calls::take(theirs, &mut self.theirs.lent, worker, task).map_err(refusal_of);
+                    reference::calls::take(theirs, &mut self.theirs.lent, worker, task).map_err(error_of);
                 assert_eq!(
                     self.ours.take(ours, worker as usize, task as usize),
                     expected,
@@ -121,7 +125,7 @@ impl Players {
                 let (ours, theirs) = Players::sizes(&mut fields);
                 let worker = fields.take(16);
                 let expected =
-                    reference::calls::column(theirs, &mut self.theirs.lent, worker).map_err(refusal_of);
+                    reference::calls::column(theirs, &mut self.theirs.lent, worker).map_err(error_of);
                 assert_eq!(self.ours.column(ours, worker as usize), expected, "column {ours:?} {worker}");
             }
             RUN => {
@@ -130,7 +134,7 @@ impl Players {
                 let expected = match reference::calls::run(theirs, &mut self.theirs.lent, budget) {
                     Ok(reference::calls::Run::Finished(count)) => Ok(Run::Finished(count)),
                     Ok(reference::calls::Run::Spent(count)) => Ok(Run::Spent(count)),
-                    Err(refusal) => Err(refusal_of(refusal)),
+                    Err(refusal) => Err(error_of(refusal)),
                 };
                 assert_eq!(self.ours.run(ours, budget), expected, "run {ours:?} {budget}");
             }
@@ -140,7 +144,7 @@ impl Players {
                 let mut answers = fields.counted_numbers();
                 let mut their_answers = answers.clone();
                 let expected = reference::solve::solve(theirs, &self.theirs.lent, &right, &mut their_answers)
-                    .map_err(refusal_of);
+                    .map_err(error_of);
                 assert_eq!(self.ours.solve(ours, &right, &mut answers), expected, "solve {ours:?}");
                 let same = answers.iter().zip(&their_answers).all(|(a, b)| a.to_bits() == b.to_bits());
                 assert!(same, "answers differ after {line:.100}");
@@ -150,7 +154,7 @@ impl Players {
                 let expected = match reference::solve::ending(theirs, &self.theirs.lent) {
                     Ok(reference::solve::Ending::Unfinished(task)) => Ok(Ending::Unfinished(task)),
                     Ok(reference::solve::Ending::Ended(outcome)) => Ok(Ending::Ended(outcome_of(outcome))),
-                    Err(refusal) => Err(refusal_of(refusal)),
+                    Err(refusal) => Err(error_of(refusal)),
                 };
                 assert_eq!(self.ours.outcome(ours), expected, "outcome {ours:?}");
             }
@@ -182,11 +186,12 @@ pub fn columns_of(seed: u64) -> usize {
 
 // ---- texts
 
-/// Reads every text of a seed, damaged ones too, and writes again what was read; tells how many texts there were.
+/// Reads every text of a seed, damaged ones too, and its sizes, and writes again what was read; tells how many texts there were.
 pub fn texts_of(seed: u64) -> usize {
     let mut count = 0;
     for line in all_texts(seed) {
         let (what, text) = text_in(&line);
+        sizes_text(&text);
         match what {
             SYSTEM | PROGRAM => system_text(&text),
             RESULT => result_text(&text),
@@ -195,6 +200,15 @@ pub fn texts_of(seed: u64) -> usize {
         count += 1;
     }
     count
+}
+
+/// Line 1 alone decides what is told of the sizes.
+fn sizes_text(text: &[u8]) {
+    let expected = read_header(text, NO_LIMIT).map(|shape| (shape.tiles, shape.side)).map_err(refusal_of);
+    assert_eq!(solumivaf::read_sizes(text), expected, "sizes of {}", shown(text));
+    if text.len() >= 7 {
+        assert_eq!(solumivaf::read_sizes(&text[..7]), expected, "sizes by line 1 of {}", shown(text));
+    }
 }
 
 /// The lengths that line 1 calls for, or those of the smallest system.
