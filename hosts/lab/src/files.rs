@@ -6,6 +6,7 @@ use std::path::Path;
 
 use solumivaf::{lists_length, matrix_length, read_result, read_sizes, read_system, Outcome};
 
+use crate::closed;
 use crate::failure::Failure;
 
 /// More than any file here has: a result of the largest sizes has about a million bytes.
@@ -46,7 +47,7 @@ pub fn contents(path: &Path) -> Result<Vec<u8>, Failure> {
     let mut text = Vec::new();
     let mut all = |from: &mut dyn Read| from.take(MOST + 1).read_to_end(&mut text);
     let read = if is_standard(path) {
-        all(&mut io::stdin().lock())
+        closed::open_input().and_then(|()| all(&mut io::stdin().lock()))
     } else {
         File::open(path).and_then(|mut file| all(&mut file))
     };

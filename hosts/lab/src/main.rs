@@ -1,6 +1,7 @@
 //! The laboratory's command: factors systems on threads, solves them, checks archived results and shows files. `lab --help` tells how.
 
 mod arguments;
+mod closed;
 mod decimals;
 mod failure;
 mod files;

@@ -4,6 +4,7 @@ use std::fs::{self, File, OpenOptions};
 use std::io::{self, Write};
 use std::path::{Path, PathBuf};
 
+use crate::closed;
 use crate::failure::Failure;
 use crate::files::is_standard;
 
@@ -18,6 +19,7 @@ pub fn write(output: Option<&Path>, text: &[u8]) -> Result<(), Failure> {
 }
 
 fn to_standard(text: &[u8]) -> io::Result<()> {
+    closed::open_output()?;
     let mut standard = io::stdout().lock();
     standard.write_all(text)?;
     standard.flush()

@@ -102,6 +102,34 @@ fn closed_pipes() {
     assert_eq!(running.wait().unwrap().code(), Some(2));
 }
 
+/// The command begun by a shell that closes a descriptor first.
+fn begun_closed(closing: &str, words: &[&str]) -> common::Ended {
+    let line = format!("exec \"$0\" \"$@\" {closing}");
+    let mut shell = Command::new("sh");
+    shell.args(["-c", &line, env!("CARGO_BIN_EXE_lab")]).args(words).stdin(Stdio::null());
+    ended(shell.output().unwrap())
+}
+
+#[test]
+fn closed_descriptors() {
+    for words in [
+        &["factor", &example("reel.system"), "--workers", "2"][..],
+        &["solve", &example("small.system"), &example("small.right")],
+        &["verify", &example("small.system"), &example("small.result"), "--workers", "1"],
+        &["show", &example("small.system")],
+        &["--help"],
+    ] {
+        let said = one_line(begun_closed(">&-", words), 2);
+        assert_eq!(said, "standard output cannot be written: it is closed");
+    }
+    let said = one_line(begun_closed("<&-", &["show", "-"]), 2);
+    assert_eq!(said, "standard input cannot be read: it is closed");
+    let folder = Folder::new();
+    let words = ["factor", &example("small.system"), "--workers", "1", "--output", &folder.path("result")];
+    assert_eq!(begun_closed("<&- >&-", &words).status, 0);
+    assert_eq!(folder.names(), ["result"]);
+}
+
 /// A library loaded before the command sets its mode: rounding down, up, toward zero, flush to zero, denormals are zero.
 #[test]
 fn floating_point_mode() {

@@ -10,10 +10,10 @@ const MODES: [u32; 5] = [0x2000, 0x4000, 0x6000, 0x8000, 0x0040];
 
 /// What is done in a mode, which then ends: the thread's own mode is set again.
 fn in_mode<T>(mode: u32, action: impl FnOnce() -> T) -> T {
-    let (mut own, mut set) = (0u32, 0u32);
+    let mut own = 0u32;
     // SAFETY: only the mode bits change, with all exceptions masked, and they are set back below.
     unsafe { asm!("stmxcsr [{}]", in(reg) &mut own) };
-    set += own | mode;
+    let set = own | mode;
     unsafe { asm!("ldmxcsr [{}]", in(reg) &set) };
     let answer = action();
     unsafe { asm!("ldmxcsr [{}]", in(reg) &own) };
