@@ -68,18 +68,25 @@ fn unreadable_files() {
     assert!(said.starts_with("/dev/zero is longer than any file"), "{said}");
 }
 
+/// Each command, with words to which it has an answer.
+fn answering() -> [Vec<String>; 5] {
+    let (system, right, result) = ("small.system", "small.right", "small.result");
+    [
+        vec!["factor".into(), example("reel.system"), "--workers".into(), "2".into()],
+        vec!["solve".into(), example(system), example(right)],
+        vec!["verify".into(), example(system), example(result), "--workers".into(), "1".into()],
+        vec!["show".into(), example(system)],
+        vec!["--help".into()],
+    ]
+}
+
 /// No command ends well when its answer cannot be written.
 #[test]
 fn full_device() {
-    for words in [
-        &["factor", &example("reel.system"), "--workers", "2"][..],
-        &["solve", &example("small.system"), &example("small.right")],
-        &["verify", &example("small.system"), &example("small.result"), "--workers", "1"],
-        &["show", &example("small.system")],
-        &["--help"],
-    ] {
+    for words in answering() {
+        let words: Vec<&str> = words.iter().map(String::as_str).collect();
         let full = OpenOptions::new().write(true).open("/dev/full").unwrap();
-        let said = one_line(ended(command(words).stdout(full).stderr(Stdio::piped()).output().unwrap()), 2);
+        let said = one_line(ended(command(&words).stdout(full).stderr(Stdio::piped()).output().unwrap()), 2);
         assert!(said.starts_with("standard output cannot be written: "), "{said}");
     }
 }
@@ -112,14 +119,9 @@ fn begun_closed(closing: &str, words: &[&str]) -> common::Ended {
 
 #[test]
 fn closed_descriptors() {
-    for words in [
-        &["factor", &example("reel.system"), "--workers", "2"][..],
-        &["solve", &example("small.system"), &example("small.right")],
-        &["verify", &example("small.system"), &example("small.result"), "--workers", "1"],
-        &["show", &example("small.system")],
-        &["--help"],
-    ] {
-        let said = one_line(begun_closed(">&-", words), 2);
+    for words in answering() {
+        let words: Vec<&str> = words.iter().map(String::as_str).collect();
+        let said = one_line(begun_closed(">&-", &words), 2);
         assert_eq!(said, "standard output cannot be written: it is closed");
     }
     let said = one_line(begun_closed("<&-", &["show", "-"]), 2);
