@@ -3,7 +3,7 @@ use Prim.Native.Nat.{ℕ}
 use mathlib.Core.Path.{_≡_, refl, sym, ap, subst, _∙_}
 use mathlib.Core.List.{List}
 use lib.Ieee.{Float}
-use lib.ListN.{drop}
+use lib.ListN.{getD, drop}
 use Rattle.model.specs.declared.Answer.{Answer}
 use Rattle.worker.specs.declared.Worker.{Worker}
 use Rattle.worker.specs.declared.Workers.{Workers}
@@ -15,11 +15,15 @@ use Rattle.model.specs.Solve.{Answers}
 use Rattle.records.specs.Records.{allLent, OthersKept}
 use Rattle.host_answers.specs.declared.Told.{Told}
 use Rattle.host_answers.specs.Answers.{told, runTold}
-use Rattle.host_workers.specs.Workers.{bytesLeft}
+use Rattle.host_workers.specs.Workers.{workersIn, bytesLeft}
+use Rattle.host_workers.proofs.Laws.{own-left}
 use Rattle.host_calls.specs.Hosted.{Hosted, Kept, Called, Ran, Solved}
 
--- given and left are the workers in the arrays before and after; those by value are the same
-module _ (m m′ : List Float) (l l′ : List ℕ) (r r′ : List (List ℕ)) (b b′ : List ℕ) (given : Workers) (left : List Worker) (gathered : Workers) (g : gathered ≡ given) (t : Told) where
+-- b, t, c and left are the workers in the arrays before and after; those by value are the same
+module _ (m m′ : List Float) (l l′ : List ℕ) (r r′ : List (List ℕ)) (b b′ t c : List ℕ) (count : ℕ) (left : List Worker) (gathered : Workers) (g : gathered ≡ workersIn b t c count) (said : Told) where
+  abbrev given : Workers
+  given = workersIn b t c count
+
   abbrev before : Hosted
   before = record { matrix = m; lists = l; records = r; busy = b; workers = given }
 
@@ -37,10 +41,11 @@ module _ (m m′ : List Float) (l l′ : List ℕ) (r r′ : List (List ℕ)) (b
         same-slots = ap (drop (given .count)) s ∙ subst (λ (x : Workers). drop (x .count) (ws .slots) ≡ drop (x .count) (x .slots)) g (k .same-slots);
       };
       bytes = q ∙ ap (bytesLeft b) (sym s);
+      own = λ v h e. ap (λ (x : List ℕ). getD x v 0) (q ∙ ap (bytesLeft b) (sym s)) ∙ own-left b t c left v h e;
     }
 
   pub call-said : (call : Lent → Reply) (reply : CallReply) → _≡_ {A = Reply} (record { answer = reply .answer; left = allLent m′ l′ r′ (reply .workers) }) (call (allLent m l r gathered))
-      → OthersKept gathered (reply .workers) → left ≡ reply .workers .slots → b′ ≡ bytesLeft b (reply .workers .slots) → t ≡ told (reply .answer) → Called call before after t
+      → OthersKept gathered (reply .workers) → left ≡ reply .workers .slots → b′ ≡ bytesLeft b (reply .workers .slots) → said ≡ told (reply .answer) → Called call before after said
   call-said call reply e k s q a = record {
     tells = a ∙ ap (λ (x : Reply). told (x .answer)) e ∙ ap (λ x. told (call (allLent m l r x) .answer)) g;
     leaves = ap (allLent m′ l′ r′) (back (reply .workers) k s q) ∙ ap (λ (x : Reply). x .left) e ∙ ap (λ x. call (allLent m l r x) .left) g;
@@ -48,7 +53,7 @@ module _ (m m′ : List Float) (l l′ : List ℕ) (r r′ : List (List ℕ)) (b
   }
 
   pub run-said : (call : Lent → RunEnd) (reply : RunReply) → _≡_ {A = RunEnd} (record { answer = reply .answer; left = allLent m′ l′ r′ (reply .workers) }) (call (allLent m l r gathered))
-      → OthersKept gathered (reply .workers) → left ≡ reply .workers .slots → b′ ≡ bytesLeft b (reply .workers .slots) → t ≡ runTold (reply .answer) → Ran call before after t
+      → OthersKept gathered (reply .workers) → left ≡ reply .workers .slots → b′ ≡ bytesLeft b (reply .workers .slots) → said ≡ runTold (reply .answer) → Ran call before after said
   run-said call reply e k s q a = record {
     tells = a ∙ ap (λ (x : RunEnd). runTold (x .answer)) e ∙ ap (λ x. runTold (call (allLent m l r x) .answer)) g;
     leaves = ap (allLent m′ l′ r′) (back (reply .workers) k s q) ∙ ap (λ (x : RunEnd). x .left) e ∙ ap (λ x. call (allLent m l r x) .left) g;

@@ -1,9 +1,12 @@
 -- What a host lends to a call, and what the call tells and leaves. Assumes nothing.
-use Prim.Native.Nat.{ℕ}
+use Prim.Native.Nat.{ℕ, _<_}
 use mathlib.Core.Path.{_≡_}
 use mathlib.Core.List.{List}
 use lib.Ieee.{Float}
+use lib.ListN.{getD}
 use Rattle.worker.specs.declared.Workers.{Workers}
+use Rattle.worker.specs.Holding.{idle}
+use Rattle.model.specs.Limits.{mostWorkers}
 use Rattle.model.specs.Calls.{Lent, RunEnd}
 use Rattle.model.specs.Refusal.{Reply}
 use Rattle.model.specs.Solve.{Answers}
@@ -26,10 +29,11 @@ hosted m l r b t c count = record { matrix = m; lists = l; records = r; busy = b
 abbrev pub lentIn : Hosted → Lent
 lentIn h = allLent (h .matrix) (h .lists) (h .records) (h .workers)
 
--- the slots of other workers stay, and so does each byte that says what it should: where a call is refused, all of them
+-- the slots of other workers stay; the bytes are those left by what was there, and a worker that stays as it was keeps its own
 pub record Kept (before after : Hosted) : Type 0 where
   pub others : OthersKept (before .workers) (after .workers)
   pub bytes : after .busy ≡ bytesLeft (before .busy) (after .workers .slots)
+  pub own : (v : ℕ) → v < mostWorkers → getD (after .workers .slots) v idle ≡ getD (before .workers .slots) v idle → getD (after .busy) v 0 ≡ getD (before .busy) v 0
 
 -- an opening, a take or a column: it tells its answer, leaves what it leaves, and keeps the rest
 pub record Called (call : Lent → Reply) (before after : Hosted) (r : Told) : Type 0 where

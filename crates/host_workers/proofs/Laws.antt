@@ -12,7 +12,7 @@ use lib.Seq.{getD-set-same, getD-set-other}
 use Rattle.worker.specs.declared.Worker.{Worker}
 use Rattle.worker.specs.Holding.{idle}
 use Rattle.laws.proofs.Tests.{lt-or-le}
-use Rattle.laws.proofs.Blocks.{table-unique}
+use Rattle.laws.proofs.Blocks.{getD-table, table-unique}
 use Rattle.host_workers.specs.Workers.{saysBusy, workerIn, slotsIn, byteLeft, bytesLeft}
 
 -- ---- the byte that is left
@@ -54,6 +54,12 @@ module _ (x : ℕ) where
   says-left true = says-busy (saysBusy x) refl
   says-left false = says-idle (saysBusy x) refl
 
+  -- one that says so already stays
+  pub stays : (b : Bool) → b ≡ saysBusy x → byteLeft x b ≡ x
+  unfolding byteLeft
+  stays true e = rw (sym e)
+  stays false e = rw (sym e)
+
 -- ---- all slots
 
 -- the first v workers are those of the lists
@@ -70,6 +76,13 @@ pub record Left (given b : List ℕ) (ws : List Worker) (v : ℕ) : Type 0 where
   pub left : (i : ℕ) → i < v → getD b i 0 ≡ byteLeft (getD given i 0) (getD ws i idle .busy)
 
 module _ (b t c : List ℕ) (ws : List Worker) where
+  -- a worker that stays as it was keeps its byte
+  pub own-left : (v : ℕ) → v < 32 → getD ws v idle ≡ getD (slotsIn b t c) v idle → getD (bytesLeft b ws) v 0 ≡ getD b v 0
+  unfolding bytesLeft slotsIn workerIn
+  own-left v l e =
+      getD-table 32 (λ i. byteLeft (getD b i 0) (getD ws i idle .busy)) v 0 l
+      ∙ stays (getD b v 0) (getD ws v idle .busy) (ap (λ (w : Worker). w .busy) (e ∙ getD-table 32 (workerIn b t c) v idle l))
+
   module _ (v : ℕ) (h : Alike b t c ws v) (l : v < 32) where
     pub gathered : (w : Worker) → w ≡ workerIn b t c v → Alike b t c (set ws v w) (v + 1)
     gathered w e = record {

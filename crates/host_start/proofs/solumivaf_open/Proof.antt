@@ -27,7 +27,7 @@ returns : tie.Need-returns
 returns c =
     let a = c .before .before .before .before .before .before .before .before .before .before .before .before .before .before .before .before .before .before .args in
     let e = c .before .before .before .before .before .before .before .before .before in
-    call-said (a .matrix .now) (a .matrix .now) (a .lists .now) (e .«open» .last .1 .1 .0) (a .records .now) (e .«open» .last .1 .1 .1 .0) (a .busy .now) _ _ _ (e .before .before .before .gather .result) (e .before .before .before .gather .ensures) (c .tell .result) (openCall (record { tiles = a .tiles; side = a .side; workers = a .workers })) (e .«open» .result) (e .«open» .ensures .0) (e .«open» .ensures .1) (c .before .scatter .ensures .0) (c .before .scatter .ensures .1) (c .tell .ensures)
+    call-said (a .matrix .now) (a .matrix .now) (a .lists .now) (e .«open» .last .1 .1 .0) (a .records .now) (e .«open» .last .1 .1 .1 .0) (a .busy .now) _ (a .task .now) (a .column .now) (a .count) _ (e .before .before .before .gather .result) (e .before .before .before .gather .ensures) (c .tell .result) (openCall (record { tiles = a .tiles; side = a .side; workers = a .workers })) (e .«open» .result) (e .«open» .ensures .0) (e .«open» .ensures .1) (c .before .scatter .ensures .0) (c .before .scatter .ensures .1) (c .tell .ensures)
 
 pub solumivaf-open-spec : {M : Type 1} → statement M
 solumivaf-open-spec =
