@@ -104,11 +104,7 @@ fn told(words: &[OsString], name: &str, files: &[&str], options: &[&str]) -> Res
         seen.push(shown);
     }
     if told.files.len() != files.len() {
-        return usage(format!(
-            "{name} takes {}, and {} files are told",
-            files.join(" and "),
-            told.files.len()
-        ));
+        return usage(format!("{name} takes {}; files told: {}", files.join(" and "), told.files.len()));
     }
     apart(&told)?;
     Ok(told)
