@@ -396,7 +396,7 @@ class Declared(unittest.TestCase):
 
     KINDS = {"size_t": ctypes.c_size_t, "uint64_t": ctypes.c_uint64, "uint16_t": ctypes.c_uint16, "uint8_t": ctypes.c_uint8,
              "double *": ctypes.POINTER(ctypes.c_double), "uint8_t *": ctypes.POINTER(ctypes.c_uint8),
-             "solumivaf_record *": ctypes.POINTER(solumivaf.Record), "uint16_t *": None}
+             "solumivaf_record *": ctypes.POINTER(solumivaf.Record)}
     SLOTS = {"busy": ctypes.c_uint8, "task": ctypes.c_uint16, "column": ctypes.c_uint8}
 
     def kind(self, declared):
