@@ -251,17 +251,33 @@ fn rattle_columns(kind: usize, s: &Shape, k: usize, i: usize, x: &mut Lent) {
     }
 }
 
-fn kernels(table: &mut Table, t: usize, rounds: usize) {
-    let s = black_box(Shape { tiles: 2, side: t });
-    let mut start = fresh(&s, 7);
-    // lists that ask for exchanges: entry c names a row from c on, and a lower row
+/// The systems whose columns are timed, by their seeds. Which branches are foreseen, and so a small column's time, depends on the numbers.
+const SYSTEMS: std::ops::Range<u64> = 1..25;
+
+/// A system with lists that ask for exchanges: entry c names a row from c on, and a lower row.
+fn with_exchanges(s: &Shape, seed: u64) -> Lent {
+    let t = s.side;
+    let mut start = fresh(s, seed);
     for c in 0..t {
         start.to.lists[c] = (c + (t - c) / 2).min(t - 1) as u8;
         start.to.lists[2 * t + c] = (c % 3) as u8;
     }
+    start
+}
+
+/// The mean over the systems, so many rounds with each.
+fn kernels(table: &mut Table, t: usize, rounds: usize) {
+    let s = black_box(Shape { tiles: 2, side: t });
     let (k, i) = black_box((0, 1));
+    let systems = SYSTEMS.count();
     // all t columns of a task, so that each column's share counts
-    let each = [1, 2, 3, 4].map(|kind| compare(rounds, 20, &start, versions!(plain_columns, |x| kind, &s, k, i, x), |x| rattle_columns(kind, &s, k, i, x)).over(t));
+    let each = [1, 2, 3, 4].map(|kind| {
+        let times = SYSTEMS.map(|seed| {
+            let start = with_exchanges(&s, seed);
+            compare(rounds, 20, &start, versions!(plain_columns, |x| kind, &s, k, i, x), |x| rattle_columns(kind, &s, k, i, x))
+        });
+        times.reduce(|a, b| a.plus(&b)).unwrap().over(t * systems)
+    });
     for (x, times) in each.iter().enumerate() {
         table.row(format!("T-{}, a column, t = {t}", x + 1), times.clone());
     }
@@ -432,7 +448,7 @@ fn main() {
     let mut table = Table::default();
     for _ in 0..3 {
         for t in [4, 8, 16] {
-            kernels(&mut table, t, 500 * more);
+            kernels(&mut table, t, 100 * more);
         }
         for (tiles, t) in [(1, 16), (2, 2), (4, 4), (8, 8), (16, 1), (16, 4), (16, 16)] {
             runs(&mut table, tiles, t, if tiles * t == 256 { 50 } else { 200 } * more);

@@ -118,6 +118,57 @@ fn crafted_doubles() -> Vec<Case> {
     cases
 }
 
+/// Candidates of a pivot search, so many: each place wins, with either sign; each two places tie; all rise, all fall; the last differs by one bit,
+/// or from zeros by the smallest number; largest numbers tie; zeros of both signs.
+fn contests(count: usize) -> Vec<Vec<f64>> {
+    let ones: Vec<f64> = (0..count).map(|place| if place % 2 == 0 { 1.0 } else { -1.0 }).collect();
+    let with = |numbers: &[f64], place: usize, number: f64| {
+        let mut numbers = numbers.to_vec();
+        numbers[place] = number;
+        numbers
+    };
+    let mut all = Vec::new();
+    for place in 0..count {
+        all.push(with(&ones, place, 2.0));
+        all.push(with(&ones, place, -2.0));
+        for later in place + 1..count {
+            all.push(with(&with(&ones, place, -2.0), later, 2.0));
+        }
+    }
+    all.push((0..count).map(|place| 2.0_f64.powi(place as i32)).collect());
+    all.push((0..count).map(|place| -(2.0_f64.powi(-(place as i32)))).collect());
+    all.push(with(&ones, count - 1, f64::from_bits(1.0_f64.to_bits() + 1)));
+    all.push(with(&vec![-0.0; count], count - 1, -S));
+    all.push(with(&vec![M; count], count - 1, -M));
+    all.push(with(&vec![-0.0; count], count - 1, 0.0));
+    all.push(with(&vec![0.0; count], count - 1, -0.0));
+    all
+}
+
+/// Each contest in each column of T-1 and of T-3, t = 3.
+fn crafted_searches() -> Vec<Case> {
+    let mut cases = Vec::new();
+    for column in 0..3 {
+        for numbers in contests(3 - column) {
+            let mut tile: Vec<f64> = (3..12).map(f64::from).collect();
+            for (row, number) in (column..).zip(numbers) {
+                tile[row * 3 + column] = number;
+            }
+            cases.push(crafted(1, 3, column, [&tile, &[1.0; 9], &[1.0; 9], &[1.0; 9]]));
+        }
+        for numbers in contests(4) {
+            let mut upper: Vec<f64> = (3..12).map(f64::from).collect();
+            let mut lower: Vec<f64> = (13..22).map(f64::from).collect();
+            upper[column * 3 + column] = numbers[0];
+            for row in 0..3 {
+                lower[row * 3 + column] = numbers[row + 1];
+            }
+            cases.push(crafted(3, 3, column, [&upper, &[1.0; 9], &lower, &[1.0; 9]]));
+        }
+    }
+    cases
+}
+
 /// Entries valid for their place.
 pub fn random_lists(rng: &mut Rng, shape: Shape) -> Vec<u8> {
     let mut lists = Vec::new();
@@ -184,6 +235,7 @@ pub fn all_cases(seed: u64) -> Vec<Case> {
     let mut rng = Rng::new(seed);
     let mut cases = crafted_singles();
     cases.extend(crafted_doubles());
+    cases.extend(crafted_searches());
     for kind in 1..=4 {
         for family in 0..FAMILIES {
             for side in [2, 3] {

@@ -1,4 +1,4 @@
-//! A second program for document 01 and K2 of document 02, written from the papers alone, to check another
+//! A second program for document 01, and K2 and K4 of document 02, written from the papers alone, to check another
 //! one against. Straight loops in the order of the document; nothing here is made to be fast.
 
 pub mod calls;
@@ -19,6 +19,7 @@ pub mod parts;
 pub mod read;
 pub mod rng;
 pub mod script;
+pub mod search;
 pub mod solve;
 pub mod tasks;
 pub mod texts;

@@ -3,6 +3,7 @@
 use std::cmp::Ordering;
 
 use crate::numbers::{divide, update};
+use crate::search::{search, Pivot};
 use crate::tasks::Task;
 
 /// N and t, both known to be in range.
@@ -66,15 +67,8 @@ pub fn work_column(shape: Shape, matrix: &mut [f64], lists: &mut [u8], task: Tas
 /// T-1: pivot among rows c and below, whole rows exchanged, multipliers, update to the right.
 fn factor_column(shape: Shape, matrix: &mut [f64], lists: &mut [u8], k: usize, c: usize) -> Option<()> {
     let t = shape.side;
-    let mut row = c;
-    let mut magnitude = matrix[shape.element(k, k, c, c)].abs();
-    for r in c + 1..t {
-        let candidate = matrix[shape.element(k, k, r, c)].abs();
-        if candidate > magnitude {
-            row = r;
-            magnitude = candidate;
-        }
-    }
+    let candidates: Vec<f64> = (c..t).map(|r| matrix[shape.element(k, k, r, c)]).collect();
+    let Pivot { row, magnitude } = search(c, &candidates);
     if magnitude == 0.0 {
         lists[shape.entry(k, k, c)] = c as u8;
         return Some(());
@@ -131,19 +125,14 @@ fn couple_column(
     c: usize,
 ) -> Option<()> {
     let t = shape.side;
-    let mut entry = 0;
-    let mut magnitude = matrix[shape.element(k, k, c, c)].abs();
-    for r in 0..t {
-        let candidate = matrix[shape.element(i, k, r, c)].abs();
-        if candidate > magnitude {
-            entry = r + 1;
-            magnitude = candidate;
-        }
-    }
-    lists[shape.entry(i, k, c)] = entry as u8;
+    let mut candidates = vec![matrix[shape.element(k, k, c, c)]];
+    candidates.extend((0..t).map(|r| matrix[shape.element(i, k, r, c)]));
+    let Pivot { row: entry, magnitude } = search(0, &candidates);
     if magnitude == 0.0 {
+        lists[shape.entry(i, k, c)] = 0;
         return Some(());
     }
+    lists[shape.entry(i, k, c)] = entry as u8;
     if entry > 0 {
         for s in c..t {
             matrix.swap(shape.element(k, k, c, s), shape.element(i, k, entry - 1, s));

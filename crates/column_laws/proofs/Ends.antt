@@ -3,7 +3,8 @@ use mathlib.Core.Path.{_≡_, refl, sym, _∙_, ap}
 use mathlib.Core.Logic.{inr}
 use mathlib.Core.Bool.{Bool, true, false, cond}
 use mathlib.Core.List.{List}
-use Prim.Native.Nat.{ℕ, suc, _+_, _-_, _*_, _<_, _≤_}
+use Prim.Native.Nat.{ℕ, suc, _+_, _*_, _<_, _≤_}
+use native.Mathlib.Nat.{zero-add}
 use native.Mathlib.Omega.{arith}
 use lib.Dec.{eqb}
 use lib.ListN.{length, getD, set, replicate, length-replicate}
@@ -13,6 +14,7 @@ use Rattle.model.specs.Lists.{every, part, withPart}
 use Rattle.model.specs.Num.{finite, plusZero, isZero}
 use Rattle.model.specs.Tile.{at, zeros, upperFilled}
 use Rattle.model.specs.Column.{applyStart, factorPivot, couplePivot}
+use Rattle.model.specs.Best.{FactorTold, CoupleTold}
 use Rattle.model.specs.Task.{Task, T-1, T-2, T-3, T-4}
 use Rattle.model.specs.Links.{taken, done, failed}
 use Rattle.model.specs.Plan.{Plan, plan}
@@ -20,6 +22,7 @@ use Rattle.model.specs.Buffer.{Buffers, tile, putTile, putRows, tileOf, withTil
 use Rattle.laws.specs.Apart.{Apart}
 use Rattle.laws.proofs.Parts.{Fits, length-put, part-put, part-other, put-put, length-part}
 use Rattle.column_laws.specs.Steps.{tileStart, listStart, RowsApplied, appliedBlock, RowsPaired, upperAt, lowerAt, withTwo, TileFactored, factored, exchangedAt, TilesCoupled, eliminatedRows}
+use Rattle.column_laws.proofs.Pivots.{told-zero}
 use Rattle.column_laws.proofs.Two.{put-upper, put-lower}
 use Rattle.column_laws.proofs.Pairs.{length-upper, length-paired, length-eliminated, length-factored, length-applied}
 use Rattle.column_laws.proofs.Permutes.{length-start}
@@ -150,38 +153,43 @@ module _ (N t k j c a b : ℕ) (m : List Float) (l : List ℕ) (ha : a ≡ tileS
       (rw (apply-worked N t c m l k j, apply-filled N t, ← ha, ← hb) (ap (λ (y : List Float). record { matrix = y; lists = l }) (q ∙ stopped ∙ sym whole)))
       (sym apply-sound ∙ h)
 
--- ---- T-1: f is the pivot found in the tile at a
+-- ---- T-1: f is what the search told of the tile at a, and l′ the lists with its row
 
 module _ (N t k c a b : ℕ) (ha : a ≡ tileStart N t k k) (hb : b ≡ listStart N t k k) (hc : c < t) (m : List Float) (l l′ : List ℕ) (lists : b + t ≤ length l)
-    (f : Pivot) (hf : f ≡ factorPivot t c (part a (t * t) m)) where
+    (f : Pivot) (told : FactorTold t c (part a (t * t) m) f) (hl : l′ ≡ set l (b + c) (f .place)) where
   lists-here : listStart N t k k + t ≤ length l
   lists-here = rw (← hb) lists
 
-  pivot-is : f ≡ factorPivot t c (part (tileStart N t k k) (t * t) m)
-  pivot-is = hf ∙ rw ha
+  pivot-is : f ≡ record { place = c + factorPivot t c (part (tileStart N t k k) (t * t) m) .place; magnitude = factorPivot t c (part (tileStart N t k k) (t * t) m) .magnitude }
+  unfolding factorPivot
+  pivot-is = told .told ∙ rw ha
 
-  -- a pivot of zero: nothing is computed
-  pub factor-skips : (mark : ℕ) → isZero (f .magnitude) ≡ true → l′ ≡ set l (b + c) c → mark ≡ cond (eqb (suc c) t) done taken
+  magnitude-is : f .magnitude ≡ factorPivot t c (part (tileStart N t k k) (t * t) m) .magnitude
+  magnitude-is = ap (λ (p : Pivot). p .magnitude) pivot-is
+
+  row-is : c + factorPivot t c (part (tileStart N t k k) (t * t) m) .place ≡ f .place
+  row-is = ap (λ (p : Pivot). p .place) (sym pivot-is)
+
+  -- a pivot of zero stands in row c, and nothing is computed
+  pub factor-skips : (mark : ℕ) → isZero (f .magnitude) ≡ true → mark ≡ cond (eqb (suc c) t) done taken
       → record { left = record { matrix = m; lists = l′ }; mark = mark } ≡ columnEnds (plan N t) (T-1 k) c (record { matrix = m; lists = l })
   unfolding plan sound every
-  factor-skips mark z e q =
-      let zero = rw pivot-is at z in
+  factor-skips mark z q =
+      let zero = rw magnitude-is at z in
+      let first : f .place ≡ c = told-zero _ c c _ f told z in
       ends-sound (plan N t) (T-1 k) c (record { matrix = m; lists = l }) (record { matrix = m; lists = l′ }) mark
-      (rw (e, hb) (sym (factor-skipped N t c m l k hc lists-here zero))) (ap (every finite) (factor-none N t c m l k zero)) q
+      (rw (hl, first, hb) (sym (factor-skipped N t c m l k hc lists-here zero))) (ap (every finite) (factor-none N t c m l k zero)) q
 
-  module _ (y : ℕ) (room : a + t * t ≤ length m) (nz : isZero (f .magnitude) ≡ false) (hy : y ≡ c + f .place) (hl : l′ ≡ set l (b + c) y)
-      (after : List Float) (answer : Bool) (p : TileFactored t c y a m after answer) where
+  module _ (room : a + t * t ≤ length m) (nz : isZero (f .magnitude) ≡ false)
+      (after : List Float) (answer : Bool) (p : TileFactored t c (f .place) a m after answer) where
     some : isZero (factorPivot t c (part (tileStart N t k k) (t * t) m) .magnitude) ≡ false
-    some = rw pivot-is at nz
-
-    row-is : c + factorPivot t c (part (tileStart N t k k) (t * t) m) .place ≡ y
-    row-is = rw (← pivot-is) (sym hy)
+    some = rw magnitude-is at nz
 
     factor-sound : answer ≡ sound (plan N t) (T-1 k) c (record { matrix = m; lists = l })
     unfolding sound
     factor-sound = p .sound ∙ rw (factor-computed N t c m l k some, row-is, ← ha)
 
-    worked-is : worked (plan N t) (T-1 k) c (record { matrix = m; lists = l }) ≡ record { matrix = withPart a (t * t) (factored t c (exchangedAt t c y a m)) m; lists = l′ }
+    worked-is : worked (plan N t) (T-1 k) c (record { matrix = m; lists = l }) ≡ record { matrix = withPart a (t * t) (factored t c (exchangedAt t c (f .place) a m)) m; lists = l′ }
     worked-is = factor-worked N t c m l k hc lists-here some ∙ rw (row-is, ← ha, ← hb, ← hl)
 
     pub factor-ends : (mark : ℕ) → answer ≡ true → mark ≡ cond (eqb (suc c) t) done taken
@@ -197,45 +205,46 @@ module _ (N t k c a b : ℕ) (ha : a ≡ tileStart N t k k) (hb : b ≡ listStar
         let n = t * t in
         let stopped : withPart a n (zeros n) after ≡ withPart a n (zeros n) m =
         ap (withPart a n (zeros n)) (p .frame) ∙ put-put n nan a m (part a n after) (record { whole = length-part a n after (rw (p .long) room); room = room }) (zeros n) in
-        let whole = put-put n nan a m (factored t c (exchangedAt t c y a m)) (record { whole = length-factored t c _; room = room }) (zeros n) in
+        let whole = put-put n nan a m (factored t c (exchangedAt t c (f .place) a m)) (record { whole = length-factored t c _; room = room }) (zeros n) in
         ends-failed (plan N t) (T-1 k) c (record { matrix = m; lists = l }) (record { matrix = last; lists = l″ })
         (rw (worked-is, factor-filled N t, ← ha, ← hb, ← q′) (ap (λ (x : List Float). record { matrix = x; lists = l″ }) (q ∙ stopped ∙ sym whole)))
         (sym factor-sound ∙ h)
 
--- ---- T-3: f is the pivot found in the tiles at u and d
+-- ---- T-3: f is what the search told of the tiles at u and d, and l′ the lists with its entry
 
 module _ (N t k i c u d b : ℕ) (hu : u ≡ tileStart N t k k) (hd : d ≡ tileStart N t i k) (hb : b ≡ listStart N t i k) (hc : c < t) (m : List Float) (l l′ : List ℕ)
-    (lists : b + t ≤ length l) (f : Pivot) (hf : f ≡ couplePivot t c (part u (t * t) m) (part d (t * t) m)) where
+    (lists : b + t ≤ length l) (f : Pivot) (told : CoupleTold t c (part u (t * t) m) (part d (t * t) m) f) (hl : l′ ≡ set l (b + c) (f .place)) where
   list-here : listStart N t i k + t ≤ length l
   list-here = rw (← hb) lists
 
   found-is : f ≡ couplePivot t c (part (tileStart N t k k) (t * t) m) (part (tileStart N t i k) (t * t) m)
-  found-is = hf ∙ rw (hu, hd)
+  unfolding couplePivot
+  found-is = told .told ∙ rw (hu, hd, zero-add (couplePivot t c (part (tileStart N t k k) (t * t) m) (part (tileStart N t i k) (t * t) m) .place))
 
-  pub couple-skips : (mark : ℕ) → isZero (f .magnitude) ≡ true → l′ ≡ set l (b + c) 0 → mark ≡ cond (eqb (suc c) t) done taken
+  pub couple-skips : (mark : ℕ) → isZero (f .magnitude) ≡ true → mark ≡ cond (eqb (suc c) t) done taken
       → record { left = record { matrix = m; lists = l′ }; mark = mark } ≡ columnEnds (plan N t) (T-3 k i) c (record { matrix = m; lists = l })
   unfolding plan sound every
-  couple-skips mark z e q =
+  couple-skips mark z q =
       let zero = rw found-is at z in
+      let first : f .place ≡ 0 = told-zero _ 0 c _ f told z in
       ends-sound (plan N t) (T-3 k i) c (record { matrix = m; lists = l }) (record { matrix = m; lists = l′ }) mark
-      (rw (e, hb) (sym (couple-skipped N t c m l k i hc list-here zero))) (ap (every finite) (couple-none N t c m l k i zero)) q
+      (rw (hl, first, hb) (sym (couple-skipped N t c m l k i hc list-here zero))) (ap (every finite) (couple-none N t c m l k i zero)) q
 
-  module _ (e : ℕ) (ru : u + t * t ≤ length m) (rd : d + t * t ≤ length m) (apart : Apart (t * t) u d)
-      (nz : isZero (f .magnitude) ≡ false) (he : e ≡ f .place) (hl : l′ ≡ set l (b + c) e)
-      (after : List Float) (answer : Bool) (p : TilesCoupled t c e u d m after answer) where
+  module _ (ru : u + t * t ≤ length m) (rd : d + t * t ≤ length m) (apart : Apart (t * t) u d)
+      (nz : isZero (f .magnitude) ≡ false) (after : List Float) (answer : Bool) (p : TilesCoupled t c (f .place) u d m after answer) where
     found : isZero (couplePivot t c (part (tileStart N t k k) (t * t) m) (part (tileStart N t i k) (t * t) m) .magnitude) ≡ false
     found = rw found-is at nz
 
-    entry-is : e ≡ couplePivot t c (part (tileStart N t k k) (t * t) m) (part (tileStart N t i k) (t * t) m) .place
-    entry-is = rw (← found-is) he
+    entry-is : f .place ≡ couplePivot t c (part (tileStart N t k k) (t * t) m) (part (tileStart N t i k) (t * t) m) .place
+    entry-is = ap (λ (p : Pivot). p .place) found-is
 
     couple-sound : answer ≡ sound (plan N t) (T-3 k i) c (record { matrix = m; lists = l })
     unfolding sound
-    couple-sound = p .sound ∙ rw (hu, hd) (ap (every finite) (sym (couple-computed N t c m l k i found e entry-is)))
+    couple-sound = p .sound ∙ rw (hu, hd) (ap (every finite) (sym (couple-computed N t c m l k i found (f .place) entry-is)))
 
     coupled-is : worked (plan N t) (T-3 k i) c (record { matrix = m; lists = l })
-        ≡ record { matrix = withTwo (t * t) u d (upperAt t t c c e u d m) (eliminatedRows t t c (at t (upperAt t t c c e u d m) c) (lowerAt t t c c e u d m)) m; lists = l′ }
-    coupled-is = couple-worked N t c m l k i hc list-here found e entry-is ∙ rw (hl, hu, hd, hb)
+        ≡ record { matrix = withTwo (t * t) u d (upperAt t t c c (f .place) u d m) (eliminatedRows t t c (at t (upperAt t t c c (f .place) u d m) c) (lowerAt t t c c (f .place) u d m)) m; lists = l′ }
+    coupled-is = couple-worked N t c m l k i hc list-here found (f .place) entry-is ∙ rw (hl, hu, hd, hb)
 
     pub couple-ends : (mark : ℕ) → answer ≡ true → mark ≡ cond (eqb (suc c) t) done taken
         → record { left = record { matrix = after; lists = l′ }; mark = mark } ≡ columnEnds (plan N t) (T-3 k i) c (record { matrix = m; lists = l })
@@ -249,10 +258,10 @@ module _ (N t k i c u d b : ℕ) (hu : u ≡ tileStart N t k k) (hd : d ≡ tile
         → record { left = record { matrix = last; lists = l″ }; mark = failed } ≡ columnEnds (plan N t) (T-3 k i) c (record { matrix = m; lists = l })
     couple-fails half last l″ h q q′ q″ =
         let n = t * t in
-        let x = upperAt t t c c e u d m in
-        let long = length-upper t t c c e u d m in
+        let x = upperAt t t c c (f .place) u d m in
+        let long = length-upper t t c c (f .place) u d m in
         let stopped = ap (withPart d n (zeros n)) (p .frame) ∙ put-lower n u d m apart ru rd x (part d n after) long (length-part d n after (rw (p .long) rd)) (zeros n) (length-zeros n) in
-        let whole = put-lower n u d m apart ru rd x (eliminatedRows t t c (at t x c) (lowerAt t t c c e u d m)) long (length-eliminated t t c _ _) (zeros n) (length-zeros n) in
+        let whole = put-lower n u d m apart ru rd x (eliminatedRows t t c (at t x c) (lowerAt t t c c (f .place) u d m)) long (length-eliminated t t c _ _) (zeros n) (length-zeros n) in
         ends-failed (plan N t) (T-3 k i) c (record { matrix = m; lists = l }) (record { matrix = last; lists = l″ })
         (rw (coupled-is, couple-filled N t, ← hu, ← hd, ← hb, ← q″, whole)
         (ap (λ (y : List Float). record { matrix = y; lists = l″ }) (q′ ∙ ap (λ (y : List Float). withPart u n (upperFilled t (part u n y)) y) (q ∙ stopped))))

@@ -33,12 +33,11 @@ pub fn couple_column(
     let p = list_start(n, t, i, k);
     let found = couple_pivot(matrix, t, u, d, c);
     let e = found.place;
+    lists[p + c] = e as u8;
     let magnitude = found.magnitude;
     if magnitude == 0.0 {
-        lists[p + c] = 0;
         return column_end(t, c);
     }
-    lists[p + c] = e as u8;
     if couple_rows(matrix, t, u, d, c, e) {
         return column_end(t, c);
     }

@@ -31,13 +31,12 @@ pub fn factor_column(
     let a = tile_start(n, t, k, k);
     let p = list_start(n, t, k, k);
     let found = factor_pivot(matrix, t, a, c);
-    let y = c + found.place;
+    let y = found.place;
+    lists[p + c] = y as u8;
     let magnitude = found.magnitude;
     if magnitude == 0.0 {
-        lists[p + c] = c as u8;
         return column_end(t, c);
     }
-    lists[p + c] = y as u8;
     if factor_rows(matrix, t, a, c, y) {
         return column_end(t, c);
     }

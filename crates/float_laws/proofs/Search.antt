@@ -1,128 +1,220 @@
--- The pivot search finds the largest magnitude, the first on a tie. Where that is a zero, all candidates are; otherwise all candidates
--- divided by the one found are finite, of magnitude at most 1. Assumes nothing.
-use mathlib.Core.Path.{_≡_, refl, sym, ap, ap₂, _∙_, subst}
-use mathlib.Core.Logic.{inl, inr}
-use Prim.Native.Nat.{ℕ, suc, _+_, _≤_, _<_}
-use native.Mathlib.Nat.{le-refl, le-suc, le-trans, le-of-suc-le-suc, eq-or-lt-of-le, add-zero, add-suc, suc-add, zero-lt-suc, not-suc-le-zero}
+-- The pivot search keeps the best of the candidates: of those so far after each one, and there is only one best. Where it is a zero, it is the first
+-- candidate; otherwise all candidates divided by it are finite, of magnitude at most 1. Assumes nothing.
+use mathlib.Core.Path.{_≡_, refl, sym, ap, _∙_, subst}
+use mathlib.Core.Logic.{_⊎_, inl, inr}
+use Prim.Native.Nat.{ℕ, zero, suc, _+_, _*_, _≤_, _<_}
+use native.Mathlib.Nat.{eq-or-lt-of-le, le-of-suc-le-suc, le-antisymm, zero-lt-suc, zero-mul, not-suc-le-zero}
 use native.Mathlib.Omega.{arith}
 use mathlib.Core.Bool.{Bool, true, false, cond}
-use mathlib.Core.List.{List, [], _∷_}
-use lib.ListN.{length, getD}
-use lib.Ieee.{Float, nan, lt}
-use Rattle.model.specs.Num.{finite, isZero, magnitude, exceeds, quotient}
+use mathlib.Core.List.{List, [], _∷_, _++_, append-nil, append-assoc}
+use lib.ListN.{length, getD, take, length-append, List·getD-append}
+use lib.Seq.{take-suc, length-take-le}
+use lib.IntN.{ℤ}
+use lib.Dec.{T}
+use lib.Ieee.{Float, nan, inf, fin, binary64, up, down, lt, eq, fits}
+use Rattle.model.specs.Lists.{every}
+use Rattle.model.specs.Num.{finite, plusZero, isZero, magnitude, exceeds, quotient}
+use Rattle.model.specs.Tile.{allFinite}
 use Rattle.model.specs.declared.Pivot.{Pivot}
 use Rattle.model.specs.Column.{better, searchFrom, search}
-use Rattle.float_laws.proofs.Finite.{magnitude-twice, zero-magnitude}
-use Rattle.float_laws.proofs.Order.{exceeds-irreflexive, largest-replaced, largest-is-first}
+use Rattle.model.specs.Best.{Best, Searched}
+use Rattle.laws.proofs.Every.{every-at, every-take, every-append}
+use Rattle.laws.proofs.Finite.{finite-get}
+use Rattle.laws.proofs.Tests.{never, and-left, lt-or-le}
+use Rattle.float_laws.proofs.Finite.{magnitude-twice, zero-magnitude, suc-is-not-zero}
+use Rattle.float_laws.proofs.Order.{exceeds-false, exceeds-irreflexive, largest-replaced, largest-is-first}
+use Rattle.float_laws.proofs.Tested.{zero-exponent}
 use Rattle.float_laws.proofs.Rounding.{within}
 use Rattle.float_laws.proofs.Quotient.{quotient-at-most-one}
 
--- of the n numbers g 0, .. , g (n - 1) the one found is the largest in magnitude, and the first one of that magnitude
-pub record Largest (g : ℕ → Float) (n : ℕ) (f : Pivot) : Type 0 where
-  pub inside : f .place < n
-  pub its-magnitude : f .magnitude ≡ magnitude (g (f .place))
-  pub none-larger : (i : ℕ) → i < n → exceeds (g i) (g (f .place)) ≡ false
-  pub first : (i : ℕ) → i < f .place → exceeds (g (f .place)) (g i) ≡ true
+-- ---- a magnitude in the place of the number
 
--- a magnitude in the place of the number
 pub exceeds-magnitude : (x y : Float) → exceeds x (magnitude y) ≡ exceeds x y
 unfolding exceeds
 exceeds-magnitude x y = ap (λ (a : Float). lt a (magnitude x)) (magnitude-twice y)
 
+pub magnitude-exceeds : (x y : Float) → exceeds (magnitude x) y ≡ exceeds x y
+unfolding exceeds
+magnitude-exceeds x y = ap (lt (magnitude y)) (magnitude-twice x)
+
+-- ---- one candidate more
+
 up-to {ℓ} : {A : Type ℓ} (i n : ℕ) → i < suc n → (i ≡ n → A) → (i < n → A) → A
 up-to i n h f g = elim (eq-or-lt-of-le (le-of-suc-le-suc h)) [ inl e ↦ f e | inr l ↦ g l ]
 
-module _ (g : ℕ → Float) where
-  -- one more candidate
-  larger : (n : ℕ) (f : Pivot) → ((i : ℕ) → i < suc n → finite (g i) ≡ true) → Largest g n f → exceeds (g n) (g (f .place)) ≡ true → Largest g (suc n) (record { place = n; magnitude = magnitude (g n) })
-  larger n f fin l h = record {
-    inside = le-refl (suc n);
-    its-magnitude = refl;
-    none-larger = λ i k. up-to i n k (λ e. ap (λ (j : ℕ). exceeds (g j) (g n)) e ∙ exceeds-irreflexive (g n)) (λ m. largest-replaced (g i) (g (f .place)) (g n) h (l .none-larger i m));
-    first = λ i k. largest-is-first (g i) (g (f .place)) (g n) (fin i (le-trans k (le-suc n))) h (l .none-larger i k);
-  }
-
-  kept : (n : ℕ) (f : Pivot) → Largest g n f → exceeds (g n) (g (f .place)) ≡ false → Largest g (suc n) f
-  kept n f l h = record {
-    inside = le-trans (l .inside) (le-suc n);
-    its-magnitude = l .its-magnitude;
-    none-larger = λ i k. up-to i n k (λ e. ap (λ (j : ℕ). exceeds (g j) (g (f .place))) e ∙ h) (λ m. l .none-larger i m);
-    first = l .first;
-  }
-
-  step : (n : ℕ) (f : Pivot) → ((i : ℕ) → i < suc n → finite (g i) ≡ true) → Largest g n f
-      → Largest g (suc n) (better f n (g n))
-  unfolding better
-  step n f fin l = go (exceeds (g n) (f .magnitude)) (sym (exceeds-magnitude (g n) (g (f .place))) ∙ ap (λ (z : Float). exceeds (g n) z) (sym (l .its-magnitude)))
+module _ (xs : List Float) (x : Float) where
+  last : getD (xs ++ x ∷ []) (length xs) nan ≡ x
+  last = go xs
     where
-      go : (b : Bool) → exceeds (g n) (g (f .place)) ≡ b → Largest g (suc n) (cond b (record { place = n; magnitude = magnitude (g n) }) f)
-      go true e = larger n f fin l e
-      go false e = kept n f l e
+      go : (ys : List Float) → getD (ys ++ x ∷ []) (length ys) nan ≡ x
+      go [] = refl
+      go (y ∷ ys) = go ys
 
-  -- the rest of them, ys, which stand from place n on
-  on : (ys : List Float) (n : ℕ) (f : Pivot) → ((i : ℕ) → i < length ys → getD ys i nan ≡ g (n + i)) → ((i : ℕ) → i < n + length ys → finite (g i) ≡ true)
-      → Largest g n f → Largest g (n + length ys) (searchFrom n f ys)
-  unfolding searchFrom
-  on [] n f same fin l = subst (λ (k : ℕ). Largest g k f) (sym (add-zero n)) l
-  on (y ∷ ys) n f same fin l =
-      let here : y ≡ g n = same 0 (zero-lt-suc (length ys)) ∙ ap g (add-zero n) in
-      subst (λ (k : ℕ). Largest g k (searchFrom (suc n) (better f n y) ys)) (suc-add n (length ys) ∙ sym (add-suc n (length ys)))
-      (on ys (suc n) (better f n y)
-      (λ i h. same (suc i) (more i (length ys) h) ∙ ap g (add-suc n i ∙ sym (suc-add n i)))
-      (λ i h. fin i (le-trans h (within n (length ys))))
-      (subst (λ (z : Float). Largest g (suc n) (better f n z)) (sym here)
-      (step n f (λ i h. fin i (le-trans h (here-too n (length ys)))) l)))
-    where
-      more : (i k : ℕ) → i < k → suc i < suc k
-      more i k h = omega arith
+  one-more : length (xs ++ x ∷ []) ≡ suc (length xs)
+  one-more = length-append xs (x ∷ []) ∙ (omega arith)
 
-      within : (n k : ℕ) → suc n + k ≤ n + suc k
-      within n k = omega arith
+  old : (n : ℕ) → n < length xs → getD (xs ++ x ∷ []) n nan ≡ getD xs n nan
+  old n h = List·getD-append xs (x ∷ []) nan n h
 
-      here-too : (n k : ℕ) → suc n ≤ n + suc k
-      here-too n k = omega arith
+  module _ (p : Pivot) (b : Best xs p) where
+    kept : exceeds x (p .magnitude) ≡ false → Best (xs ++ x ∷ []) p
+    kept h = record {
+      inside = omega (arith, b .inside, one-more);
+      own = b .own ∙ ap magnitude (sym (old (p .place) (b .inside)));
+      largest = λ n l.
+          up-to n (length xs) (omega (arith, one-more, l))
+          (λ e. ap (λ (y : Float). exceeds y (p .magnitude)) (ap (λ (i : ℕ). getD (xs ++ x ∷ []) i nan) e ∙ last) ∙ h)
+          (λ k. ap (λ (y : Float). exceeds y (p .magnitude)) (old n k) ∙ b .largest n k);
+      first = λ n l. ap (exceeds (p .magnitude)) (old n (omega (arith, b .inside, l))) ∙ b .first n l;
+    }
+
+    replaced : allFinite xs ≡ true → exceeds x (p .magnitude) ≡ true → Best (xs ++ x ∷ []) (record { place = length xs; magnitude = magnitude x })
+    replaced fine h = record {
+      inside = omega (arith, one-more);
+      own = ap magnitude (sym last);
+      largest = λ n l.
+          exceeds-magnitude (getD (xs ++ x ∷ []) n nan) x
+          ∙ up-to n (length xs) (omega (arith, one-more, l))
+          (λ e. ap (λ (y : Float). exceeds y x) (ap (λ (i : ℕ). getD (xs ++ x ∷ []) i nan) e ∙ last) ∙ exceeds-irreflexive x)
+          (λ k. ap (λ (y : Float). exceeds y x) (old n k) ∙ largest-replaced (getD xs n nan) (p .magnitude) x h (b .largest n k));
+      first = λ n l.
+          magnitude-exceeds x (getD (xs ++ x ∷ []) n nan) ∙ ap (exceeds x) (old n l)
+          ∙ largest-is-first (getD xs n nan) (p .magnitude) x (finite-get xs n fine l) h (b .largest n l);
+    }
+
+    pub best-next : allFinite xs ≡ true → Best (xs ++ x ∷ []) (better p (length xs) x)
+    unfolding better
+    best-next fine = go (exceeds x (p .magnitude)) refl
+      where
+        go : (c : Bool) → exceeds x (p .magnitude) ≡ c → Best (xs ++ x ∷ []) (cond c (record { place = length xs; magnitude = magnitude x }) p)
+        go true e = replaced fine e
+        go false e = kept e
 
 -- ---- the whole search
 
-pub search-finds : (xs : List Float) → 0 < length xs → ((i : ℕ) → i < length xs → finite (getD xs i nan) ≡ true) → Largest (λ i. getD xs i nan) (length xs) (search xs)
+pub best-one : (x : Float) → Best (x ∷ []) (record { place = 0; magnitude = magnitude x })
+best-one x = record {
+  inside = omega arith;
+  own = refl;
+  largest = λ n l. let e : 0 ≡ n = omega arith in subst (λ (i : ℕ). exceeds (getD (x ∷ []) i nan) (magnitude x) ≡ false) e (exceeds-magnitude x x ∙ exceeds-irreflexive x);
+  first = λ n l. absurd (not-suc-le-zero l);
+}
+
+-- from the best of xs on through ys
+best-on : (ys xs : List Float) (p : Pivot) → allFinite (xs ++ ys) ≡ true → Best xs p → Best (xs ++ ys) (searchFrom (length xs) p ys)
+unfolding searchFrom allFinite
+best-on [] xs p fine b = subst (λ (l : List Float). Best l p) (sym (append-nil xs)) b
+best-on (y ∷ ys) xs p fine b =
+    let e : (xs ++ y ∷ []) ++ ys ≡ xs ++ y ∷ ys = append-assoc xs (y ∷ []) ys in
+    let before : every finite xs ≡ true = and-left (every finite xs) (every finite (y ∷ ys)) (sym (every-append finite xs (y ∷ ys)) ∙ fine) in
+    rw (← e, ← one-more xs y) (best-on ys (xs ++ y ∷ []) (better p (length xs) y) (rw e fine) (best-next xs y p b before))
+
+pub search-best : (xs : List Float) → 0 < length xs → allFinite xs ≡ true → Best xs (search xs)
 unfolding search
-search-finds [] h fin = absurd (not-suc-le-zero h)
-search-finds (x ∷ xs) h fin =
-    subst (λ (k : ℕ). Largest (λ i. getD (x ∷ xs) i nan) k (searchFrom 1 (record { place = 0; magnitude = magnitude x }) xs)) (count (length xs))
-    (on (λ i. getD (x ∷ xs) i nan) xs 1 (record { place = 0; magnitude = magnitude x })
-    (λ i k. sym (ap (λ (j : ℕ). getD (x ∷ xs) j nan) (count i)))
-    (λ i k. fin i (subst (λ (n : ℕ). i < n) (count (length xs)) k))
-    (record {
-      inside = le-refl 1;
-      its-magnitude = refl;
-      none-larger = λ i k. subst (λ (j : ℕ). exceeds (getD (x ∷ xs) j nan) x ≡ false) (sym (only i k)) (exceeds-irreflexive x);
-      first = λ i k. absurd (not-suc-le-zero k);
-    }))
+search-best [] h fine = absurd (not-suc-le-zero h)
+search-best (x ∷ xs) h fine = best-on xs (x ∷ []) (record { place = 0; magnitude = magnitude x }) fine (best-one x)
+
+-- one candidate more is compared with what was found before it
+searched-on : (ys : List Float) (n : ℕ) (p : Pivot) (y : Float) → searchFrom n p (ys ++ y ∷ []) ≡ better (searchFrom n p ys) (n + length ys) y
+unfolding searchFrom
+searched-on [] n p y = ap (λ (i : ℕ). better p i y) (omega arith)
+searched-on (x ∷ xs) n p y = let e : suc n + length xs ≡ n + suc (length xs) = omega arith in searched-on xs (suc n) (better p n x) y ∙ rw e
+
+search-next : (xs : List Float) (y : Float) → 0 < length xs → search (xs ++ y ∷ []) ≡ better (search xs) (length xs) y
+unfolding search
+search-next [] y h = absurd (not-suc-le-zero h)
+search-next (x ∷ xs) y h = let e : 1 + length xs ≡ suc (length xs) = omega arith in searched-on xs 1 (record { place = 0; magnitude = magnitude x }) y ∙ rw e
+
+-- ---- there is one best
+
+-- the magnitude found, by the number that has it
+found-exceeds : (xs : List Float) (p : Pivot) (y : Float) → Best xs p → exceeds (p .magnitude) y ≡ exceeds (getD xs (p .place) nan) y
+found-exceeds xs p y b = ap (λ (a : Float). exceeds a y) (b .own) ∙ magnitude-exceeds (getD xs (p .place) nan) y
+
+exceeds-found : (xs : List Float) (p : Pivot) (y : Float) → Best xs p → exceeds y (p .magnitude) ≡ exceeds y (getD xs (p .place) nan)
+exceeds-found xs p y b = ap (exceeds y) (b .own) ∙ exceeds-magnitude y (getD xs (p .place) nan)
+
+not-before : (xs : List Float) (p q : Pivot) → Best xs p → Best xs q → p .place < q .place → ⊥
+not-before xs p q b d h =
+    never (sym (found-exceeds xs q (getD xs (p .place) nan) d) ∙ d .first (p .place) h)
+    (sym (exceeds-found xs p (getD xs (q .place) nan) b) ∙ b .largest (q .place) (d .inside))
+
+-- a pivot is its place and its magnitude
+same : (p : Pivot) (place : ℕ) (x : Float) → p .place ≡ place → p .magnitude ≡ x → p ≡ record { place = place; magnitude = x }
+same p place x e h = go (p .place) (p .magnitude) e h
   where
-    count : (n : ℕ) → 1 + n ≡ suc n
-    count n = omega arith
+    go : (i : ℕ) (y : Float) → i ≡ place → y ≡ x → _≡_ {A = Pivot} (record { place = i; magnitude = y }) (record { place = place; magnitude = x })
+    go i y e h = rw (e, h)
 
-    only : (i : ℕ) → i < 1 → i ≡ 0
-    only i h = omega arith
+pub best-unique : (xs : List Float) (p q : Pivot) → Best xs p → Best xs q → p ≡ q
+best-unique xs p q b d = go (lt-or-le (p .place) (q .place)) (lt-or-le (q .place) (p .place))
+  where
+    go : (p .place < q .place) ⊎ (q .place ≤ p .place) → (q .place < p .place) ⊎ (p .place ≤ q .place) → p ≡ q
+    go (inl h) k = absurd (not-before xs p q b d h)
+    go (inr h) (inl k) = absurd (not-before xs q p d b k)
+    go (inr h) (inr k) =
+        let e : p .place ≡ q .place = le-antisymm k h in
+        same p (q .place) (q .magnitude) e (b .own ∙ ap (λ (i : ℕ). magnitude (getD xs i nan)) e ∙ sym (d .own))
 
--- the candidates by a function of their own
-pub search-finds-at : (xs : List Float) (g : ℕ → Float) (n : ℕ) → length xs ≡ n → 0 < n → ((i : ℕ) → i < n → getD xs i nan ≡ g i) → ((i : ℕ) → i < n → finite (g i) ≡ true) → Largest g n (search xs)
-search-finds-at xs g n e h same fin =
-    let l = search-finds xs (subst (λ (k : ℕ). 0 < k) (sym e) h) (λ i k. ap finite (same i (subst (λ (m : ℕ). i < m) e k)) ∙ fin i (subst (λ (m : ℕ). i < m) e k)) in
-    let p = search xs .place in
-    let inside : p < n = subst (λ (k : ℕ). p < k) e (l .inside) in
-    let at : getD xs p nan ≡ g p = same p inside in
-    record {
-      inside = inside;
-      its-magnitude = l .its-magnitude ∙ ap magnitude at;
-      none-larger = λ i k. ap₂ (λ (x y : Float). exceeds x y) (sym (same i k)) (sym at) ∙ l .none-larger i (subst (λ (m : ℕ). i < m) (sym e) k);
-      first = λ i k. ap₂ (λ (x y : Float). exceeds x y) (sym at) (sym (same i (le-trans k (le-trans (le-suc p) inside)))) ∙ l .first i k;
-    }
+-- ---- zeros
 
--- ---- what follows for a column: g are the candidates
+-- a zero exceeds nothing
+zero-least : (x y : Float) → isZero x ≡ true → exceeds x y ≡ false
+unfolding isZero eq exceeds magnitude lt
+zero-least nan y h = never h refl
+zero-least (inf s) y h = never h refl
+zero-least (fin s m e) nan h = refl
+zero-least (fin s m e) (inf t) h = refl
+zero-least (fin s (suc m) e) (fin t n d) h = never h (suc-is-not-zero s m e)
+zero-least (fin s zero e) (fin t n d) h = exceeds-false s t 0 n e d (nothing (0 * up e) (n * up d * down e) (down d) (zero-mul (up e)))
+  where
+    nothing : (a b c : ℕ) → a ≡ 0 → a * c ≤ b
+    nothing a b c q = let e : a * c ≡ 0 = rw (q, zero-mul c) in omega (arith, e)
 
-module _ (g : ℕ → Float) (n : ℕ) (f : Pivot) (l : Largest g n f) (fin : (i : ℕ) → i < n → finite (g i) ≡ true) where
-  -- it isn't: the multipliers have magnitude at most 1, and so they are finite
-  pub multiplier-at-most-one : isZero (f .magnitude) ≡ false → (i : ℕ) → i < n → within (quotient (g i) (g (f .place))) 1 1 ≡ true
-  multiplier-at-most-one z i h =
-      quotient-at-most-one (g i) (g (f .place)) (fin i h) (fin (f .place) (l .inside)) (sym (zero-magnitude (g (f .place))) ∙ ap isZero (sym (l .its-magnitude)) ∙ z) (l .none-larger i h)
+-- so a pivot of zero is the first candidate
+pub zero-first : (xs : List Float) (p : Pivot) → Best xs p → isZero (p .magnitude) ≡ true → p .place ≡ 0
+zero-first xs p b z = go (p .place) refl
+  where
+    go : (n : ℕ) → p .place ≡ n → n ≡ 0
+    go zero e = refl
+    go (suc n) e = never (b .first 0 (rw e (zero-lt-suc n))) (zero-least (p .magnitude) (getD xs 0 nan) z)
+
+-- a zero of the format is +0 without its sign
+zero-magnitude-is : (x : Float) → T (fits binary64 x) → isZero x ≡ true → magnitude x ≡ plusZero
+unfolding isZero eq magnitude
+zero-magnitude-is nan f h = never h refl
+zero-magnitude-is (inf s) f h = never h refl
+zero-magnitude-is (fin s (suc m) e) f h = never h (suc-is-not-zero s m e)
+zero-magnitude-is (fin s zero e) f h = ap (λ (d : ℤ). fin false 0 d) (zero-exponent binary64 s e f)
+
+-- all candidates are zeros of the format
+zeros-found : (xs : List Float) (p : Pivot) → Best xs p → ((n : ℕ) → n < length xs → T (fits binary64 (getD xs n nan))) → every isZero xs ≡ true
+    → p ≡ record { place = 0; magnitude = plusZero }
+zeros-found xs p b f z =
+    let w = getD xs (p .place) nan in
+    let zero = every-at isZero xs nan (p .place) z (b .inside) in
+    let m : p .magnitude ≡ plusZero = b .own ∙ zero-magnitude-is w (f (p .place) (b .inside)) zero in
+    let n : p .place ≡ 0 = zero-first xs p b (ap isZero (b .own) ∙ zero-magnitude w ∙ zero) in
+    same p 0 plusZero n m
+
+-- ---- K4 of the candidates xs, of which p is the best
+
+pub searched : (xs : List Float) (p : Pivot) → Best xs p → allFinite xs ≡ true → ((n : ℕ) → n < length xs → T (fits binary64 (getD xs n nan))) → Searched xs p
+unfolding allFinite
+searched xs p b fine f = record {
+  found = best-unique xs p (search xs) b (search-best xs (omega (arith, b .inside)) fine);
+  carried = λ n h.
+      let long : length (take (suc n) xs) ≡ suc n = length-take-le (suc n) xs (omega (arith, h)) in
+      ap search (take-suc xs (suc n) nan h) ∙ search-next (take (suc n) xs) (getD xs (suc n) nan) (rw long (zero-lt-suc n)) ∙ ap (λ (i : ℕ). better (search (take (suc n) xs)) i (getD xs (suc n) nan)) long;
+  so-far = λ n h. search-best (take (suc n) xs) (rw (length-take-le (suc n) xs h) (zero-lt-suc n)) (every-take finite (suc n) xs fine);
+  best = b;
+  zeros = zeros-found xs p b f;
+}
+
+-- ---- a pivot that isn't a zero: the multipliers have magnitude at most 1, and so they are finite
+
+pub multiplier-at-most-one : (xs : List Float) (p : Pivot) → Best xs p → allFinite xs ≡ true → isZero (p .magnitude) ≡ false → (n : ℕ) → n < length xs
+    → within (quotient (getD xs n nan) (getD xs (p .place) nan)) 1 1 ≡ true
+multiplier-at-most-one xs p b fine z n h =
+    quotient-at-most-one (getD xs n nan) (getD xs (p .place) nan) (finite-get xs n fine h) (finite-get xs (p .place) fine (b .inside))
+    (sym (zero-magnitude (getD xs (p .place) nan)) ∙ ap isZero (sym (b .own)) ∙ z) (sym (exceeds-found xs p (getD xs n nan) b) ∙ b .largest n h)

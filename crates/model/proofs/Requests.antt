@@ -4,10 +4,14 @@ use mathlib.Core.Bool.{true, false}
 use mathlib.Core.Path.{_≡_, refl}
 use mathlib.Core.List.{List, [], _∷_, map}
 use Prim.Native.Nat.{ℕ}
+use lib.Ieee.{ofInt, neg}
 use Rattle.model.specs.Lists.{below}
+use Rattle.model.specs.Num.{plusZero}
+use Rattle.model.specs.Column.{search, Column·open}
 use Rattle.model.specs.Task.{T-2, T-4, A, low, clash, tasks}
 use Rattle.model.specs.Links.{linksTo, linkCount, latestWriter, latestWriters, Links·open}
 use Rattle.model.specs.Old.{oldLinkCount, Old·open}
+use Rattle.model.proofs.Specimens.{int}
 
 -- the tasks that each of the 14 tasks of N = 3 waits for
 abbrev pub waits : List (List ℕ)
@@ -35,9 +39,12 @@ pub record Requests : Type 0 where
   -- K2: when all 14 tasks are done, the strictly lower part was last written by T-1(0), and the rest by T-3(0,2)
   pub K2-lower : latestWriter (tasks 3) (low 0) 14 0 ≡ true
   pub K2-rest : latestWriter (tasks 3) (A 0 0) 14 6 ≡ true
+  -- K4: of 1, -3, 3, 2 the second is the best, told with its magnitude, and of -0, +0 the first, with +0
+  pub K4-first : search (int 1 ∷ neg (int 3) ∷ int 3 ∷ int 2 ∷ []) ≡ record { place = 1; magnitude = int 3 }
+  pub K4-zeros : search (neg plusZero ∷ plusZero ∷ []) ≡ record { place = 0; magnitude = plusZero }
 
 pub requests : Requests
-unfolding Links·open Old·open
+unfolding Links·open Old·open Column·open ofInt neg
 requests = record {
   K2-two = refl;
   K2-old-two = refl;
@@ -48,4 +55,6 @@ requests = record {
   K2-both = refl;
   K2-lower = refl;
   K2-rest = refl;
+  K4-first = refl;
+  K4-zeros = refl;
 }

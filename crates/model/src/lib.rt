@@ -32,7 +32,8 @@ pub struct TaskRecord {
     pub mark: u8,
 }
 
-// The winner of a pivot search: its place among the candidates, and its magnitude.
+// What a pivot search carries along and tells: the winner's place and its magnitude. Among candidates the place counts from 0; what is told of a column
+// is the row that the row list records.
 pub struct Pivot {
     pub place: usize,
     pub magnitude: f64,

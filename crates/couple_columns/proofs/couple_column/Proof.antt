@@ -43,13 +43,16 @@ couple-pivot-requires : tie.Need-couple-pivot-requires
 couple-pivot-requires c κs =
     let r = couple-ready (c .before .before .before .before .before .before .pre) in
     rw (c .before .before .before .tile-start .ensures, c .before .before .tile-start2 .ensures)
-    (record { rows-most = r .side-most; width-most = r .side-most; few = r .few; upper-room = r .upper-room; lower-room = r .lower-room; apart = r .apart }, r .column)
+    (record { rows-most = r .side-most; width-most = r .side-most; few = r .few; upper-room = r .upper-room; lower-room = r .lower-room; apart = r .apart }, (r .column, r .upper-finite, r .lower-finite))
+
+cast-lists : tie.Need-cast-lists
+cast-lists c = omega (arith, in-range c, couple-ready (c .before .before .before .before .before .before .before .pre) .side-most)
 
 add-lists : tie.Need-add-lists
-add-lists c = let r = couple-ready (c .before .before .before .before .before .before .before .before .pre) in omega (arith, r .column, r .list-room, r .lists-few, c .before .before .before .list-start .ensures)
+add-lists c = let r = couple-ready (c .before .before .before .before .before .before .before .pre) in omega (arith, r .column, r .list-room, r .lists-few, c .before .before .list-start .ensures)
 
 slice-write-lists : tie.Need-slice-write-lists
-slice-write-lists c = let r = couple-ready (c .before .before .before .before .before .before .before .before .pre) in omega (arith, r .column, r .list-room, r .lists-few, c .before .before .before .list-start .ensures)
+slice-write-lists c = let r = couple-ready (c .before .before .before .before .before .before .before .pre) in omega (arith, r .column, r .list-room, r .lists-few, c .before .before .list-start .ensures)
 
 column-end-requires : tie.Need-column-end-requires
 column-end-requires c κs = couple-ready (c .before .before .before .before .before .before .before .before .pre) .column
@@ -66,16 +69,7 @@ returns c =
     let r = couple-ready (c .before .before .before .before .before .before .before .before .before .pre) in
     let p = c .before .before .before .before .list-start .ensures in
     couple-skips (a .z .tiles) (a .z .side) (a .k) (a .i) (a .c) _ _ _ (c .before .before .before .before .before .before .tile-start .ensures) (c .before .before .before .before .before .tile-start2 .ensures) p (r .column) (now (a .matrix)) (now (a .lists)) _ (rw p (r .list-room))
-    (c .before .before .couple-pivot .result) (c .before .before .couple-pivot .ensures) _ (zero (c .before)) refl (c .column-end .ensures)
-
-cast-lists : tie.Need-cast-lists
-cast-lists c = omega (arith, in-range (c .before), couple-ready (c .before .before .before .before .before .before .before .before .pre) .side-most)
-
-add-lists-2 : tie.Need-add-lists-2
-add-lists-2 c = let r = couple-ready (c .before .before .before .before .before .before .before .before .pre) in omega (arith, r .column, r .list-room, r .lists-few, c .before .before .before .list-start .ensures)
-
-slice-write-lists-2 : tie.Need-slice-write-lists-2
-slice-write-lists-2 c = let r = couple-ready (c .before .before .before .before .before .before .before .before .pre) in omega (arith, r .column, r .list-room, r .lists-few, c .before .before .before .list-start .ensures)
+    (c .before .before .couple-pivot .result) (c .before .before .couple-pivot .ensures) refl _ (zero (c .before)) (c .column-end .ensures)
 
 couple-rows-requires : tie.Need-couple-rows-requires
 couple-rows-requires c κs =
@@ -109,8 +103,8 @@ returns-2 c =
     let u = c .before .before .before .before .before .before .before .before .before .before .before .tile-start .ensures in
     let d = c .before .before .before .before .before .before .before .before .before .before .tile-start2 .ensures in
     let p = c .before .before .before .before .before .before .before .before .before .list-start .ensures in
-    couple-ends (a .z .tiles) (a .z .side) (a .k) (a .i) (a .c) _ _ _ u d p (r .column) (now (a .matrix)) (now (a .lists)) _ (rw p (r .list-room)) (c .before .before .before .before .before .before .before .couple-pivot .result) (c .before .before .before .before .before .before .before .couple-pivot .ensures) _
-    (rw u (r .upper-room)) (rw d (r .lower-room)) (rw (u, d) (r .apart)) (nonzero (c .before .before .before .before .before .before)) refl refl _ _ (c .before .before .before .before .couple-rows .ensures) _ (c .before .if2 .taken) (c .column-end2 .ensures)
+    couple-ends (a .z .tiles) (a .z .side) (a .k) (a .i) (a .c) _ _ _ u d p (r .column) (now (a .matrix)) (now (a .lists)) _ (rw p (r .list-room)) (c .before .before .before .before .before .before .before .couple-pivot .result) (c .before .before .before .before .before .before .before .couple-pivot .ensures) refl
+    (rw u (r .upper-room)) (rw d (r .lower-room)) (rw (u, d) (r .apart)) (nonzero (c .before .before .before .before .before .before)) _ _ (c .before .before .before .before .couple-rows .ensures) _ (c .before .if2 .taken) (c .column-end2 .ensures)
 
 fill-coupled-requires : tie.Need-fill-coupled-requires
 fill-coupled-requires c κs =
@@ -134,8 +128,8 @@ returns-3 c =
     let u = c .before .before .before .before .before .before .before .before .before .before .before .before .before .before .before .before .before .tile-start .ensures in
     let d = c .before .before .before .before .before .before .before .before .before .before .before .before .before .before .before .before .tile-start2 .ensures in
     let p = c .before .before .before .before .before .before .before .before .before .before .before .before .before .before .before .list-start .ensures in
-    couple-fails (a .z .tiles) (a .z .side) (a .k) (a .i) (a .c) _ _ _ u d p (r .column) (now (a .matrix)) (now (a .lists)) _ (rw p (r .list-room)) (c .before .before .before .before .before .before .before .before .before .before .before .before .before .couple-pivot .result) (c .before .before .before .before .before .before .before .before .before .before .before .before .before .couple-pivot .ensures) _
-    (rw u (r .upper-room)) (rw d (r .lower-room)) (rw (u, d) (r .apart)) (nonzero (c .before .before .before .before .before .before .before .before .before .before .before .before)) refl refl _ _ (c .before .before .before .before .before .before .before .before .before .before .couple-rows .ensures) _ _ _ (c .before .before .before .before .before .before .before .if2 .left) refl (c .before .before .before .before .fill-coupled .ensures .0) (c .before .before .before .before .fill-coupled .ensures .1)
+    couple-fails (a .z .tiles) (a .z .side) (a .k) (a .i) (a .c) _ _ _ u d p (r .column) (now (a .matrix)) (now (a .lists)) _ (rw p (r .list-room)) (c .before .before .before .before .before .before .before .before .before .before .before .before .before .couple-pivot .result) (c .before .before .before .before .before .before .before .before .before .before .before .before .before .couple-pivot .ensures) refl
+    (rw u (r .upper-room)) (rw d (r .lower-room)) (rw (u, d) (r .apart)) (nonzero (c .before .before .before .before .before .before .before .before .before .before .before .before)) _ _ (c .before .before .before .before .before .before .before .before .before .before .couple-rows .ensures) _ _ _ (c .before .before .before .before .before .before .before .if2 .left) refl (c .before .before .before .before .fill-coupled .ensures .0) (c .before .before .before .before .fill-coupled .ensures .1)
 
 pub couple-column-spec : {M : Type 1} → statement M
 couple-column-spec =
@@ -145,15 +139,13 @@ couple-column-spec =
     tile-start-requires-2
     list-start-requires
     couple-pivot-requires
+    cast-lists
     add-lists
     slice-write-lists
     column-end-requires
     same-length
     same-length-2
     returns
-    cast-lists
-    add-lists-2
-    slice-write-lists-2
     couple-rows-requires
     column-end-requires-2
     same-length-3

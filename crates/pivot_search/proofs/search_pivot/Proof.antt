@@ -1,67 +1,73 @@
--- `search_pivot` meets its contract: the search from the best so far on is the whole search. Assumes nothing.
-use mathlib.Core.Path.{_≡_, sym, ap, _∙_}
-use mathlib.Core.Logic.{inl, inr}
-use mathlib.Core.Bool.{true, false}
-use mathlib.Core.List.{List, map}
-use Prim.Native.Nat.{ℕ, suc, _+_, _*_, _-_, _≤_, _<_}
-use native.Mathlib.Nat.{sub-zero}
+-- `search_pivot` meets its contract: before each candidate the pivot carried is the best of those before it. Assumes nothing.
+use mathlib.Core.Path.{_≡_, refl, sym, ap, _∙_}
+use mathlib.Core.Bool.{true}
+use mathlib.Core.List.{List, [], _∷_, _++_}
+use Prim.Native.Nat.{ℕ, zero, suc, _+_, _*_, _-_, _≤_, _<_}
 use native.Mathlib.Numerals.{add-one}
 use native.Mathlib.Omega.{arith}
 use denote.Ref.{now}
-use lib.ListN.{getD}
-use lib.Ieee.{Float, nan, lt}
-use Rattle.laws.proofs.Blocks.{row-end}
+use lib.ListN.{length, getD}
+use lib.Dec.{T}
+use lib.Ieee.{Float, nan, binary64, fits}
 use Rattle.model.specs.declared.Pivot.{Pivot}
 use Rattle.model.specs.Lists.{run, below, table}
-use Rattle.model.specs.Num.{magnitude, exceeds}
-use Rattle.model.specs.Column.{better, searchFrom, search}
+use Rattle.model.specs.Num.{magnitude}
+use Rattle.model.specs.Tile.{allFinite}
+use Rattle.model.specs.Best.{Best}
+use Rattle.laws.proofs.Blocks.{row-end, length-table, getD-table}
+use Rattle.laws.proofs.Runs.{table-last}
+use Rattle.laws.proofs.Finite.{finite-get, finite-all}
 use Rattle.float_laws.proofs.Finite.{magnitude-twice}
+use Rattle.float_laws.proofs.Search.{best-one, searched}
 use Rattle.pivot_search.specs.Candidates.{candidates}
 use Rattle.pivot_search.proofs.search_pivot.Statement.{statement}
 use Rattle.pivot_search.proofs.search_pivot.Tie as tie
 
--- the search over the candidates from i on, with the best so far
-unfoldable searchedOn : List Float → ℕ → ℕ → ℕ → ℕ → Pivot → Pivot
-searchedOn m rest stride count i p = searchFrom (i + 1) p (map (λ j. getD m (rest + j * stride) nan) (run i (count - i)))
+-- ---- the candidates
 
-of-magnitude : (b x : Float) → b ≡ magnitude x → magnitude b ≡ b
-of-magnitude b x e = ap magnitude e ∙ magnitude-twice x ∙ sym e
+module _ (m : List Float) (first rest stride : ℕ) where
+  how-many : (n : ℕ) → length (candidates m first rest stride n) ≡ n + 1
+  unfolding candidates
+  how-many n = ap suc (length-table n (λ i. getD m (rest + i * stride) nan)) ∙ sym (add-one n)
 
-search-begun : (m : List Float) (first rest stride count : ℕ) (b : Float) → b ≡ magnitude (getD m first nan)
-    → searchedOn m rest stride count 0 (record { place = 0; magnitude = b }) ≡ search (candidates m first rest stride count)
-unfolding searchedOn search candidates table below
-search-begun m first rest stride count b e = rw (e, sub-zero)
+  one-more : (i : ℕ) → candidates m first rest stride (i + 1) ≡ candidates m first rest stride i ++ getD m (rest + i * stride) nan ∷ []
+  unfolding candidates table
+  one-more i = rw (add-one i, table-last (λ i. getD m (rest + i * stride) nan) i)
 
-module _ (m : List Float) (rest stride count i : ℕ) where
-  search-next : (p : Pivot) → i < count → searchedOn m rest stride count i p ≡ searchedOn m rest stride count (i + 1) (better p (i + 1) (getD m (rest + i * stride) nan))
-  unfolding searchedOn searchFrom run
-  search-next p h =
-      let e : count - i ≡ suc (count - (i + 1)) = omega arith in
-      rw (e, add-one i, add-one (suc i))
+  -- a number of the matrix, each of them, whatever follows
+  stands : (n j : ℕ) → j < n + 1 → (k : ℕ) × (getD (candidates m first rest stride n) j nan ≡ getD m k nan)
+  unfolding candidates
+  stands n zero h = (first, refl)
+  stands n (suc j) h = (rest + j * stride, getD-table n (λ i. getD m (rest + i * stride) nan) j nan (omega arith))
 
-  search-ended : (p : Pivot) → count ≤ i → searchedOn m rest stride count i p ≡ p
-  unfolding searchedOn searchFrom run
-  search-ended p h = let e : count - i ≡ 0 = omega arith in rw e
+  fewer : (n i j : ℕ) → i ≤ n → j < i + 1 → getD (candidates m first rest stride i) j nan ≡ getD (candidates m first rest stride n) j nan
+  unfolding candidates
+  fewer n i zero h l = refl
+  fewer n i (suc j) h l =
+      getD-table i (λ i. getD m (rest + i * stride) nan) j nan (omega arith) ∙ sym (getD-table n (λ i. getD m (rest + i * stride) nan) j nan (omega arith))
 
-  -- candidate i, of magnitude x, is larger than the best so far, or it isn't
-  module _ (p : Pivot) (x : Float) (is : x ≡ magnitude (getD m (rest + i * stride) nan)) (plain : magnitude (p .magnitude) ≡ p .magnitude) where
-    tested : lt (p .magnitude) x ≡ exceeds (getD m (rest + i * stride) nan) (p .magnitude)
-    unfolding exceeds
-    tested = cc
+  fine : (n i : ℕ) → i ≤ n → allFinite (candidates m first rest stride n) ≡ true → allFinite (candidates m first rest stride i) ≡ true
+  fine n i h f =
+      finite-all (candidates m first rest stride i)
+      (λ j l. rw (fewer n i j h (omega (arith, how-many i))) (finite-get (candidates m first rest stride n) j f (omega (arith, how-many n, how-many i))))
 
-    took : (place : ℕ) (best : Float) → lt (p .magnitude) x ≡ true → place ≡ i + 1 → best ≡ x → _≡_ {A = Pivot} (record { place = place; magnitude = best }) (better p (i + 1) (getD m (rest + i * stride) nan))
-    unfolding better
-    took place best h a b = rw (sym tested ∙ h, a, b, is)
+  held : (n : ℕ) → ((k : ℕ) → T (fits binary64 (getD m k nan))) → (j : ℕ) → j < length (candidates m first rest stride n) → T (fits binary64 (getD (candidates m first rest stride n) j nan))
+  held n g j h = let (k, e) = stands n j (omega (arith, how-many n)) in rw e (g k)
 
-    kept : (place : ℕ) (best : Float) → lt (p .magnitude) x ≡ false → place ≡ p .place → best ≡ p .magnitude → _≡_ {A = Pivot} (record { place = place; magnitude = best }) (better p (i + 1) (getD m (rest + i * stride) nan))
-    unfolding better
-    kept place best h a b = rw (sym tested ∙ h, a, b)
+  begun : (b : Float) → b ≡ magnitude (getD m first nan) → Best (candidates m first rest stride 0) (record { place = 0; magnitude = b })
+  unfolding candidates table below run
+  begun b e = rw e (best-one (getD m first nan))
+
+plain : (xs : List Float) (p : Pivot) → Best xs p → magnitude (p .magnitude) ≡ p .magnitude
+plain xs p b = ap magnitude (b .own) ∙ magnitude-twice (getD xs (p .place) nan) ∙ sym (b .own)
+
+-- ---- the loop
 
 abbrev Inv-loop : tie.InvT-loop
-Inv-loop m first rest stride count place₀ best₀ i₀ place best i = (i ≤ count) × (magnitude best ≡ best) × (searchedOn m rest stride count i (record { place = place; magnitude = best }) ≡ search (candidates m first rest stride count))
+Inv-loop m first rest stride count best₀ i₀ best i = (i ≤ count) × Best (candidates m first rest stride i) best
 
 abbrev μ-loop : tie.MeasureT-loop
-μ-loop m first rest stride count place₀ best₀ i₀ place best i = count - i
+μ-loop m first rest stride count best₀ i₀ best i = count - i
 
 mul-magnitude-of : tie.Need-mul-magnitude-of Inv-loop μ-loop
 mul-magnitude-of c = omega arith
@@ -73,25 +79,28 @@ magnitude-of-requires : tie.Need-magnitude-of-requires Inv-loop μ-loop
 magnitude-of-requires c κs = tt
 
 loop-holds : tie.Need-loop-holds Inv-loop μ-loop
-loop-holds c = (omega arith, of-magnitude _ _ (c .magnitude-of .ensures), search-begun _ _ _ _ _ _ (c .magnitude-of .ensures))
+loop-holds c = let a = c .before .before .before .args in (omega arith, begun (now (a .m)) (a .first) (a .rest) (a .stride) _ (c .magnitude-of .ensures))
 
-mul-magnitude-of-2 : tie.Need-mul-magnitude-of-2 Inv-loop μ-loop
-mul-magnitude-of-2 c = omega (arith, row-end _ _ (c .before .before .before .before .before .args .stride) (c .loop-test .taken))
+room : (c : tie.In-loop Inv-loop μ-loop) → c .before .loop .i * c .before .before .before .before .before .args .stride + c .before .before .before .before .before .args .stride ≤ c .before .before .before .before .before .args .count * c .before .before .before .before .before .args .stride
+room c = row-end (c .before .loop .i) (c .before .before .before .before .before .args .count) (c .before .before .before .before .before .args .stride) (c .loop-test .taken)
 
-add-magnitude-of : tie.Need-add-magnitude-of Inv-loop μ-loop
-add-magnitude-of c = omega (arith, row-end _ _ (c .before .before .before .before .before .args .stride) (c .loop-test .taken))
+add-keep-best : tie.Need-add-keep-best Inv-loop μ-loop
+add-keep-best c = omega arith
 
-mul-magnitude-of-3 : tie.Need-mul-magnitude-of-3 Inv-loop μ-loop
-mul-magnitude-of-3 c = omega (arith, row-end _ _ (c .before .before .before .before .before .args .stride) (c .loop-test .taken))
+mul-keep-best : tie.Need-mul-keep-best Inv-loop μ-loop
+mul-keep-best c = omega (arith, room c)
 
-shared-slice-read-magnitude-of-2 : tie.Need-shared-slice-read-magnitude-of-2 Inv-loop μ-loop
-shared-slice-read-magnitude-of-2 c = omega (arith, row-end _ _ (c .before .before .before .before .before .before .args .stride) (c .before .loop-test .taken))
+add-keep-best-2 : tie.Need-add-keep-best-2 Inv-loop μ-loop
+add-keep-best-2 c = omega (arith, room c)
 
-magnitude-of-requires-2 : tie.Need-magnitude-of-requires-2 Inv-loop μ-loop
-magnitude-of-requires-2 c κs = tt
+mul-keep-best-2 : tie.Need-mul-keep-best-2 Inv-loop μ-loop
+mul-keep-best-2 c = omega (arith, room c)
 
-add-place : tie.Need-add-place Inv-loop μ-loop
-add-place c = omega arith
+shared-slice-read-keep-best : tie.Need-shared-slice-read-keep-best Inv-loop μ-loop
+shared-slice-read-keep-best c = omega (arith, room (c .before))
+
+keep-best-requires : tie.Need-keep-best-requires Inv-loop μ-loop
+keep-best-requires c κs = plain _ (c .before .before .loop .best) (c .before .before .loop .inv .1)
 
 add-i : tie.Need-add-i Inv-loop μ-loop
 add-i c = omega arith
@@ -101,20 +110,19 @@ loop-less c = omega arith
 
 loop-again : tie.Need-loop-again Inv-loop μ-loop
 loop-again c =
-    let a = c .before .before .before .before .before .before .before .before .args in
-    let l = c .before .before .before .before .loop in
-    let p : Pivot = record { place = l .place; magnitude = l .best } in
-    let x = c .before .magnitude-of2 .ensures in
-    let on = sym (search-next _ _ _ _ _ p (c .before .before .before .loop-test .taken)) ∙ l .inv .2 in
-    elim (c .if1 .came) [
-      | inl w ↦ (omega arith, rw (w .2) (of-magnitude _ _ x), rw (took (now (a .m)) (a .rest) (a .stride) (a .count) (l .i) p _ x (l .inv .1) _ _ (w .0 .taken) (w .1) (w .2)) on)
-      | inr w ↦ (omega arith, rw (w .2) (l .inv .1), rw (kept (now (a .m)) (a .rest) (a .stride) (a .count) (l .i) p _ x (l .inv .1) _ _ (w .0 .left) (w .1) (w .2)) on)
-    ]
+    let a = c .before .before .before .before .before .before .before .args in
+    let l = c .before .before .before .loop in
+    let xs = candidates (now (a .m)) (a .first) (a .rest) (a .stride) (l .i) in
+    let before = fine (now (a .m)) (a .first) (a .rest) (a .stride) (a .count) (l .i) (l .inv .0) (c .before .before .before .before .before .before .before .pre .1) in
+    (omega arith, rw (one-more (now (a .m)) (a .first) (a .rest) (a .stride) (l .i)) (c .keep-best .ensures .1 xs (how-many (now (a .m)) (a .first) (a .rest) (a .stride) (l .i)) before (l .inv .1)))
 
 returns : tie.Need-returns Inv-loop μ-loop
 returns c =
+    let a = c .before .before .before .before .before .args in
     let l = c .before .loop in
-    sym (search-ended _ _ _ _ _ _ (c .loop-test .left)) ∙ l .inv .2
+    let e : l .i ≡ a .count = omega (arith, c .loop-test .left, l .inv .0) in
+    searched (candidates (now (a .m)) (a .first) (a .rest) (a .stride) (a .count)) (l .best) (rw (← e) (l .inv .1)) (c .before .before .before .before .before .pre .1)
+    (held (now (a .m)) (a .first) (a .rest) (a .stride) (a .count) (c .before .before .before .before .shared-slice-known .given))
 
 pub search-pivot-spec : {M : Type 1} → statement M
 search-pivot-spec =
@@ -126,12 +134,12 @@ search-pivot-spec =
     shared-slice-read-magnitude-of
     magnitude-of-requires
     loop-holds
-    mul-magnitude-of-2
-    add-magnitude-of
-    mul-magnitude-of-3
-    shared-slice-read-magnitude-of-2
-    magnitude-of-requires-2
-    add-place
+    add-keep-best
+    mul-keep-best
+    add-keep-best-2
+    mul-keep-best-2
+    shared-slice-read-keep-best
+    keep-best-requires
     add-i
     loop-less
     loop-again
