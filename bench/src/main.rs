@@ -251,7 +251,7 @@ fn rattle_columns(kind: usize, s: &Shape, k: usize, i: usize, x: &mut Lent) {
     }
 }
 
-/// The systems whose columns are timed, by their seeds. Which branches are foreseen, and so a small column's time, depends on the numbers.
+/// The systems whose columns are timed, by their seeds: a small column's time depends on the numbers.
 const SYSTEMS: std::ops::Range<u64> = 1..25;
 
 /// A system with lists that ask for exchanges: entry c names a row from c on, and a lower row.
