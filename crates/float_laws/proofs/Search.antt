@@ -42,6 +42,7 @@ magnitude-exceeds x y = ap (lt (magnitude y)) (magnitude-twice x)
 up-to {ℓ} : {A : Type ℓ} (i n : ℕ) → i < suc n → (i ≡ n → A) → (i < n → A) → A
 up-to i n h f g = elim (eq-or-lt-of-le (le-of-suc-le-suc h)) [ inl e ↦ f e | inr l ↦ g l ]
 
+-- x stands behind the candidates xs
 module _ (xs : List Float) (x : Float) where
   last : getD (xs ++ x ∷ []) (length xs) nan ≡ x
   last = go xs

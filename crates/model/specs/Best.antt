@@ -11,14 +11,14 @@ use Rattle.model.specs.Num.{plusZero, isZero, magnitude, exceeds}
 use Rattle.model.specs.Tile.{allFinite}
 use Rattle.model.specs.Column.{better, search, factorCandidates, factorColumn, coupleCandidates, coupleColumn}
 
--- p is the best of the candidates xs: the place of one of them and its magnitude, which is the largest, and the first that has it
+-- p is the best of the candidates xs: it has the place of one of them and that one's magnitude, none has a larger one, and all before it have smaller ones
 pub record Best (xs : List Float) (p : Pivot) : Type 0 where
   pub inside : p .place < length xs
   pub own : p .magnitude ≡ magnitude (getD xs (p .place) nan)
   pub largest : (n : ℕ) → n < length xs → exceeds (getD xs n nan) (p .magnitude) ≡ false
   pub first : (n : ℕ) → n < p .place → exceeds (p .magnitude) (getD xs n nan) ≡ true
 
--- After the candidate x at `place` the best so far is q, where it was p before: whatever finite candidates x follows
+-- With the candidate x, which stands at `place`, the best so far is q where it was p before, whatever finite candidates x follows
 abbrev pub BestSoFar : Pivot → ℕ → Float → Pivot → Type 0
 BestSoFar p place x q = (xs : List Float) → length xs ≡ place → allFinite xs ≡ true → Best xs p → Best (xs ++ x ∷ []) q
 

@@ -34,12 +34,13 @@ module _ (m : List Float) (first rest stride : ℕ) where
   unfolding candidates table
   one-more i = rw (add-one i, table-last (λ i. getD m (rest + i * stride) nan) i)
 
-  -- a number of the matrix, each of them, whatever follows
+  -- each candidate is a number of the matrix
   stands : (n j : ℕ) → j < n + 1 → (k : ℕ) × (getD (candidates m first rest stride n) j nan ≡ getD m k nan)
   unfolding candidates
   stands n zero h = (first, refl)
   stands n (suc j) h = (rest + j * stride, getD-table n (λ i. getD m (rest + i * stride) nan) j nan (omega arith))
 
+  -- with fewer of them, those that there are stay the same
   fewer : (n i j : ℕ) → i ≤ n → j < i + 1 → getD (candidates m first rest stride i) j nan ≡ getD (candidates m first rest stride n) j nan
   unfolding candidates
   fewer n i zero h l = refl
@@ -58,6 +59,7 @@ module _ (m : List Float) (first rest stride : ℕ) where
   unfolding candidates table below run
   begun b e = rw e (best-one (getD m first nan))
 
+-- what is carried has no sign
 plain : (xs : List Float) (p : Pivot) → Best xs p → magnitude (p .magnitude) ≡ p .magnitude
 plain xs p b = ap magnitude (b .own) ∙ magnitude-twice (getD xs (p .place) nan) ∙ sym (b .own)
 
