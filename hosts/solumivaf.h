@@ -29,8 +29,9 @@
  *    1  tiles, side or workers is out of range. In a file: on line 1, with that line as the place
  *    2  a length, or the count of the workers lent, is not the one that the sizes call for
  *    3  a number isn't finite: in the matrix at an opening, or on the right side of a solve; its offset. In a file: its line
- *    4  what was lent is damaged: a record is not its task's or has no known mark; tasks and workers do not hold each other; an entry of
- *       a list is too large; or a number that the call needs isn't finite
+ *    4  what was lent is damaged: a record is not its task's or has no known mark; tasks and workers do not hold each other; a tie sum is above
+ *       what the task's state allows (t * t for a done or failed task, t times its next column for a taken one, 0 otherwise); an entry of a list
+ *       is too large; or a number that the call needs isn't finite
  *    5  the worker named does not exist, is busy and cannot take, or is idle and has no column to do; the worker
  *    6  the task named does not exist
  *    7  the task named is not ready; the task
@@ -55,7 +56,7 @@ extern "C" {
 #endif
 
 /* The version of this interface: another one where a function or a struct that crosses has changed. */
-#define SOLUMIVAF_VERSION 3
+#define SOLUMIVAF_VERSION 4
 
 /* Limits: the most tiles a side, numbers a side of a tile, and tasks; the most workers, which is the number of worker slots. */
 #define SOLUMIVAF_MOST_TILES 16
@@ -112,15 +113,22 @@ enum {
     SOLUMIVAF_OUTCOME_UNFINISHED = 3
 };
 
-/* A task: its kind (1 to 4 for T-1 to T-4), k, i and j, 0 where the kind has none, and its mark:
- * 0 waits, 1 is taken, 2 done, 3 failed, 4 spoiled. */
+/* A task: its kind (1 to 4 for T-1 to T-4), k, i and j, 0 where the kind has none, its mark: 0 waits, 1 is taken, 2 done, 3 failed, 4 spoiled; and
+ * the sum of its ties in two bytes, the low one first: solumivaf_ties tells the number. Seven bytes, without padding. */
 typedef struct {
     uint8_t kind;
     uint8_t k;
     uint8_t i;
     uint8_t j;
     uint8_t mark;
+    uint8_t ties[2];
 } solumivaf_record;
+
+/* The sum of a task's ties. A column of T-1 or T-3 searches for its pivot: every other candidate of the pivot's magnitude is a tie, and a pivot of
+ * zero has none. The columns that the task has completed count, a failing one does not. T-2, T-4 and spoiled tasks have 0. */
+static inline uint16_t solumivaf_ties(solumivaf_record record) {
+    return (uint16_t)(record.ties[0] | record.ties[1] << 8);
+}
 
 /* What a call tells: a refusal's number and its place, with number 0 where nothing is refused. Then
  *   run      kind 1 finished, 2 spent; count: the calls made
@@ -172,8 +180,8 @@ static inline int solumivaf_arithmetic(void) {
 /* The SOLUMIVAF_VERSION of the header that the library was built for. A host compares it with its own before any other call. */
 size_t solumivaf_version(void);
 
-/* Starts the work on a matrix, which it reads and leaves as it is. Sets the lists to 0, the records to the tasks in order, all waiting, and the
- * workers to idle; what these held before does not matter. */
+/* Starts the work on a matrix, which it reads and leaves as it is. Sets the lists to 0, the records to the tasks in order, all waiting and with no
+ * ties, and the workers to idle; what these held before does not matter. */
 solumivaf_told solumivaf_open(size_t tiles, size_t side, size_t workers, const double *matrix, size_t matrix_length, uint8_t *lists,
                               size_t lists_length, solumivaf_record *records, size_t records_length, uint8_t *busy, uint16_t *task,
                               uint8_t *column, size_t count);
@@ -183,7 +191,8 @@ solumivaf_told solumivaf_take(size_t tiles, size_t side, size_t workers, const d
                               size_t lists_length, solumivaf_record *records, size_t records_length, uint8_t *busy, uint16_t *task,
                               uint8_t *column, size_t count, size_t w, size_t p);
 
-/* Worker w does the next column of its task. Writes tiles and a list of that task and the worker's slot, and where the task ends its mark. */
+/* Worker w does the next column of its task. Writes tiles and a list of that task and the worker's slot; where the column is completed, adds the ties
+ * of its pivot search to the task's sum; and where the task ends, writes its mark. */
 solumivaf_told solumivaf_column(size_t tiles, size_t side, size_t workers, double *matrix, size_t matrix_length, uint8_t *lists,
                                 size_t lists_length, solumivaf_record *records, size_t records_length, uint8_t *busy, uint16_t *task,
                                 uint8_t *column, size_t count, size_t w);

@@ -411,7 +411,7 @@ class Call:
         d.append(("wv", "Val", "LL.val Wk.the-type Wk′.the-laws wk"))
         d.append(("vs", product(["List Val"] * len(self.params)), nested(self.vals_)))
         d.append(("n", "ℕ", "cond (ltb (length ys) %s) (length ys) %s" % (COUNT, COUNT), "how many records are copied, and the copies before"))
-        d.append(("X₀", "List (List ℕ)", "replicate N (replicate 5 0)"))
+        d.append(("X₀", "List (List ℕ)", "replicate N (replicate bytes 0)"))
         return d
 
     def owned_names(self):
@@ -430,7 +430,7 @@ class Call:
         else:
             d.append(("Imm : ℕ → ℕ → GName → List (List ℕ) → Fml", None, "Imm l ν δ xs = ShrSlice (named 2) (ν ∷ []) B .own (fl l δ xs) (s₅ l ∷ [])"))
         d.append(("Arr : List (List ℕ) → Val → Fml", None, "Arr xs v = Array B N .own xs (v ∷ [])"))
-        d.append(("Cell : ℕ → Val → Fml", None, "Cell l v = fat fullShare (tyArray (tyArray (tyInt w8) 5) N) l 0 v"))
+        d.append(("Cell : ℕ → Val → Fml", None, "Cell l v = fat fullShare (tyArray (tyArray (tyInt w8) bytes) N) l 0 v"))
         self.bound = "((%s, %s, tt, a, vs), tt)" % (self.lifetimes, self.shares)
         d.append(("Post : Val → SProp 𝓤", None, "Post = walkOf 𝓤 H A f.ended stayed (f.clauses 𝓤 H A mem run) .post %s" % self.bound))
         return d
@@ -484,7 +484,7 @@ class Call:
         lft3 = "A .lft (μ ∷ []) fullShare" if self.has_store else "A .lft κ₃ q₃"
         self.f3 = "flft (μ ∷ []) fullShare" if self.has_store else "flft κ₃ q₃"
         s.append("  goes-ld : %s → ent 𝓤 (sep 𝓤 (sep 𝓤 (%s) (A .lft (ν ∷ []) fullShare)) (sep 𝓤 (sem 𝓤 H A (%s)) (sem 𝓤 H A (Mut l ν ε X₀)))) (Load 𝓤 H A mem run .pre (to-ld l %sν %sε))\n" % (mub, lft3, recs, self.mu, self.dl))
-        s.append("  goes-ld l %sν %sε =\n      qed W ((‵ (%s) ⊛ ‵ (flft (ν ∷ []) fullShare)) ∷ ‵ (%s) ∷ ‵ (Mut l ν ε X₀) ∷ []) ∵ says ! (n-there, subst (λ (k : ℕ). n ≤ k) (sym (length-replicate {A = List ℕ} N (replicate 5 0))) n-short) $ split ! $\n" % (self.mu, self.dl, self.f3, recs))
+        s.append("  goes-ld l %sν %sε =\n      qed W ((‵ (%s) ⊛ ‵ (flft (ν ∷ []) fullShare)) ∷ ‵ (%s) ∷ ‵ (Mut l ν ε X₀) ∷ []) ∵ says ! (n-there, subst (λ (k : ℕ). n ≤ k) (sym (length-replicate {A = List ℕ} N (replicate bytes 0))) n-short) $ split ! $\n" % (self.mu, self.dl, self.f3, recs))
         s.append("      nothing ! $ move ! (2 ∷ 0 ∷ []) $ join ! $ move ! (1 ∷ 0 ∷ []) $ join ! $ frame ! $ nothing ! $ owned ! usize (Is usize) (uint-makes 𝓤 H A W w64) n _ (refl, n-fits) $ fjoin ! $ move ! (2 ∷ 0 ∷ []) $ fjoin ! $ move ! (1 ∷ 0 ∷ []) $ fjoin ! $ done !\n\n")
         s.append("  abbrev Loaded : List (List ℕ) → Type 0\n  Loaded X = recordsFrom X ≡ copied n 0 ys (recordsFrom X₀)\n\n")
 
@@ -609,19 +609,19 @@ class Call:
         """the array of copies"""
         g = self.g
         self.HELD, ZERO, self.LEN, self.CNT, self.UNIT = self.L["flat"], self.L["zero"], self.L["len"], self.L["n"], self.L["unit"]
-        zv5 = "(arrayVal (replicate 5 (vint w8 0)))"
+        zv5 = "(arrayVal (replicate bytes (vint w8 0)))"
         zvN = "(arrayVal (replicate N %s))" % zv5
         g.emit("-- the array is made")
         g.line()
         g.front("Z", "owned ! u8 (Is u8) (uint-makes 𝓤 H A W w8) 0 (vint w8 0 ∷ []) (refl, lit< tt) $ ")
-        g.use(1, "Z5", "‵ (B .own (replicate 5 0) (%s ∷ []))" % zv5, "array-repeat 𝓤 H A W u8 (uint-copy 𝓤 H A W w8) 5 0 (vint w8 0)")
-        g.emit("peeks ! B (Is B) (shows 𝓤 H A B) (replicate 5 0) (%s ∷ []) (λ five. " % zv5)
+        g.use(1, "Z5", "‵ (B .own (replicate bytes 0) (%s ∷ []))" % zv5, "array-repeat 𝓤 H A W u8 (uint-copy 𝓤 H A W w8) bytes 0 (vint w8 0)")
+        g.emit("peeks ! B (Is B) (shows 𝓤 H A B) (replicate bytes 0) (%s ∷ []) (λ copy. " % zv5)
         g.line()
-        g.emit("assigns ! (rep ! 5 (lit ! tt)) (from ! (stop !)) (init ! %d refl (array-lawful 𝓤 H A W u8 (uint-lawful 𝓤 H A W w8) 5 .typed (replicate 5 0) _ five .0)) $ " % g.at("L%d" % ZERO))
-        g.use(1, "Arr", "‵ (Arr X₀ %s)" % zvN, "array-repeat 𝓤 H A W B (array-copy 𝓤 H A W u8 (uint-copy 𝓤 H A W w8) 5) N (replicate 5 0) %s" % zv5)
+        g.emit("assigns ! (rep ! bytes (lit ! tt)) (from ! (stop !)) (init ! %d refl (array-lawful 𝓤 H A W u8 (uint-lawful 𝓤 H A W w8) bytes .typed (replicate bytes 0) _ copy .0)) $ " % g.at("L%d" % ZERO))
+        g.use(1, "Arr", "‵ (Arr X₀ %s)" % zvN, "array-repeat 𝓤 H A W B (array-copy 𝓤 H A W u8 (uint-copy 𝓤 H A W w8) bytes) N (replicate bytes 0) %s" % zv5)
         g.line()
         g.emit("peeks ! (Array B N) (Is (Array B N)) (shows 𝓤 H A (Array B N)) X₀ (%s ∷ []) (λ new. " % zvN)
-        g.emit("assigns ! (rep ! N %s) (from ! (stop !)) (init ! %d refl (array-lawful 𝓤 H A W B (array-lawful 𝓤 H A W u8 (uint-lawful 𝓤 H A W w8) 5) N .typed X₀ _ new .0)) $ " % (g.look(ZERO), g.at("L%d" % self.HELD)))
+        g.emit("assigns ! (rep ! N %s) (from ! (stop !)) (init ! %d refl (array-lawful 𝓤 H A W B (array-lawful 𝓤 H A W u8 (uint-lawful 𝓤 H A W w8) bytes) N .typed X₀ _ new .0)) $ " % (g.look(ZERO), g.at("L%d" % self.HELD)))
         g.line()
         self.lh = "l" + sub(self.HELD)
 
@@ -668,7 +668,7 @@ class Call:
         g.move("L%d" % self.HELD, "Arr")
         hold = "‵ (flent (ν ∷ []) (Held B N %s 0 ε))" % self.lh if which == "lends-local" else "‵ (flent (ν ∷ []) (arr-parts (shares B) N .part fullShare %s %s 0))" % (X, self.lh)
         g.line()
-        g.use(2, "lend", "later (some (λ (ε : GName). ‵ (%s %s ν ε %s) ⊛ %s))" % (kind, self.lh, X, hold), "%s B tt vals₅ tells₅ N 𝓤 H A W (%s) (ν ∷ []) %s _ %s room" % (which, slot, X, self.lh))
+        g.use(2, "lend", "later (some (λ (ε : GName). ‵ (%s %s ν ε %s) ⊛ %s))" % (kind, self.lh, X, hold), "%s B tt byteVals byteTells N 𝓤 H A W (%s) (ν ∷ []) %s _ %s room" % (which, slot, X, self.lh))
         g.emit("await ! tt $ pick ! (λ ε. ")
         g.split("lent", "hold")
         g.line()
@@ -749,7 +749,7 @@ class Call:
         g.emit("lft-end ! tt $ ")
         g.move("ν", "hold", "fin")
         self.X1 = "(ws₁ .1 .0)"
-        g.use(3, "LA", "later (‵ (Cell %s (val₅ %s)) ⊛ ‵ (Arr %s (val₅ %s)))" % (self.lh, self.X1, self.X1, self.X1), "local-back B tt vals₅ tells₅ N 𝓤 H A W (ν ∷ []) ε %s %s" % (self.X1, self.lh))
+        g.use(3, "LA", "later (‵ (Cell %s (copiesVal %s)) ⊛ ‵ (Arr %s (copiesVal %s)))" % (self.lh, self.X1, self.X1, self.X1), "local-back B tt byteVals byteTells N 𝓤 H A W (ν ∷ []) ε %s %s" % (self.X1, self.lh))
         g.emit("await ! tt $ ")
         g.split("L%d" % self.HELD, "Arr")
         g.line()
@@ -771,7 +771,7 @@ class Call:
             g.slice_to(self.L["ans"], self.L["ans"] + 1, len(self.params), "room₆")
             opd[-1] = self.L["ans"] + 1
         g.move("Arr")
-        g.emit("peeks ! (Array B N) (Is (Array B N)) (shows 𝓤 H A (Array B N)) %s (val₅ %s ∷ []) (λ good₁. " % (self.X1, self.X1))
+        g.emit("peeks ! (Array B N) (Is (Array B N)) (shows 𝓤 H A (Array B N)) %s (copiesVal %s ∷ []) (λ good₁. " % (self.X1, self.X1))
         if self.has_store:
             self.lend("Mut₂", self.X1, slot="named 2")
         else:
@@ -850,10 +850,10 @@ class Call:
         self.X2 = "(ws₂ .1 .1 .1 .0)"
         if self.has_store:
             g.move("ν", "hold", "fin")
-            g.use(3, "LA", "later (‵ (Cell %s (val₅ %s)) ⊛ ‵ (Arr %s (val₅ %s)))" % (self.lh, self.X2, self.X2, self.X2), "local-back B tt vals₅ tells₅ N 𝓤 H A W (ν ∷ []) ε %s %s" % (self.X2, self.lh))
+            g.use(3, "LA", "later (‵ (Cell %s (copiesVal %s)) ⊛ ‵ (Arr %s (copiesVal %s)))" % (self.lh, self.X2, self.X2, self.X2), "local-back B tt byteVals byteTells N 𝓤 H A W (ν ∷ []) ε %s %s" % (self.X2, self.lh))
         else:
             g.move("ν", "hold")
-            g.use(2, "LA", "later (‵ (Cell %s (val₅ %s)) ⊛ ‵ (Arr %s (val₅ %s)))" % (self.lh, self.X1, self.X1, self.X1), "local-shared-back B tt vals₅ tells₅ N 𝓤 H A W (ν ∷ []) %s %s" % (self.X1, self.lh))
+            g.use(2, "LA", "later (‵ (Cell %s (copiesVal %s)) ⊛ ‵ (Arr %s (copiesVal %s)))" % (self.lh, self.X1, self.X1, self.X1), "local-shared-back B tt byteVals byteTells N 𝓤 H A W (ν ∷ []) %s %s" % (self.X1, self.lh))
         g.emit("await ! tt $ ")
         g.split("L%d" % self.HELD, "Arr")
         g.line()
@@ -873,7 +873,7 @@ class Call:
         if self.uses_past:
             self.pure_call("Past", "pt", "to-pt", ("goes-pt " + pf).strip(), [self.L["p"], self.CNT], self.LEN, "past-p", "said-pt", "w₄", "store", "is₄")
         g.move("Arr")
-        g.emit("peeks ! (Array B N) (Is (Array B N)) (shows 𝓤 H A (Array B N)) %s (val₅ %s ∷ []) (λ good₂. %s" % (self.X2, self.X2, "" if self.uses_past else "let start : ℕ = _ in "))
+        g.emit("peeks ! (Array B N) (Is (Array B N)) (shows 𝓤 H A (Array B N)) %s (copiesVal %s ∷ []) (λ good₂. %s" % (self.X2, self.X2, "" if self.uses_past else "let start : ℕ = _ in "))
         self.lend("Imm", self.X2, which="shares-local", slot="named 1")
         g.move("κ₃", "ν")
         g.join("κν")
@@ -916,7 +916,7 @@ class Call:
         g.move("ν")
         g.emit("lft-end ! tt $ ")
         g.move("ν", "hold")
-        g.use(2, "LA", "later (‵ (Cell %s (val₅ %s)) ⊛ ‵ (Arr %s (val₅ %s)))" % (self.lh, self.X2, self.X2, self.X2), "local-shared-back B tt vals₅ tells₅ N 𝓤 H A W (ν ∷ []) %s %s" % (self.X2, self.lh))
+        g.use(2, "LA", "later (‵ (Cell %s (copiesVal %s)) ⊛ ‵ (Arr %s (copiesVal %s)))" % (self.lh, self.X2, self.X2, self.X2), "local-shared-back B tt byteVals byteTells N 𝓤 H A W (ν ∷ []) %s %s" % (self.X2, self.lh))
         g.emit("await ! tt $ ")
         g.split("L%d" % self.HELD, "Arr")
         g.line()

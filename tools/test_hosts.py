@@ -7,7 +7,7 @@ from loading import text_of
 
 C = {"size_t": "usize", "double": "f64", "uint8_t": "u8", "uint16_t": "u16", "uint64_t": "u64", "solumivaf_record": "Record", "solumivaf_told": "Told",
      "solumivaf_read": "Read"}
-RATTLE = {"TaskRecord": "Record", "ReadTold": "Read"}
+RATTLE = {"ReadTold": "Read"}
 
 
 def parameters(text):
@@ -41,7 +41,17 @@ def declared_in_rust(text):
 
 
 def fields_of(name, text):
-    return re.findall(r"(\w+): (\w+),", re.search(r"struct %s \{([^}]*)\}" % name, text).group(1))
+    return re.findall(r"(\w+): (\w+|\[u8; \d+\]),", re.search(r"struct %s \{([^}]*)\}" % name, text).group(1))
+
+
+def fields_in_c(name, text):
+    fields = re.findall(r"(\w+) (\w+)(?:\[(\d+)\])?;", re.search(r"typedef struct \{([^}]*)\} %s;" % name, text).group(1))
+    return [(own, "[%s; %s]" % (C[kind], count) if count else C[kind]) for kind, own, count in fields]
+
+
+def in_bytes(fields):
+    """A struct's fields as they are lent in bytes: a u16 in two."""
+    return [(own, {"u8": "u8", "u16": "[u8; 2]"}[kind]) for own, kind in fields]
 
 
 def exports(*crates):
@@ -63,12 +73,22 @@ class Hosts(unittest.TestCase):
         self.assertIn("const VERSION: usize = %s;" % header, text_of("crates", "host_start", "src", "lib.rt"))
 
     def test_structs(self):
-        rattle = text_of("crates", "host_answers", "src", "lib.rt") + text_of("crates", "model", "src", "lib.rt")
-        for own, name, c_name in (("Told", "Told", "solumivaf_told"), ("ReadTold", "Read", "solumivaf_read"), ("TaskRecord", "Record", "solumivaf_record")):
-            fields = fields_of(own, rattle)
-            in_c = re.search(r"typedef struct \{([^}]*)\} %s;" % c_name, text_of("hosts", "solumivaf.h")).group(1)
-            self.assertEqual([(field, C[kind]) for kind, field in re.findall(r"(\w+) (\w+);", in_c)], fields)
-            self.assertEqual(fields_of(name, text_of("hosts", "solumivaf", "src", "lib.rs")), fields)
+        header, wrapper = text_of("hosts", "solumivaf.h"), text_of("hosts", "solumivaf", "src", "lib.rs")
+        for own, name, c_name in (("Told", "Told", "solumivaf_told"), ("ReadTold", "Read", "solumivaf_read")):
+            fields = fields_of(own, text_of("crates", "host_answers", "src", "lib.rt"))
+            self.assertEqual(fields_in_c(c_name, header), fields)
+            self.assertEqual(fields_of(name, wrapper), fields)
+
+    def test_records(self):
+        """The library is lent a record's fields in bytes, in an order of their own, as many as crates/records says; bench_structs is lent the struct itself."""
+        fields = fields_of("TaskRecord", text_of("crates", "model", "src", "lib.rt"))
+        length = sum({"u8": 1, "u16": 2}[kind] for _, kind in fields)
+        self.assertIn("pub const RECORD: usize = %d;" % length, text_of("crates", "records", "src", "lib.rt"))
+        in_c = fields_in_c("solumivaf_record", text_of("hosts", "solumivaf.h"))
+        self.assertEqual(sorted(in_c), sorted(in_bytes(fields)))
+        self.assertEqual(fields_of("Record", text_of("hosts", "solumivaf", "src", "lib.rs")), in_c)
+        for path in (("bench", "src", "structs.rs"), ("hosts", "solumivaf", "tests", "structs.rs")):
+            self.assertEqual(fields_of("TaskRecord", text_of(*path)), fields)
 
     def test_benchmark(self):
         for crate, source, count in (("bench_host", "main.rs", 4), ("bench_structs", "structs.rs", 5)):

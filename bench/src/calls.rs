@@ -1,5 +1,5 @@
 //! A take and a column call in Rust, with the checks of refusals 1, 2, 4, 5, 6 and 7. Each answers the refusal's number, or 0.
-use crate::loops::{column, fill, spoiled, task_count, triple, Record, DONE, FAILED, SPOILED, TAKEN};
+use crate::loops::{column, fill, put, spoiled, task_count, ties, triple, Record, DONE, FAILED, SPOILED, TAKEN};
 use crate::plain::{Shape, Version};
 
 #[derive(Clone, Copy)]
@@ -11,7 +11,18 @@ pub struct Worker {
 
 pub const IDLE: Worker = Worker { busy: false, task: 0, column: 0 };
 
-fn bad_records<V: Version>(n: usize, records: &[Record]) -> bool {
+/// A tie sum is too large by its task's mark. A taken task's is tested with its worker.
+fn bad_ties(t: usize, r: &Record) -> bool {
+    let most = match r[4] {
+        DONE | FAILED => (t * t) as u16,
+        TAKEN => u16::MAX,
+        _ => 0,
+    };
+    ties(r) > most
+}
+
+fn bad_records<V: Version>(s: &Shape, records: &[Record]) -> bool {
+    let n = s.tiles;
     let mut rest = records;
     for k in 0..n as u8 {
         for i in k..n as u8 {
@@ -25,7 +36,7 @@ fn bad_records<V: Version>(n: usize, records: &[Record]) -> bool {
                     (false, true) => [3, k, i, 0],
                     (false, false) => [4, k, i, j],
                 };
-                (r[0] != due[0]) | (r[1] != due[1]) | (r[2] != due[2]) | (r[3] != due[3]) | (r[4] > 4)
+                (r[0] != due[0]) | (r[1] != due[1]) | (r[2] != due[2]) | (r[3] != due[3]) | (r[4] > 4) | bad_ties(s.side, r)
             };
             if V::some(row.iter().enumerate().map(bad)) {
                 return true;
@@ -46,7 +57,8 @@ fn bad_holds(records: &[Record], workers: &[Worker]) -> bool {
 
 fn bad_workers(t: usize, records: &[Record], workers: &[Worker]) -> bool {
     for h in workers {
-        if h.busy && (h.task as usize >= records.len() || records[h.task as usize][4] != TAKEN || h.column as usize >= t) {
+        let (p, c) = (h.task as usize, h.column as usize);
+        if h.busy && (p >= records.len() || records[p][4] != TAKEN || c >= t || ties(&records[p]) as usize > t * c) {
             return true;
         }
     }
@@ -85,7 +97,7 @@ pub fn bad_sizes(s: &Shape, matrix: &[f64], lists: &[u8], records: &[Record], wo
 
 /// Refusal 4 but for elements.
 pub fn damaged<V: Version>(s: &Shape, lists: &[u8], records: &[Record], workers: &[Worker]) -> bool {
-    bad_records::<V>(s.tiles, records) || bad_holds(records, workers) || bad_workers(s.side, records, workers) || bad_entries::<V>(s, lists)
+    bad_records::<V>(s, records) || bad_holds(records, workers) || bad_workers(s.side, records, workers) || bad_entries::<V>(s, lists)
 }
 
 /// Refusals 1, 2 and 4 but for elements.
@@ -158,19 +170,19 @@ pub fn work<V: Version>(s: &Shape, matrix: &mut [f64], lists: &mut [u8], records
     }
     let c = h.column as usize;
     let (k, i, j) = triple(r);
-    let mark = if c == 0 && spoiled(s.tiles, records, k, i, j) {
-        SPOILED
-    } else if !column::<V>(s, matrix, lists, r, c) {
-        FAILED
-    } else if c + 1 == s.side {
-        DONE
+    let (mark, more) = if c == 0 && spoiled(s.tiles, records, k, i, j) {
+        (SPOILED, 0)
     } else {
-        TAKEN
+        match column::<V>(s, matrix, lists, r, c) {
+            None => (FAILED, 0),
+            Some(more) if c + 1 == s.side => (DONE, more),
+            Some(more) => (TAKEN, more),
+        }
     };
     if mark > DONE {
         fill(s, matrix, lists, r);
     }
-    records[p][4] = mark;
+    put(&mut records[p], mark, more);
     workers[w] = if mark == TAKEN { Worker { busy: true, task: h.task, column: h.column + 1 } } else { IDLE };
     0
 }

@@ -1,8 +1,8 @@
 //! Tasks as bytes, what a failed or spoiled one leaves, and the published loops.
 use crate::plain::{self, Shape, Version};
 
-/// Kind, k, i, j and mark.
-pub type Record = [u8; 5];
+/// Kind, k, i, j, mark, and the tie sum in two bytes, the low one first.
+pub type Record = [u8; 7];
 
 pub const TAKEN: u8 = 1;
 pub const DONE: u8 = 2;
@@ -11,6 +11,17 @@ pub const SPOILED: u8 = 4;
 
 pub fn task_count(n: usize) -> usize {
     n * (n + 1) * (2 * n + 1) / 6
+}
+
+/// The sum of a task's ties.
+pub fn ties(r: &Record) -> u16 {
+    u16::from_le_bytes([r[5], r[6]])
+}
+
+/// What a task's column leaves in its record: the mark, and its ties added to the sum.
+pub fn put(r: &mut Record, mark: u8, more: u16) {
+    let [low, high] = (ties(r) + more).to_le_bytes();
+    (r[4], r[5], r[6]) = (mark, low, high);
 }
 
 /// The number of T-1(k) as (k,k,k), T-2(k,j) as (k,k,j), T-3(k,i) as (k,i,k), T-4(k,i,j) as itself.
@@ -22,14 +33,14 @@ pub fn number(n: usize, k: usize, i: usize, j: usize) -> usize {
 pub fn numbering(n: usize) -> Vec<Record> {
     let mut out = Vec::new();
     for k in 0..n {
-        out.push([1, k as u8, 0, 0, 0]);
+        out.push([1, k as u8, 0, 0, 0, 0, 0]);
         for j in k + 1..n {
-            out.push([2, k as u8, 0, j as u8, 0]);
+            out.push([2, k as u8, 0, j as u8, 0, 0, 0]);
         }
         for i in k + 1..n {
-            out.push([3, k as u8, i as u8, 0, 0]);
+            out.push([3, k as u8, i as u8, 0, 0, 0, 0]);
             for j in k + 1..n {
-                out.push([4, k as u8, i as u8, j as u8, 0]);
+                out.push([4, k as u8, i as u8, j as u8, 0, 0, 0]);
             }
         }
     }
@@ -47,14 +58,14 @@ pub fn spoiled(n: usize, records: &[Record], k: usize, i: usize, j: usize) -> bo
     (k > 0 && broken(number(n, k - 1, i, j))) || (i > k && broken(number(n, k, i - 1, j))) || (j > k && broken(number(n, k, i, k)))
 }
 
-/// Column c of the task. False where a computed number isn't finite.
-pub fn column<V: Version>(s: &Shape, m: &mut [f64], l: &mut [u8], r: Record, c: usize) -> bool {
+/// Column c of the task: its ties. None where a computed number isn't finite.
+pub fn column<V: Version>(s: &Shape, m: &mut [f64], l: &mut [u8], r: Record, c: usize) -> Option<u16> {
     let (k, i, j) = (r[1] as usize, r[2] as usize, r[3] as usize);
     match r[0] {
         1 => plain::factor::<V>(s, m, l, k, c),
-        2 => plain::apply::<V>(s, m, l, k, j, c),
+        2 => plain::apply::<V>(s, m, l, k, j, c).then_some(0),
         3 => plain::couple::<V>(s, m, l, k, i, c),
-        _ => plain::pair::<V>(s, m, l, k, i, j, c),
+        _ => plain::pair::<V>(s, m, l, k, i, j, c).then_some(0),
     }
 }
 
@@ -94,20 +105,21 @@ pub fn loops<V: Version>(s: &Shape, m: &mut [f64], l: &mut [u8], records: &mut [
     for p in 0..records.len() {
         let r = records[p];
         let (k, i, j) = triple(r);
-        let mut mark = DONE;
+        let (mut mark, mut sum) = (DONE, 0);
         if spoiled(n, records, k, i, j) {
             mark = SPOILED;
         } else {
             for c in 0..s.side {
-                if !column::<V>(s, m, l, r, c) {
+                let Some(more) = column::<V>(s, m, l, r, c) else {
                     mark = FAILED;
                     break;
-                }
+                };
+                sum += more;
             }
         }
         if mark != DONE {
             fill(s, m, l, r);
         }
-        records[p][4] = mark;
+        put(&mut records[p], mark, sum);
     }
 }

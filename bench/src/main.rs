@@ -13,13 +13,14 @@ use loops::Record;
 use plain::{Collected, Fours, Leaving, Shape, Version, Widths};
 use solumivaf::{Run, Sizes};
 use std::hint::black_box;
+use structs::TaskRecord;
 
 // The functions of crates/bench_host. A slice is its start and its length.
 extern "C" {
-    fn bench_factor_column(tiles: usize, side: usize, matrix: *mut f64, matrix_length: usize, lists: *mut u8, lists_length: usize, k: usize, c: usize) -> u8;
-    fn bench_apply_column(tiles: usize, side: usize, matrix: *mut f64, matrix_length: usize, lists: *const u8, lists_length: usize, k: usize, j: usize, c: usize) -> u8;
-    fn bench_couple_column(tiles: usize, side: usize, matrix: *mut f64, matrix_length: usize, lists: *mut u8, lists_length: usize, k: usize, i: usize, c: usize) -> u8;
-    fn bench_pair_column(tiles: usize, side: usize, matrix: *mut f64, matrix_length: usize, lists: *const u8, lists_length: usize, k: usize, i: usize, j: usize, c: usize) -> u8;
+    fn bench_factor_column(tiles: usize, side: usize, matrix: *mut f64, matrix_length: usize, lists: *mut u8, lists_length: usize, k: usize, c: usize) -> u32;
+    fn bench_apply_column(tiles: usize, side: usize, matrix: *mut f64, matrix_length: usize, lists: *const u8, lists_length: usize, k: usize, j: usize, c: usize) -> u32;
+    fn bench_couple_column(tiles: usize, side: usize, matrix: *mut f64, matrix_length: usize, lists: *mut u8, lists_length: usize, k: usize, i: usize, c: usize) -> u32;
+    fn bench_pair_column(tiles: usize, side: usize, matrix: *mut f64, matrix_length: usize, lists: *const u8, lists_length: usize, k: usize, i: usize, j: usize, c: usize) -> u32;
 }
 
 // ---- time
@@ -45,10 +46,12 @@ fn thread_time() -> f64 {
 
 // ---- what is timed
 
-/// What both sides are lent; answers and text are empty where a call has none. The workers are Rattle's: the Rust calls have their own.
+/// What both sides are lent; answers and text are empty where a call has none, and so are the records as structs where no call is over structs. The
+/// workers are Rattle's: the Rust calls have their own.
 #[derive(Clone)]
 struct Lent {
     to: solumivaf::Lent,
+    structs: Vec<TaskRecord>,
     answers: Vec<f64>,
     text: Vec<u8>,
 }
@@ -59,8 +62,25 @@ impl Lent {
         self.to.lists.copy_from_slice(&other.to.lists);
         self.to.records.copy_from_slice(&other.to.records);
         self.to.workers.clone_from(&other.to.workers);
+        self.structs.copy_from_slice(&other.structs);
         self.answers.copy_from_slice(&other.answers);
         self.text.copy_from_slice(&other.text);
+    }
+
+    /// The same with its records as structs too.
+    fn with_structs(&self) -> Lent {
+        let mut other = self.clone();
+        other.structs = bytes(&mut other.to.records).iter().map(TaskRecord::of).collect();
+        other
+    }
+
+    /// Puts what a call over structs has written into the records that the other calls write.
+    fn put_structs(&mut self, start: &Lent) {
+        if self.structs != start.structs {
+            for (record, written) in bytes(&mut self.to.records).iter_mut().zip(&self.structs) {
+                *record = written.bytes();
+            }
+        }
     }
 
     fn same(&self, other: &Lent) -> bool {
@@ -85,12 +105,12 @@ fn fresh(s: &Shape, seed: u64) -> Lent {
     let n = s.tiles * s.side;
     let mut to = solumivaf::Lent::of(sizes(s, 1), numbers(seed, n * n));
     bytes(&mut to.records).copy_from_slice(&loops::numbering(s.tiles));
-    Lent { to, answers: Vec::new(), text: Vec::new() }
+    Lent { to, structs: Vec::new(), answers: Vec::new(), text: Vec::new() }
 }
 
-/// The records as the Rust side has them, five bytes each.
+/// The records as the Rust side has them, seven bytes each.
 fn bytes(records: &mut [solumivaf::Record]) -> &mut [Record] {
-    // SAFETY: a `solumivaf::Record` is five `u8` in C's layout, so it has the size and alignment of five bytes; the borrow passes on.
+    // SAFETY: a `solumivaf::Record` is seven `u8` in C's layout, so it has the size and alignment of seven bytes; the borrow passes on.
     unsafe { std::slice::from_raw_parts_mut(records.as_mut_ptr().cast(), records.len()) }
 }
 
@@ -179,6 +199,7 @@ fn compare<'a>(rounds: usize, copies: usize, start: &Lent, rust: Vec<(&'static s
         for turn in 0..steps.len() {
             let x = (round + turn) % steps.len();
             times[x].push(timed(&mut data, start, &mut steps[x]));
+            data[0].put_structs(start);
             let want = left.get_or_insert_with(|| data[0].clone());
             assert!(data[0].same(want));
         }
@@ -219,18 +240,19 @@ impl Table {
 
 /// Column c of a task of stage k, at row and column i. Like Rattle's, it is called and told its indices.
 #[inline(never)]
-fn plain_step<V: Version>(kind: usize, s: &Shape, m: &mut [f64], l: &mut [u8], k: usize, i: usize, c: usize) -> bool {
+fn plain_step<V: Version>(kind: usize, s: &Shape, m: &mut [f64], l: &mut [u8], k: usize, i: usize, c: usize) -> Option<u16> {
     match kind {
         1 => plain::factor::<V>(s, m, l, k, c),
-        2 => plain::apply::<V>(s, m, l, k, i, c),
+        2 => plain::apply::<V>(s, m, l, k, i, c).then_some(0),
         3 => plain::couple::<V>(s, m, l, k, i, c),
-        _ => plain::pair::<V>(s, m, l, k, i, i, c),
+        _ => plain::pair::<V>(s, m, l, k, i, i, c).then_some(0),
     }
 }
 
 fn plain_columns<V: Version>(kind: usize, s: &Shape, k: usize, i: usize, x: &mut Lent) {
     for c in 0..s.side {
-        assert!(plain_step::<V>(kind, s, &mut x.to.matrix, &mut x.to.lists, k, i, c));
+        // The ties are asked for, so that they are counted.
+        assert!(black_box(plain_step::<V>(kind, s, &mut x.to.matrix, &mut x.to.lists, k, i, c)).is_some());
     }
 }
 
@@ -239,7 +261,7 @@ fn rattle_columns(kind: usize, s: &Shape, k: usize, i: usize, x: &mut Lent) {
     let (m, l) = (x.to.matrix.as_mut_ptr(), x.to.lists.as_mut_ptr());
     for c in 0..t {
         // SAFETY: what the functions require holds: sizes and lengths that fit, finite numbers, entries in range. The two buffers are apart.
-        let mark = unsafe {
+        let told = unsafe {
             match kind {
                 1 => bench_factor_column(n, t, m, ml, l, ll, k, c),
                 2 => bench_apply_column(n, t, m, ml, l, ll, k, i, c),
@@ -247,6 +269,7 @@ fn rattle_columns(kind: usize, s: &Shape, k: usize, i: usize, x: &mut Lent) {
                 _ => bench_pair_column(n, t, m, ml, l, ll, k, i, i, c),
             }
         };
+        let mark = told % 256;
         assert!(mark == 1 || mark == 2);
     }
 }
@@ -308,7 +331,9 @@ fn runs(table: &mut Table, tiles: usize, t: usize, rounds: usize) {
         let times = compare(rounds, 1, &start, versions!(plain_run, |x| &s, x), |x| assert_eq!(factorize(&s, workers, u64::MAX, x), calls));
         table.row(format!("opening and whole run, N = {tiles}, t = {t}, W = {workers}"), times);
     }
-    let times = compare(rounds, 1, &start, versions!(plain_run, |x| &s, x), |x| assert_eq!(structs::factorize(&s, 1, u64::MAX, &mut x.to), calls));
+    let start = start.with_structs();
+    let over_structs = |x: &mut Lent| assert_eq!(structs::factorize(&s, 1, u64::MAX, &mut x.to, &mut x.structs), calls);
+    let times = compare(rounds, 1, &start, versions!(plain_run, |x| &s, x), over_structs);
     table.row(format!("opening and whole run over structs, N = {tiles}, t = {t}, W = 1"), times);
 }
 
@@ -341,12 +366,12 @@ fn rattle_column(s: &Shape, workers: usize, x: &mut Lent) {
 
 #[inline(never)]
 fn struct_take(s: &Shape, workers: usize, p: usize, x: &mut Lent) {
-    assert_eq!(structs::take(s, workers, p, &mut x.to), 0);
+    assert_eq!(structs::take(s, workers, p, &mut x.to, &mut x.structs), 0);
 }
 
 #[inline(never)]
 fn struct_column(s: &Shape, workers: usize, p: usize, c: usize, x: &mut Lent) {
-    assert_eq!(structs::column(s, workers, p, c, &mut x.to), 0);
+    assert_eq!(structs::column(s, workers, p, c, &mut x.to, &mut x.structs), 0);
 }
 
 fn plain_task<V: Version>(s: &Shape, workers: usize, p: usize, x: &mut Lent) {
@@ -370,6 +395,7 @@ fn single_calls(table: &mut Table, tiles: usize, t: usize, rounds: usize) {
         let all = compare(rounds, 1, &taken, versions!(plain_task, |x| &s, workers, p, x), |x| (0..t).for_each(|_| rattle_column(&s, workers, x)));
         table.row(format!("a column call of T-4, N = {tiles}, t = {t}, W = {workers}"), all.over(t));
     }
+    let (start, taken) = (start.with_structs(), taken.with_structs());
     let times = compare(rounds, 1, &start, versions!(plain_take, |x| &s, 1, p, x), |x| struct_take(&s, 1, p, x));
     table.row(format!("a take over structs, N = {tiles}, t = {t}, W = 1"), times);
     let all = compare(rounds, 1, &taken, versions!(plain_task, |x| &s, 1, p, x), |x| (0..t).for_each(|c| struct_column(&s, 1, p, c, x)));
@@ -390,7 +416,7 @@ fn rattle_solve(s: &Shape, right: &[f64], x: &mut Lent) {
 
 #[inline(never)]
 fn struct_solve(s: &Shape, right: &[f64], x: &mut Lent) {
-    assert_eq!(structs::solve(s, right, &x.to, &mut x.answers), 0);
+    assert_eq!(structs::solve(s, right, &x.to, &x.structs, &mut x.answers), 0);
 }
 
 fn solves(table: &mut Table, tiles: usize, t: usize, rounds: usize) {
@@ -401,6 +427,7 @@ fn solves(table: &mut Table, tiles: usize, t: usize, rounds: usize) {
     let right = numbers(19, tiles * t);
     let times = compare(rounds, 1, &start, versions!(plain_solve, |x| &s, &right, x), |x| rattle_solve(&s, &right, x));
     table.row(format!("a solve, N = {tiles}, t = {t}, W = 1"), times);
+    let start = start.with_structs();
     let times = compare(rounds, 1, &start, versions!(plain_solve, |x| &s, &right, x), |x| struct_solve(&s, &right, x));
     table.row(format!("a solve over structs, N = {tiles}, t = {t}, W = 1"), times);
 }

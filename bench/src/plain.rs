@@ -271,27 +271,30 @@ fn exchange(m: &mut [f64], a: usize, b: usize, n: usize) {
     }
 }
 
-/// Column c of T-1(k). False where a computed number isn't finite; so are the others.
-pub fn factor<V: Version>(s: &Shape, m: &mut [f64], l: &mut [u8], k: usize, c: usize) -> bool {
+/// Column c of T-1(k): its pivot's ties. None where a computed number isn't finite.
+pub fn factor<V: Version>(s: &Shape, m: &mut [f64], l: &mut [u8], k: usize, c: usize) -> Option<u16> {
     let t = s.side;
     let a = s.tile(k, k);
-    let (mut row, mut best) = (c, m[a + c * t + c].abs());
+    let (mut row, mut best, mut ties) = (c, m[a + c * t + c].abs(), 0);
     for r in c + 1..t {
         let x = m[a + r * t + c].abs();
         if best < x {
             row = r;
             best = x;
+            ties = 0;
+        } else if best == x {
+            ties += 1;
         }
     }
     l[s.list(k, k) + c] = if best == 0.0 { c as u8 } else { row as u8 };
     if best == 0.0 {
-        return true;
+        return Some(0);
     }
     exchange(m, a + c * t, a + row * t, t);
-    V::eliminate(m, t, a + c * t, a + (c + 1) * t, t - c - 1, c)
+    V::eliminate(m, t, a + c * t, a + (c + 1) * t, t - c - 1, c).then_some(ties)
 }
 
-/// Column c of T-2(k,j).
+/// Column c of T-2(k,j). False where a computed number isn't finite.
 pub fn apply<V: Version>(s: &Shape, m: &mut [f64], l: &[u8], k: usize, j: usize, c: usize) -> bool {
     let t = s.side;
     let (f, b) = (s.tile(k, k), s.tile(k, j));
@@ -303,29 +306,32 @@ pub fn apply<V: Version>(s: &Shape, m: &mut [f64], l: &[u8], k: usize, j: usize,
     V::update_rows(m, t, b + c * t, b + (c + 1) * t, t - c - 1, 0, |m, r| m[f + (c + 1 + r) * t + c])
 }
 
-/// Column c of T-3(k,i).
-pub fn couple<V: Version>(s: &Shape, m: &mut [f64], l: &mut [u8], k: usize, i: usize, c: usize) -> bool {
+/// Column c of T-3(k,i), told like that of T-1.
+pub fn couple<V: Version>(s: &Shape, m: &mut [f64], l: &mut [u8], k: usize, i: usize, c: usize) -> Option<u16> {
     let t = s.side;
     let (u, d) = (s.tile(k, k), s.tile(i, k));
-    let (mut entry, mut best) = (0, m[u + c * t + c].abs());
+    let (mut entry, mut best, mut ties) = (0, m[u + c * t + c].abs(), 0);
     for r in 0..t {
         let x = m[d + r * t + c].abs();
         if best < x {
             entry = r + 1;
             best = x;
+            ties = 0;
+        } else if best == x {
+            ties += 1;
         }
     }
     l[s.list(i, k) + c] = if best == 0.0 { 0 } else { entry as u8 };
     if best == 0.0 {
-        return true;
+        return Some(0);
     }
     if entry > 0 {
         exchange(m, u + c * t + c, d + (entry - 1) * t + c, t - c);
     }
-    V::eliminate(m, t, u + c * t, d, t, c)
+    V::eliminate(m, t, u + c * t, d, t, c).then_some(ties)
 }
 
-/// Column c of T-4(k,i,j).
+/// Column c of T-4(k,i,j), told like that of T-2.
 pub fn pair<V: Version>(s: &Shape, m: &mut [f64], l: &[u8], k: usize, i: usize, j: usize, c: usize) -> bool {
     let t = s.side;
     let (f, u, d) = (s.tile(i, k), s.tile(k, j), s.tile(i, j));

@@ -1,6 +1,7 @@
 //! The calls over task records as structs: the functions of crates/bench_structs. All workers are idle, but for the one that does a column.
+use crate::loops::{ties, Record};
 use crate::plain::Shape;
-use solumivaf::{Lent, Record};
+use solumivaf::Lent;
 
 /// N, t and W, as C has them.
 #[repr(C)]
@@ -10,14 +11,37 @@ struct Sizes {
     workers: usize,
 }
 
+/// A task's record, as C has it.
+#[repr(C)]
+#[derive(Clone, Copy, PartialEq)]
+pub struct TaskRecord {
+    kind: u8,
+    k: u8,
+    i: u8,
+    j: u8,
+    ties: u16,
+    mark: u8,
+}
+
+impl TaskRecord {
+    pub fn of(r: &Record) -> TaskRecord {
+        TaskRecord { kind: r[0], k: r[1], i: r[2], j: r[3], mark: r[4], ties: ties(r) }
+    }
+
+    pub fn bytes(&self) -> Record {
+        let [low, high] = self.ties.to_le_bytes();
+        [self.kind, self.k, self.i, self.j, self.mark, low, high]
+    }
+}
+
 // A slice is its start and its length. To be safe a call needs starts and lengths that belong together, of buffers that do not overlap and that
 // no one else writes: each is that of a Vec or slice of its own, borrowed for the call. The functions require nothing else.
 extern "C" {
-    fn bench_open(z: Sizes, matrix: *const f64, matrix_length: usize, lists: *mut u8, lists_length: usize, records: *mut Record, records_length: usize) -> u8;
-    fn bench_take(z: Sizes, matrix: *const f64, matrix_length: usize, lists: *const u8, lists_length: usize, records: *mut Record, records_length: usize, w: usize, p: usize) -> u8;
-    fn bench_column(z: Sizes, matrix: *mut f64, matrix_length: usize, lists: *mut u8, lists_length: usize, records: *mut Record, records_length: usize, w: usize, p: u16, c: u8) -> u8;
-    fn bench_run(z: Sizes, matrix: *mut f64, matrix_length: usize, lists: *mut u8, lists_length: usize, records: *mut Record, records_length: usize, budget: u64) -> u64;
-    fn bench_solve(z: Sizes, matrix: *const f64, matrix_length: usize, lists: *const u8, lists_length: usize, records: *const Record, records_length: usize, right: *const f64, right_length: usize, answers: *mut f64, answers_length: usize) -> u8;
+    fn bench_open(z: Sizes, matrix: *const f64, matrix_length: usize, lists: *mut u8, lists_length: usize, records: *mut TaskRecord, records_length: usize) -> u8;
+    fn bench_take(z: Sizes, matrix: *const f64, matrix_length: usize, lists: *const u8, lists_length: usize, records: *mut TaskRecord, records_length: usize, w: usize, p: usize) -> u8;
+    fn bench_column(z: Sizes, matrix: *mut f64, matrix_length: usize, lists: *mut u8, lists_length: usize, records: *mut TaskRecord, records_length: usize, w: usize, p: u16, c: u8) -> u8;
+    fn bench_run(z: Sizes, matrix: *mut f64, matrix_length: usize, lists: *mut u8, lists_length: usize, records: *mut TaskRecord, records_length: usize, budget: u64) -> u64;
+    fn bench_solve(z: Sizes, matrix: *const f64, matrix_length: usize, lists: *const u8, lists_length: usize, records: *const TaskRecord, records_length: usize, right: *const f64, right_length: usize, answers: *mut f64, answers_length: usize) -> u8;
 }
 
 fn sizes(s: &Shape, workers: usize) -> Sizes {
@@ -25,9 +49,9 @@ fn sizes(s: &Shape, workers: usize) -> Sizes {
 }
 
 /// Opens the system and runs it: the count of the calls made.
-pub fn factorize(s: &Shape, workers: usize, budget: u64, x: &mut Lent) -> u64 {
-    let (ml, ll, rl) = (x.matrix.len(), x.lists.len(), x.records.len());
-    let (m, l, r) = (x.matrix.as_mut_ptr(), x.lists.as_mut_ptr(), x.records.as_mut_ptr());
+pub fn factorize(s: &Shape, workers: usize, budget: u64, x: &mut Lent, records: &mut [TaskRecord]) -> u64 {
+    let (ml, ll, rl) = (x.matrix.len(), x.lists.len(), records.len());
+    let (m, l, r) = (x.matrix.as_mut_ptr(), x.lists.as_mut_ptr(), records.as_mut_ptr());
     // SAFETY: as above the functions' declarations.
     unsafe {
         assert_eq!(bench_open(sizes(s, workers), m, ml, l, ll, r, rl), 0);
@@ -35,22 +59,22 @@ pub fn factorize(s: &Shape, workers: usize, budget: u64, x: &mut Lent) -> u64 {
     }
 }
 
-pub fn take(s: &Shape, workers: usize, p: usize, x: &mut Lent) -> u8 {
-    let (ml, ll, rl) = (x.matrix.len(), x.lists.len(), x.records.len());
+pub fn take(s: &Shape, workers: usize, p: usize, x: &mut Lent, records: &mut [TaskRecord]) -> u8 {
+    let (ml, ll, rl) = (x.matrix.len(), x.lists.len(), records.len());
     // SAFETY: as above the functions' declarations.
-    unsafe { bench_take(sizes(s, workers), x.matrix.as_ptr(), ml, x.lists.as_ptr(), ll, x.records.as_mut_ptr(), rl, 0, p) }
+    unsafe { bench_take(sizes(s, workers), x.matrix.as_ptr(), ml, x.lists.as_ptr(), ll, records.as_mut_ptr(), rl, 0, p) }
 }
 
-pub fn column(s: &Shape, workers: usize, p: usize, c: usize, x: &mut Lent) -> u8 {
-    let (ml, ll, rl) = (x.matrix.len(), x.lists.len(), x.records.len());
-    let (m, l, r) = (x.matrix.as_mut_ptr(), x.lists.as_mut_ptr(), x.records.as_mut_ptr());
+pub fn column(s: &Shape, workers: usize, p: usize, c: usize, x: &mut Lent, records: &mut [TaskRecord]) -> u8 {
+    let (ml, ll, rl) = (x.matrix.len(), x.lists.len(), records.len());
+    let (m, l, r) = (x.matrix.as_mut_ptr(), x.lists.as_mut_ptr(), records.as_mut_ptr());
     // SAFETY: as above the functions' declarations.
     unsafe { bench_column(sizes(s, workers), m, ml, l, ll, r, rl, 0, p as u16, c as u8) }
 }
 
-pub fn solve(s: &Shape, right: &[f64], x: &Lent, answers: &mut [f64]) -> u8 {
-    let (ml, ll, rl, al) = (x.matrix.len(), x.lists.len(), x.records.len(), answers.len());
-    let (m, l, r) = (x.matrix.as_ptr(), x.lists.as_ptr(), x.records.as_ptr());
+pub fn solve(s: &Shape, right: &[f64], x: &Lent, records: &[TaskRecord], answers: &mut [f64]) -> u8 {
+    let (ml, ll, rl, al) = (x.matrix.len(), x.lists.len(), records.len(), answers.len());
+    let (m, l, r) = (x.matrix.as_ptr(), x.lists.as_ptr(), records.as_ptr());
     // SAFETY: as above the functions' declarations.
     unsafe { bench_solve(sizes(s, 1), m, ml, l, ll, r, rl, right.as_ptr(), right.len(), answers.as_mut_ptr(), al) }
 }

@@ -21,7 +21,7 @@ import os
 import struct
 from typing import Iterable, List, NamedTuple, Sequence, Tuple
 
-VERSION = 3
+VERSION = 4
 MOST_TILES, MOST_SIDE, MOST_TASKS, SLOTS = 16, 16, 1496, 32
 TO_THE_END = 2 ** 64 - 1
 
@@ -125,8 +125,19 @@ class Mark(enum.IntEnum):
 
 
 class Record(ctypes.Structure):
-    """A task: its kind, 1 to 4 for T-1 to T-4, k, i and j, 0 where the kind has none, and its mark."""
-    _fields_ = [(name, ctypes.c_uint8) for name in ("kind", "k", "i", "j", "mark")]
+    """A task: its kind, 1 to 4 for T-1 to T-4, k, i and j, 0 where the kind has none, its mark, and the sum of its ties, which crosses as two bytes,
+    the low one first."""
+    _fields_ = [(name, ctypes.c_uint8) for name in ("kind", "k", "i", "j", "mark")] + [("_ties", ctypes.c_uint8 * 2)]
+
+    @property
+    def ties(self) -> int:
+        """The sum of its ties: in each column that a T-1 or T-3 has completed, the other candidates of the pivot's magnitude. A pivot of zero has
+        none. T-2, T-4 and spoiled tasks have 0."""
+        return int.from_bytes(self._ties, "little")
+
+    @ties.setter
+    def ties(self, value: int) -> None:
+        self._ties[:] = _whole(value, 2 ** 16 - 1).to_bytes(2, "little")
 
 
 class Workers(ctypes.Structure):
@@ -271,8 +282,8 @@ def _accept(told: ctypes.Structure, in_file: bool = False) -> None:
 class Lent:
     """Everything lent to a call, around a copy of the matrix, whose numbers stand tile after tile and each tile row by row.
 
-    The attributes are ctypes arrays: `matrix[:]` and `lists[:]` are lists, `records[p].mark` is a task's mark, `workers.busy[w]` a worker's byte. For
-    sizes out of range, lists and records are empty, so that opening is refused."""
+    The attributes are ctypes arrays: `matrix[:]` and `lists[:]` are lists, `records[p].mark` is a task's mark and `records[p].ties` the sum of its
+    ties, `workers.busy[w]` a worker's byte. For sizes out of range, lists and records are empty, so that opening is refused."""
 
     def __init__(self, sizes: Tuple[int, int, int], matrix: Sequence[float]) -> None:
         self.sizes = Sizes(*(_whole(size) for size in sizes))
@@ -292,7 +303,7 @@ class Lent:
         return told
 
     def open(self) -> None:
-        """Starts the work on the matrix: row lists of 0, every task waiting, every worker idle."""
+        """Starts the work on the matrix: row lists of 0, every task waiting and without ties, every worker idle."""
         _test_arithmetic()
         self._call("solumivaf_open")
 
@@ -301,7 +312,7 @@ class Lent:
         self._call("solumivaf_take", _whole(worker), _whole(task))
 
     def column(self, worker: int) -> None:
-        """A busy worker does the next column of its task."""
+        """A busy worker does the next column of its task. The ties of a completed column join the task's sum."""
         _test_arithmetic()
         self._call("solumivaf_column", _whole(worker))
 

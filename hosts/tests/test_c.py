@@ -30,7 +30,7 @@ REFUSALS = {"SIZES": (1, "out of range"), "LENGTH": (2, "a length"), "NOT_FINITE
             "WORKER": (5, "the worker named"), "NO_TASK": (6, "the task named does not exist"), "NOT_READY": (7, "not ready"),
             "TOO_EARLY": (8, "too early"), "OVERFLOW": (9, "overflow"), "SINGULAR": (10, "singular"), "SOLVING": (11, "a solve meets"),
             "MALFORMED": (12, "malformed"), "OUT_OF_ORDER": (13, "out of order"), "END": (14, "ends too early"), "SHORT_TEXT": (15, "too short")}
-OTHERS = {"VERSION": 3, "MOST_TILES": 16, "MOST_SIDE": 16, "MOST_TASKS": 1496, "SLOTS": 32, "TASK_FACTOR": 1, "TASK_APPLY": 2, "TASK_COUPLE": 3,
+OTHERS = {"VERSION": 4, "MOST_TILES": 16, "MOST_SIDE": 16, "MOST_TASKS": 1496, "SLOTS": 32, "TASK_FACTOR": 1, "TASK_APPLY": 2, "TASK_COUPLE": 3,
           "TASK_PAIR": 4, "MARK_WAITING": 0, "MARK_TAKEN": 1, "MARK_DONE": 2, "MARK_FAILED": 3, "MARK_SPOILED": 4, "RUN_FINISHED": 1, "RUN_SPENT": 2,
           "OUTCOME_GOOD": 0, "OUTCOME_OVERFLOW": 1, "OUTCOME_SINGULAR": 2, "OUTCOME_UNFINISHED": 3}
 
@@ -60,6 +60,30 @@ int main(int count, char **words) {
     printf("%d %016" PRIX64, arithmetic, bits);
     return 0;
 }
+"""
+
+# Prints the tie sums of the system 2 2 / -2 1, as one tile and as four. Then a sum is damaged: the solve is refused and changes nothing.
+TIES = r"""
+#include <stdio.h>
+#include "solumivaf.h"
+
+#define TASKS SOLUMIVAF_RECORDS_LENGTH(tiles)
+#define LENT tiles, side, 1, matrix, 4, lists, SOLUMIVAF_LISTS_LENGTH(tiles, side), records, TASKS, busy, task, column, 1
+
+static int sums(size_t tiles, size_t side) {
+    double matrix[4] = {2, 2, -2, 1}, right[2] = {1, 1}, answers[2] = {5, 7};
+    uint8_t lists[4], busy[SOLUMIVAF_SLOTS], column[SOLUMIVAF_SLOTS];
+    uint16_t task[SOLUMIVAF_SLOTS];
+    solumivaf_record records[5], damaged[5];
+    if (solumivaf_open(LENT).number != 0 || solumivaf_run(LENT, UINT64_MAX).number != 0) return 0;
+    for (size_t p = 0; p < TASKS; p++) printf("%u ", solumivaf_ties(records[p]));
+    records[0].ties[1] = 1;
+    memcpy(damaged, records, TASKS * sizeof *records);
+    return solumivaf_solve(LENT, right, 2, answers, 2).number == SOLUMIVAF_REFUSED_DAMAGED && answers[0] == 5 && answers[1] == 7
+        && memcmp(damaged, records, TASKS * sizeof *records) == 0;
+}
+
+int main(void) { return sums(1, 2) && sums(2, 1) ? 0 : 1; }
 """
 
 # Counts what is allocated and freed, lets the allocation named in FAILING fail, and ends with a signal where something is kept.
@@ -157,6 +181,30 @@ int main(void) {
                 due.append([(n * t) ** 2, n * n * t, sum(k * k for k in range(n + 1)), n * t, system, system + sum(lists) + 9])
         lines = self.printed(self.compiled(C11, source)).splitlines()
         self.assertEqual([[int(word) for word in line.split()] for line in lines], due)
+
+    def test_record(self):
+        source = self.source("record.c", r"""
+#include <stdio.h>
+#include "solumivaf.h"
+int main(void) {
+    solumivaf_record records[2];
+    uint8_t bytes[sizeof records];
+    for (unsigned at = 0; at < sizeof bytes; at++) bytes[at] = (uint8_t)(0xF0 + at);
+    memcpy(records, bytes, sizeof bytes);
+    for (int at = 0; at < 2; at++)
+        printf("%d %d %d %d %d %u\n", records[at].kind, records[at].k, records[at].i, records[at].j, records[at].mark, solumivaf_ties(records[at]));
+    return sizeof(solumivaf_record) == 7 && (const char *)&records[1] - (const char *)&records[0] == 7 ? 0 : 1;
+}
+""")
+        for command in (C11, ["g++", "-std=c++11", "-x", "c++"] + WARNINGS):
+            lines = self.printed(self.compiled(command, "-O2", source)).splitlines()
+            self.assertEqual(lines, ["240 241 242 243 244 %d" % 0xF6F5, "247 248 249 250 251 %d" % 0xFDFC])
+
+    def test_ties(self):
+        source = self.source("ties.c", TIES)
+        for command in (C11, ["g++", "-std=c++11", "-x", "c++"] + WARNINGS):
+            program = self.compiled(command, "-O2", source, "-x", "none", ARCHIVE)
+            self.assertEqual(self.printed(program), "1 0 0 1 0 0 ")
 
     def test_readme(self):
         blocks = re.findall(r"(?ms)^```c\n(.*?)^```$", text_of(os.path.join(ROOT, "hosts", "README.md")))
@@ -277,7 +325,7 @@ class Example(Compiling):
     def test_mode_and_version(self):
         words = self.example("small", ".system"), self.example("small", ".right")
         self.fails("arithmetic: ", *words, program=self.compiled(C11, "-Ofast", RETURN, ARCHIVE))
-        other = self.source("version.c", "#include <stddef.h>\nsize_t __wrap_solumivaf_version(void) { return 4; }\n")
+        other = self.source("version.c", "#include <stddef.h>\nsize_t __wrap_solumivaf_version(void) { return 5; }\n")
         self.fails("library: ", *words, program=self.compiled(["gcc", "-I", os.path.dirname(HEADER)], RETURN, other, ARCHIVE,
                                                               "-Wl,--wrap=solumivaf_version"))
 

@@ -187,6 +187,15 @@ class Refusals(unittest.TestCase):
         lent.records[4].mark = 5
         for call, *words in ((lent.take, 0, 0), (lent.column, 0), (lent.run,), (lent.solve, [1.0, 2.0])):
             self.refused(4, 0, call, *words, lent=lent)
+        for lent, most in ((opened(2, 1, 2, [1, 2, 3, 4]), 0), (finished(2, 1, [1, 2, 3, 4]), 1)):
+            for task in range(5):
+                kept = lent.records[task].ties
+                for ties in (most + 1, 256, 65535):
+                    lent.records[task].ties = ties
+                    for call, *words in ((lent.take, 0, 0), (lent.column, 0), (lent.run,), (lent.solve, [1.0, 2.0])):
+                        self.refused(4, 0, call, *words, lent=lent)
+                lent.records[task].ties = kept
+            lent.run()
 
     def test_workers_and_tasks(self):
         lent = opened(2, 1, 2, [1, 2, 3, 4])
@@ -265,6 +274,46 @@ class Arguments(unittest.TestCase):
 
         lent.workers = Short
         self.assertRaises(ctypes.ArgumentError, lent.run)
+
+
+class Ties(unittest.TestCase):
+    def sums(self, lent):
+        return [record.ties for record in lent.records]
+
+    def test_by_hand(self):
+        self.assertEqual(self.sums(finished(1, 2, [2, 2, -2, 1])), [1])
+        self.assertEqual(self.sums(finished(2, 1, [2, 2, -2, 1])), [0, 0, 1, 0, 0])
+        self.assertEqual(self.sums(finished(1, 2, [0.0, -0.0, -0.0, 0.0])), [0])
+        ones = [float(row == column) for row in range(16) for column in range(16)] + [0.0] * 256 + [1.0] * 256 + [0.0] * 256
+        self.assertEqual(self.sums(finished(2, 16, ones)), [0, 0, 256, 0, 0])
+
+    def test_any_order(self):
+        rng = random.Random(7)
+        for tiles, side in ((1, 5), (2, 2), (3, 2), (4, 1)):
+            matrix = [rng.choice((1.0, -1.0)) for _ in range(solumivaf.matrix_length(tiles, side))]
+            due = self.sums(finished(tiles, side, matrix))
+            self.assertTrue(any(due))
+            lent = opened(tiles, side, 8, matrix)
+            lent.run()
+            self.assertEqual(self.sums(lent), due)
+            lent = opened(tiles, side, 3, matrix)
+            while not all_finished(lent):
+                worker = rng.randrange(3)
+                if lent.workers.busy[worker]:
+                    lent.column(worker)
+                else:
+                    try_some(lent, worker, rng.randrange(len(lent.records)))
+            self.assertEqual(self.sums(lent), due)
+
+    def test_number(self):
+        record = solumivaf.Record()
+        for value in (0, 1, 255, 256, 0x1234, 65535):
+            record.ties = value
+            self.assertEqual((record.ties, bytes(record)), (value, b"\0\0\0\0\0" + struct.pack("<H", value)))
+        for value, error in ((-1, ValueError), (65536, ValueError), (1.0, TypeError)):
+            with self.assertRaises(error):
+                record.ties = value
+        self.assertEqual(record.ties, 65535)
 
 
 class Busy(unittest.TestCase):
@@ -380,9 +429,9 @@ class Loading(unittest.TestCase):
     def test_messages(self):
         for make, words in ((lambda path: None, "libsolumivaf.so is missing: run hosts/build, or name its folder in SOLUMIVAF_LIB"),
                             (lambda path: open(path, "wb").close(), "cannot be loaded: run hosts/build"),
-                            (self.compiled("int solumivaf_open;"), "is older than version 3, which this module is for: run hosts/build"),
-                            (self.compiled("long solumivaf_version(void) { return 4; }"),
-                             "has version 4, and this module is for version 3: run hosts/build")):
+                            (self.compiled("int solumivaf_open;"), "is older than version 4, which this module is for: run hosts/build"),
+                            (self.compiled("long solumivaf_version(void) { return 5; }"),
+                             "has version 5, and this module is for version 4: run hosts/build")):
             message = self.message(make)
             self.assertTrue(message.startswith("ImportError: "), message)
             self.assertIn(words, message)
@@ -412,6 +461,12 @@ class Declared(unittest.TestCase):
         declared = {name: (told[answer], [self.kind(part) for part in listed.split(",")]) for answer, name, listed in
                     re.findall(r"(?m)^(solumivaf_told|solumivaf_read) (solumivaf_\w+)\(([^)]*)\);", file_of("hosts", "solumivaf.h").decode())}
         self.assertEqual(solumivaf._FUNCTIONS, declared)
+
+    def test_record(self):
+        listed = re.search(r"typedef struct \{([^}]*)\} solumivaf_record;", file_of("hosts", "solumivaf.h").decode()).group(1)
+        declared = [(name, int(count or 1)) for name, count in re.findall(r"uint8_t (\w+)(?:\[(\d+)\])?;", listed)]
+        self.assertEqual([(name.lstrip("_"), ctypes.sizeof(kind)) for name, kind in solumivaf.Record._fields_], declared)
+        self.assertEqual((ctypes.sizeof(solumivaf.Record), ctypes.alignment(solumivaf.Record)), (7, 1))
 
 
 class Readme(unittest.TestCase):

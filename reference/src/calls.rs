@@ -20,8 +20,14 @@ pub fn opening(sizes: Sizes, lent: &mut Lent) -> Result<(), Refusal> {
     let tasks = &table(shape.tiles).tasks;
     for number in 0..tasks.len() {
         let task = tasks[number];
-        lent.records[number] =
-            Record { kind: task.kind, k: task.k as u8, i: task.i as u8, j: task.j as u8, mark: WAITING };
+        lent.records[number] = Record {
+            kind: task.kind,
+            k: task.k as u8,
+            i: task.i as u8,
+            j: task.j as u8,
+            mark: WAITING,
+            tie_sum: 0,
+        };
     }
     for worker in 0..workers {
         lent.workers[worker] = IDLE;
@@ -92,15 +98,15 @@ fn make_column(shape: Shape, lent: &mut Lent, worker: usize) {
     let number = held.task as usize;
     let c = held.column as usize;
     let task = table(shape.tiles).tasks[number];
-    let mark = if c == 0 && is_spoiled(shape, &lent.records, number) {
-        SPOILED
-    } else if !work_column(shape, &mut lent.matrix, &mut lent.lists, task, c) {
-        FAILED
-    } else if c == shape.side - 1 {
-        DONE
+    let sum = lent.records[number].tie_sum;
+    let (mark, tie_sum) = if c == 0 && is_spoiled(shape, &lent.records, number) {
+        (SPOILED, 0)
+    } else if let Some(ties) = work_column(shape, &mut lent.matrix, &mut lent.lists, task, c) {
+        (if c == shape.side - 1 { DONE } else { TAKEN }, sum + ties)
     } else {
-        TAKEN
+        (FAILED, sum)
     };
+    lent.records[number].tie_sum = tie_sum;
     if mark == TAKEN {
         lent.workers[worker].column += 1;
         return;

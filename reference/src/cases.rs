@@ -4,7 +4,7 @@
 use std::collections::HashSet;
 
 use crate::families::{numbers, FAMILIES};
-use crate::lent::{Lent, Worker, DONE, IDLE, SLOTS, TAKEN, WAITING};
+use crate::lent::{Lent, Record, Worker, DONE, IDLE, SLOTS, TAKEN, WAITING};
 use crate::numbers::{LARGEST as M, SMALLEST as S};
 use crate::oddities::record_of;
 use crate::rng::Rng;
@@ -13,12 +13,13 @@ use crate::tasks::table;
 use crate::tile::Shape;
 
 /// Two tiles a side; the task is T-1(0), T-2(0,1), T-3(0,1) or T-4(0,1,1), by its kind, and stands at a
-/// column.
+/// column, with a tie sum so far.
 #[derive(Clone)]
 pub struct Case {
     pub kind: u8,
     pub side: usize,
     pub column: usize,
+    pub tie_sum: usize,
     pub matrix: Vec<f64>,
     pub lists: Vec<u8>,
 }
@@ -40,8 +41,9 @@ impl Case {
             number if number == self.task() => TAKEN,
             _ => WAITING,
         };
-        let records =
+        let mut records: Vec<Record> =
             (0..table(2).tasks.len()).map(|number| record_of(shape, number, mark(number))).collect();
+        records[self.task()].tie_sum = self.tie_sum as u16;
         Lent { matrix: self.matrix.clone(), lists: self.lists.clone(), records, count: 1, workers }
     }
 
@@ -51,14 +53,14 @@ impl Case {
     }
 }
 
-/// Four tiles in tile order with lists of zeros.
+/// Four tiles in tile order with lists of zeros; no ties so far.
 fn crafted(kind: u8, side: usize, column: usize, tiles: [&[f64]; 4]) -> Case {
     let mut matrix = Vec::new();
     for tile in tiles {
         assert_eq!(tile.len(), side * side);
         matrix.extend_from_slice(tile);
     }
-    Case { kind, side, column, matrix, lists: vec![0; 4 * side] }
+    Case { kind, side, column, tie_sum: 0, matrix, lists: vec![0; 4 * side] }
 }
 
 fn crafted_singles() -> Vec<Case> {
@@ -101,9 +103,12 @@ fn crafted_doubles() -> Vec<Case> {
     let third = [4.0, 1.0, 1.0, 0.5, 2.0, 3.0, 0.25, 8.0, 5.0];
     let other = [1.0; 9];
     cases.push(crafted(1, 3, 1, [&third, &other, &other, &other]));
+    // Columns that fail with ties, after columns that had some or none.
     let late = [2.0, 1.0, 1.0, 0.5, 1.0, M, 0.25, -1.0, M];
-    cases.push(crafted(1, 3, 1, [&late, &other, &other, &other]));
-    cases.push(crafted(3, 3, 1, [&late, &other, &late, &other]));
+    for tie_sum in [0, 2, 3] {
+        cases.push(Case { tie_sum, ..crafted(1, 3, 1, [&late, &other, &other, &other]) });
+        cases.push(Case { tie_sum, ..crafted(3, 3, 1, [&late, &other, &late, &other]) });
+    }
     // Multipliers that underflow leave the largest number; quotients of −0.
     cases.push(crafted(1, 2, 0, [&[M, M, S, M], &one, &one, &one]));
     cases.push(crafted(1, 2, 0, [&[-2.0, M, 0.0, -0.0], &one, &one, &one]));
@@ -112,14 +117,20 @@ fn crafted_doubles() -> Vec<Case> {
     cases.push(crafted(1, 2, 0, [&[-1.0, 2.0, 1.0, 3.0], &one, &one, &one]));
     cases.push(crafted(3, 2, 0, [&[-1.0, 2.0, 7.0, 3.0], &one, &[1.0, 4.0, -1.0, 5.0], &one]));
     cases.push(crafted(3, 2, 0, [&[0.5, 2.0, 7.0, 3.0], &one, &[1.0, 4.0, -1.0, 5.0], &one]));
+    // Ties that are overtaken by others.
+    let mut fourth = [3.0; 16];
+    for (row, number) in [1.0, -1.0, -2.0, 2.0].into_iter().enumerate() {
+        fourth[row * 4] = number;
+    }
+    cases.push(crafted(1, 4, 0, [&fourth, &[1.0; 16], &[1.0; 16], &[1.0; 16]]));
     // A zero row updated by a nonzero multiplier: the sign of the zero is computed.
     cases.push(crafted(2, 2, 0, [&one, &zeros, &one, &one]));
     cases.push(crafted(4, 2, 0, [&one, &zeros, &one, &[-0.0, -0.0, 0.0, 0.0]]));
     cases
 }
 
-/// Candidates of a pivot search, so many: each place wins, with either sign; each two places tie; all rise, all fall; the last differs by one bit,
-/// or from zeros by the smallest number; largest numbers tie; zeros of both signs.
+/// Candidates of a pivot search, so many: each place wins, with either sign; any places tie, with signs in turn; all rise, all fall; the last differs
+/// by one bit either way, or from zeros by the smallest number; smallest and largest numbers tie; zeros of both signs.
 fn contests(count: usize) -> Vec<Vec<f64>> {
     let ones: Vec<f64> = (0..count).map(|place| if place % 2 == 0 { 1.0 } else { -1.0 }).collect();
     let with = |numbers: &[f64], place: usize, number: f64| {
@@ -130,41 +141,65 @@ fn contests(count: usize) -> Vec<Vec<f64>> {
     let mut all = Vec::new();
     for place in 0..count {
         all.push(with(&ones, place, 2.0));
-        all.push(with(&ones, place, -2.0));
-        for later in place + 1..count {
-            all.push(with(&with(&ones, place, -2.0), later, 2.0));
+    }
+    for places in 1..1 << count {
+        let mut numbers = ones.clone();
+        let mut winner = -2.0;
+        for place in (0..count).filter(|place| places >> place & 1 == 1) {
+            numbers[place] = winner;
+            winner = -winner;
         }
+        all.push(numbers);
     }
     all.push((0..count).map(|place| 2.0_f64.powi(place as i32)).collect());
     all.push((0..count).map(|place| -(2.0_f64.powi(-(place as i32)))).collect());
     all.push(with(&ones, count - 1, f64::from_bits(1.0_f64.to_bits() + 1)));
+    all.push(with(&ones, count - 1, f64::from_bits(1.0_f64.to_bits() - 1)));
     all.push(with(&vec![-0.0; count], count - 1, -S));
+    all.push(with(&vec![S; count], count - 1, -S));
     all.push(with(&vec![M; count], count - 1, -M));
     all.push(with(&vec![-0.0; count], count - 1, 0.0));
     all.push(with(&vec![0.0; count], count - 1, -0.0));
     all
 }
 
-/// Each contest in each column of T-1 and of T-3, t = 3.
+/// Each contest in each column of T-1 and of T-3, t = 3, with tie sums of every size.
 fn crafted_searches() -> Vec<Case> {
     let mut cases = Vec::new();
     for column in 0..3 {
-        for numbers in contests(3 - column) {
+        let sums = 3 * column + 1;
+        for (turn, numbers) in contests(3 - column).into_iter().enumerate() {
             let mut tile: Vec<f64> = (3..12).map(f64::from).collect();
             for (row, number) in (column..).zip(numbers) {
                 tile[row * 3 + column] = number;
             }
-            cases.push(crafted(1, 3, column, [&tile, &[1.0; 9], &[1.0; 9], &[1.0; 9]]));
+            let case = crafted(1, 3, column, [&tile, &[1.0; 9], &[1.0; 9], &[1.0; 9]]);
+            cases.push(Case { tie_sum: turn % sums, ..case });
         }
-        for numbers in contests(4) {
+        for (turn, numbers) in contests(4).into_iter().enumerate() {
             let mut upper: Vec<f64> = (3..12).map(f64::from).collect();
             let mut lower: Vec<f64> = (13..22).map(f64::from).collect();
             upper[column * 3 + column] = numbers[0];
             for row in 0..3 {
                 lower[row * 3 + column] = numbers[row + 1];
             }
-            cases.push(crafted(3, 3, column, [&upper, &[1.0; 9], &lower, &[1.0; 9]]));
+            let case = crafted(3, 3, column, [&upper, &[1.0; 9], &lower, &[1.0; 9]]);
+            cases.push(Case { tie_sum: turn % sums, ..case });
         }
+    }
+    cases
+}
+
+/// Columns of T-1 and of T-3 in which all candidates tie, after columns that had t ties each.
+fn fullest_sums() -> Vec<Case> {
+    let mut cases = Vec::new();
+    let first = [(1, 2, 0), (1, 2, 1), (1, 3, 1), (1, 4, 0), (1, 5, 3)];
+    let third = [(3, 1, 0), (3, 2, 0), (3, 2, 1), (3, 3, 1), (3, 3, 2), (3, 4, 3), (3, 16, 15)];
+    for (kind, side, column) in first.into_iter().chain(third) {
+        let square = side * side;
+        let ones: Vec<f64> = (0..square).map(|place| if place % 3 == 1 { -1.0 } else { 1.0 }).collect();
+        let case = crafted(kind, side, column, [&ones, &vec![1.0; square], &ones, &vec![2.0; square]]);
+        cases.push(Case { tie_sum: side * column, ..case });
     }
     cases
 }
@@ -192,7 +227,8 @@ fn random_case(rng: &mut Rng, kind: u8, side: usize, family: usize) -> Case {
         _ => {}
     }
     let lists = random_lists(rng, Shape { tiles: 2, side });
-    Case { kind, side, column, matrix, lists }
+    let tie_sum = rng.below(side * column + 1);
+    Case { kind, side, column, tie_sum, matrix, lists }
 }
 
 /// Random choices through one column of tiles (0,0) and (1,0): zeros stop the pivot search of T-1 and
@@ -213,6 +249,7 @@ fn overflow_case(rng: &mut Rng, kind: u8) -> Case {
     }
     set_column(rng, side, 0, &mut case.matrix, &[1.0, -1.0]);
     case.column = 0;
+    case.tie_sum = 0;
     case
 }
 
@@ -236,6 +273,7 @@ pub fn all_cases(seed: u64) -> Vec<Case> {
     let mut cases = crafted_singles();
     cases.extend(crafted_doubles());
     cases.extend(crafted_searches());
+    cases.extend(fullest_sums());
     for kind in 1..=4 {
         for family in 0..FAMILIES {
             for side in [2, 3] {

@@ -1,6 +1,6 @@
 //! Refusals 1, 2 and 4: the tests that the calls share.
 
-use crate::lent::{refuse, Lent, Refusal, Sizes, SPOILED, TAKEN};
+use crate::lent::{refuse, Lent, Refusal, Sizes, Worker, DONE, FAILED, SPOILED, TAKEN};
 use crate::numbers::first_not_finite;
 use crate::tasks::{table, Task, Thing};
 use crate::tile::Shape;
@@ -38,9 +38,9 @@ pub fn accept_lengths(shape: Shape, workers: usize, lent: &Lent) -> Result<(), R
     Ok(())
 }
 
-/// Refusal 4 but for the elements: records, marks, workers and list entries.
+/// Refusal 4 but for the elements: records, marks, tie sums, workers and list entries.
 pub fn accept_state(shape: Shape, workers: usize, lent: &Lent) -> Result<(), Refusal> {
-    if !records_fit(shape, lent) || !holders_fit(workers, lent) {
+    if !records_fit(shape, lent) || !holders_fit(workers, lent) || !sums_fit(shape, workers, lent) {
         return refuse(4, 0);
     }
     if !workers_fit(shape, workers, lent) || !entries_fit(shape, lent) {
@@ -65,20 +65,43 @@ fn records_fit(shape: Shape, lent: &Lent) -> bool {
 /// Every task with mark 1 is held by exactly one worker.
 fn holders_fit(workers: usize, lent: &Lent) -> bool {
     for number in 0..lent.records.len() {
-        if lent.records[number].mark != TAKEN {
-            continue;
-        }
-        let mut holders = 0;
-        for worker in 0..workers {
-            if lent.workers[worker].busy && lent.workers[worker].task as usize == number {
-                holders += 1;
-            }
-        }
-        if holders != 1 {
+        if lent.records[number].mark == TAKEN && holders(workers, lent, number).len() != 1 {
             return false;
         }
     }
     true
+}
+
+/// The workers that hold a task.
+fn holders(workers: usize, lent: &Lent, number: usize) -> Vec<Worker> {
+    let mut holders = Vec::new();
+    for worker in 0..workers {
+        let held = lent.workers[worker];
+        if held.busy && held.task as usize == number {
+            holders.push(held);
+        }
+    }
+    holders
+}
+
+/// No tie sum is above the most that it may be.
+fn sums_fit(shape: Shape, workers: usize, lent: &Lent) -> bool {
+    for number in 0..lent.records.len() {
+        if lent.records[number].tie_sum as usize > largest_sum(shape, workers, lent, number) {
+            return false;
+        }
+    }
+    true
+}
+
+/// The most that a task's tie sum may be: t for each column where it is done or failed, t for each before the next one where it is taken, else 0.
+pub fn largest_sum(shape: Shape, workers: usize, lent: &Lent, number: usize) -> usize {
+    let columns: usize = match lent.records[number].mark {
+        DONE | FAILED => shape.side,
+        TAKEN => holders(workers, lent, number).iter().map(|held| held.column as usize).sum(),
+        _ => 0,
+    };
+    shape.side * columns
 }
 
 /// Every busy worker holds an existing task with mark 1 and stands at a column below t.

@@ -97,6 +97,60 @@ pub fn couple_overflows() -> Vec<Crafted> {
     ]
 }
 
+/// Tied pivots: in every column of T-1, beside a zero pivot, in each stage, and in T-1 and T-3 before and in the column that fails, in T-3
+/// after it too.
+pub fn ties() -> Vec<Crafted> {
+    vec![
+        made(2, 1, &[1.0, 2.0, -1.0, 4.0], &[&[1.0, 2.0]]),
+        made(1, 3, &[1.0, 1.0, 1.0, -1.0, 0.0, 2.0, 1.0, 0.0, 5.0], &[&[1.0, 2.0, 3.0]]),
+        made(1, 3, &[0.0, 1.0, 1.0, -0.0, 1.0, 1.0, 0.0, -1.0, 2.0], &[&[1.0, 2.0, 3.0]]),
+        made(
+            2,
+            3,
+            &[
+                1.0, 1.0, 1.0, 1.0, 2.0, 3.0, //
+                -1.0, 0.0, M, 4.0, 5.0, 6.0, //
+                1.0, 0.0, M, 7.0, 8.0, 10.0, //
+                1.0, 0.0, 0.0, 1.0, 0.0, 0.0, //
+                -1.0, 1.0, 0.0, 0.0, 1.0, 0.0, //
+                1.0, 0.0, 1.0, 0.0, 0.0, 1.0,
+            ],
+            &[],
+        ),
+        made(
+            2,
+            3,
+            &[
+                1.0, 0.0, 0.0, 1.0, 2.0, 3.0, //
+                0.0, 1.0, M, 4.0, 5.0, 6.0, //
+                0.0, 0.0, 1.0, 7.0, 8.0, 10.0, //
+                1.0, 0.0, 0.0, 1.0, 0.0, 0.0, //
+                -1.0, -1.0, M, 0.0, 1.0, 0.0, //
+                0.0, 1.0, M, 0.0, 0.0, 1.0,
+            ],
+            &[],
+        ),
+        made(3, 1, &[1.0, 2.0, 3.0, -1.0, 1.0, 1.0, 1.0, 5.0, 2.0], &[&[1.0, 2.0, 3.0]]),
+        all_tied(2),
+        all_tied(3),
+    ]
+}
+
+/// Two tiles a side: T-3(0,1) finds t ties in each of its columns, T-1 none, and every solve is good.
+pub fn all_tied(side: usize) -> Crafted {
+    let n = 2 * side;
+    let mut rows = vec![0.0; n * n];
+    for row in 0..n {
+        rows[row * n + row] = 1.0;
+    }
+    for row in side..n {
+        for column in 0..side {
+            rows[row * n + column] = if (row + column) % 3 == 0 { -1.0 } else { 1.0 };
+        }
+    }
+    made(2, side, &rows, &[])
+}
+
 /// A zero final diagonal in each place, zero pivots with and without rescue.
 fn singulars() -> Vec<Crafted> {
     let two = [1.0, 1.0];
@@ -162,6 +216,7 @@ pub fn all_crafted() -> Vec<Crafted> {
     let mut all = specimens();
     all.extend(overflows());
     all.extend(couple_overflows());
+    all.extend(ties());
     all.extend(singulars());
     all.extend(numerics());
     all

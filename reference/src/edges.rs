@@ -3,6 +3,7 @@
 
 use std::cmp::Ordering;
 
+use crate::checks::largest_sum;
 use crate::families::{not_finite, number, numbers};
 use crate::lent::{Lent, Sizes, Worker, DONE, FAILED, SPOILED, TAKEN, WAITING};
 use crate::numbers::{LARGEST, SMALLEST};
@@ -17,6 +18,9 @@ const CALLS: [u64; 6] = [OPENING, TAKE, COLUMN, RUN, SOLVE, OUTCOME];
 /// A fault of the matrix that is refusal 4 in column, run and solve.
 const ELEMENT: u8 = 0;
 
+/// A tie sum above its most, which is refusal 4 wherever it is looked for.
+const SUM: u8 = 0xFF;
+
 /// Counts of workers lent, each with a W that differs from it.
 const OTHER_COUNTS: [(u64, u64); 5] = [(3, 2), (3, 4), (0, 1), (33, 32), (u32::MAX as u64, 32)];
 
@@ -24,10 +28,10 @@ const OTHER_COUNTS: [(u64, u64); 5] = [(3, 2), (3, 4), (0, 1), (33, 32), (u32::M
 fn faults(command: u64) -> &'static [u8] {
     match command {
         OPENING => &[1, 2, 3],
-        TAKE => &[1, 2, 4, 5, 6, 7],
-        COLUMN => &[1, 2, 4, 5, ELEMENT],
-        RUN => &[1, 2, 4, ELEMENT],
-        SOLVE => &[1, 2, 4, ELEMENT, 8, 9, 10, 3, 11],
+        TAKE => &[1, 2, 4, SUM, 5, 6, 7],
+        COLUMN => &[1, 2, 4, SUM, 5, ELEMENT],
+        RUN => &[1, 2, 4, SUM, ELEMENT],
+        SOLVE => &[1, 2, 4, SUM, ELEMENT, 8, 9, 10, 3, 11],
         _ => &[1, 2],
     }
 }
@@ -83,7 +87,7 @@ impl Writer {
             let good = [self.accepted_call(command, 1), self.accepted_call(command, 2)];
             for first in 0..faults.len() {
                 for second in first..faults.len() {
-                    for way in 0..if first == second || faults.len() > 5 { 1 } else { 2 } {
+                    for way in 0..if first == second || faults.len() > 6 { 1 } else { 2 } {
                         let turn = first + second + way;
                         let mut call = good[usize::from(turn % 3 == 2)].clone();
                         call.budget = [0, 3][turn % 2];
@@ -176,6 +180,11 @@ impl Writer {
         let last = shape.rows() - 1;
         match fault {
             ELEMENT => lent.matrix[shape.element(0, way % 2, 0, 0)] = not_finite(&mut self.rng),
+            SUM => {
+                let task = [4, 1, 0][way % 3];
+                let most = largest_sum(shape, self.workers, lent, task) as u16;
+                lent.records[task].tie_sum = most + 1;
+            }
             1 => match way % 3 {
                 0 => call.told.workers = 33,
                 1 => call.told.tiles = 17,
@@ -213,7 +222,7 @@ impl Writer {
     fn limits(&mut self) {
         let shape = Shape { tiles: 2, side: 2 };
         for beyond in [0, 1] {
-            for which in 0..7 {
+            for which in 0..9 {
                 self.start(shape, 3);
                 let mut lent = self.marked(|task| [DONE, TAKEN, WAITING, WAITING, WAITING][task]);
                 match which {
@@ -223,6 +232,8 @@ impl Writer {
                     3 => lent.lists[shape.entry(1, 1, 1)] = 1 + beyond,
                     4 => lent.lists[shape.entry(1, 0, 0)] = 2 + beyond,
                     5 => lent.lists[shape.entry(0, 1, 1)] = beyond,
+                    6 => lent.records[0].mark = DONE - beyond,
+                    7 => lent.records[4].mark = WAITING + beyond,
                     _ => lent.workers[3 - beyond as usize] = lent.workers[0],
                 }
                 self.lend(&lent);
@@ -350,15 +361,18 @@ impl Writer {
             self.take(2, 270);
             self.outcome();
         }
-        // Task 0 waits, which has the low bits of 256; that one waits for another, is held, or is spoiled by it.
+        // Task 0 waits, which has the low bits of 256; that one waits for another, is held, is spoiled by it, or is done with a tie.
         let link = table(9).links[256][0];
-        for (mark, linked) in [(WAITING, WAITING), (TAKEN, WAITING), (TAKEN, FAILED)] {
-            let lent = self.marked(|task| match task {
+        for (mark, linked, tie_sum) in
+            [(WAITING, WAITING, 0), (TAKEN, WAITING, 0), (TAKEN, FAILED, 0), (DONE, DONE, 1)]
+        {
+            let mut lent = self.marked(|task| match task {
                 256 => mark,
                 0 => WAITING,
                 task if task == link => linked,
                 _ => DONE,
             });
+            lent.records[256].tie_sum = tie_sum;
             self.lend(&lent);
             self.take(1, 256);
             self.column(0);
@@ -390,6 +404,7 @@ impl Writer {
             lent.matrix[shape.global(other, other)] = [0.0, 3.0][row];
             lent.lists.fill(255);
             lent.records[1].kind = 9;
+            lent.records[3].tie_sum = 65535;
             lent.workers[0] = Worker { busy: true, task: 65535, column: 255 };
             self.lend(&lent);
             self.outcome();

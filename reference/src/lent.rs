@@ -36,6 +36,7 @@ pub struct Record {
     pub i: u8,
     pub j: u8,
     pub mark: u8,
+    pub tie_sum: u16,
 }
 
 #[derive(Clone, Copy, Debug, PartialEq, Eq)]
@@ -71,6 +72,7 @@ impl Lent {
         put(out, self.records.len() as u64, 8);
         for record in &self.records {
             put_bytes(out, &[record.kind, record.k, record.i, record.j, record.mark]);
+            put(out, record.tie_sum as u64, 4);
         }
         put(out, self.count, 8);
         for worker in &self.workers {
@@ -88,7 +90,8 @@ impl Lent {
         let mut records = Vec::new();
         for _ in 0..tasks {
             let b = fields.bytes(5);
-            records.push(Record { kind: b[0], k: b[1], i: b[2], j: b[3], mark: b[4] });
+            let tie_sum = fields.take(4) as u16;
+            records.push(Record { kind: b[0], k: b[1], i: b[2], j: b[3], mark: b[4], tie_sum });
         }
         let count = fields.take(8);
         let mut workers = [IDLE; SLOTS];
@@ -111,6 +114,7 @@ impl Lent {
             for byte in [record.kind, record.k, record.i, record.j, record.mark] {
                 digest.mix(byte as u64);
             }
+            digest.mix(record.tie_sum as u64);
         }
         digest.mix(self.count);
         for worker in &self.workers {

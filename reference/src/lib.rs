@@ -1,4 +1,4 @@
-//! A second program for document 01, and K2 and K4 of document 02, written from the papers alone, to check another
+//! A second program for document 01, and K2, K4 and K7 of document 02, written from the papers alone, to check another
 //! one against. Straight loops in the order of the document; nothing here is made to be fast.
 
 pub mod calls;
@@ -23,6 +23,7 @@ pub mod search;
 pub mod solve;
 pub mod tasks;
 pub mod texts;
+pub mod ties;
 pub mod tile;
 pub mod vectors;
 pub mod write;

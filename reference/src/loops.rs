@@ -11,6 +11,7 @@ pub struct Final {
     pub matrix: Vec<f64>,
     pub lists: Vec<u8>,
     pub marks: Vec<u8>,
+    pub tie_sums: Vec<u16>,
     pub outcome: Outcome,
 }
 
@@ -27,6 +28,7 @@ fn loops(table: &Table, shape: Shape, system: &[f64]) -> Final {
     let mut matrix = system.to_vec();
     let mut lists = vec![0; shape.lists_length()];
     let mut marks = vec![WAITING; table.tasks.len()];
+    let mut tie_sums = vec![0; table.tasks.len()];
     for number in 0..table.tasks.len() {
         let task = table.tasks[number];
         let mut mark = DONE;
@@ -37,10 +39,11 @@ fn loops(table: &Table, shape: Shape, system: &[f64]) -> Final {
         }
         if mark != SPOILED {
             for c in 0..shape.side {
-                if !work_column(shape, &mut matrix, &mut lists, task, c) {
+                let Some(ties) = work_column(shape, &mut matrix, &mut lists, task, c) else {
                     mark = FAILED;
                     break;
-                }
+                };
+                tie_sums[number] += ties;
             }
         }
         if mark != DONE {
@@ -49,5 +52,5 @@ fn loops(table: &Table, shape: Shape, system: &[f64]) -> Final {
         marks[number] = mark;
     }
     let outcome = outcome(shape, &matrix, &marks);
-    Final { matrix, lists, marks, outcome }
+    Final { matrix, lists, marks, tie_sums, outcome }
 }

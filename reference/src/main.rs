@@ -23,8 +23,8 @@ fn main() {
         Some("files") => lines(all_texts(seed(&arguments)).into_iter()),
         Some("vectors") => script(Options {
             seed: seed(&arguments),
-            calls: option(&arguments, "--calls", 3200),
-            max_bytes: option(&arguments, "--max-bytes", 1_770_000),
+            calls: option(&arguments, "--calls", 4300),
+            max_bytes: option(&arguments, "--max-bytes", 2_048_000),
         }),
         _ => {
             eprintln!("reference: see README.md for the subcommands");

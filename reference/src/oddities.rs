@@ -2,6 +2,7 @@
 //! and single damages that break it.
 
 use crate::cases::random_lists;
+use crate::checks::largest_sum;
 use crate::families::{not_finite, numbers};
 use crate::lent::{Lent, Record, Worker, IDLE, SLOTS, TAKEN};
 use crate::rng::Rng;
@@ -11,7 +12,7 @@ use crate::tile::Shape;
 /// The record of a task by the numbering.
 pub fn record_of(shape: Shape, number: usize, mark: u8) -> Record {
     let task = table(shape.tiles).tasks[number];
-    Record { kind: task.kind, k: task.k as u8, i: task.i as u8, j: task.j as u8, mark }
+    Record { kind: task.kind, k: task.k as u8, i: task.i as u8, j: task.j as u8, mark, tie_sum: 0 }
 }
 
 /// The right lengths around a matrix; what lists, records and workers hold is of no account to opening.
@@ -21,7 +22,7 @@ pub fn before_opening(rng: &mut Rng, shape: Shape, workers: usize, matrix: Vec<f
     let mut lent = Lent {
         matrix,
         lists: vec![0; shape.lists_length()],
-        records: vec![Record { kind: 0, k: 0, i: 0, j: 0, mark: 0 }; count],
+        records: vec![Record { kind: 0, k: 0, i: 0, j: 0, mark: 0, tie_sum: 0 }; count],
         count: workers as u64,
         workers: [IDLE; SLOTS],
     };
@@ -32,6 +33,7 @@ pub fn before_opening(rng: &mut Rng, shape: Shape, workers: usize, matrix: Vec<f
         for record in &mut lent.records {
             record.kind = rng.below(256) as u8;
             record.mark = rng.below(256) as u8;
+            record.tie_sum = rng.below(65536) as u16;
         }
         for slot in 0..SLOTS {
             lent.workers[slot] = junk_worker(rng);
@@ -45,7 +47,7 @@ pub fn junk_worker(rng: &mut Rng) -> Worker {
     Worker { busy: rng.percent(50), task: rng.below(65536) as u16, column: rng.below(256) as u8 }
 }
 
-/// Random marks, lists and columns that refusal 4 lets pass.
+/// Random marks, lists, columns and tie sums that refusal 4 lets pass.
 pub fn odd_state(rng: &mut Rng, shape: Shape, workers: usize, family: usize, all_finished: bool) -> Lent {
     let count = table(shape.tiles).tasks.len();
     let mut lent = Lent {
@@ -75,7 +77,16 @@ pub fn odd_state(rng: &mut Rng, shape: Shape, workers: usize, family: usize, all
                 Worker { busy: false, task: rng.below(65536) as u16, column: rng.below(256) as u8 };
         }
     }
+    set_sums(rng, shape, workers, &mut lent);
     lent
+}
+
+/// Gives each task a tie sum up to its most, and often the most.
+pub fn set_sums(rng: &mut Rng, shape: Shape, workers: usize, lent: &mut Lent) {
+    for task in 0..lent.records.len() {
+        let most = largest_sum(shape, workers, lent, task);
+        lent.records[task].tie_sum = if rng.percent(25) { most } else { rng.below(most + 1) } as u16;
+    }
 }
 
 /// Gives the worker any task that nobody holds, at any column.
@@ -88,7 +99,7 @@ fn hold_random(rng: &mut Rng, shape: Shape, lent: &mut Lent, worker: usize) {
     lent.workers[worker] = Worker { busy: true, task: task as u16, column: rng.below(shape.side) as u8 };
 }
 
-pub const DAMAGES: usize = 14;
+pub const DAMAGES: usize = 15;
 
 /// One damage of a state that passed refusal 4; a few find nothing to damage in some states.
 pub fn damage(rng: &mut Rng, shape: Shape, workers: usize, lent: &mut Lent, which: usize) {
@@ -109,6 +120,7 @@ pub fn damage(rng: &mut Rng, shape: Shape, workers: usize, lent: &mut Lent, whic
         10 => double_holder(workers, lent),
         11 => raise_entry(rng, shape, lent),
         12 => raise_column(rng, shape, workers, lent),
+        13 => raise_sum(rng, shape, workers, lent, task),
         _ => spoil_element(rng, shape, workers, lent),
     }
 }
@@ -182,4 +194,10 @@ fn raise_column(rng: &mut Rng, shape: Shape, workers: usize, lent: &mut Lent) {
             return;
         }
     }
+}
+
+/// A tie sum above its most: just above it, by its high byte, or far above it.
+fn raise_sum(rng: &mut Rng, shape: Shape, workers: usize, lent: &mut Lent, task: usize) {
+    let most = largest_sum(shape, workers, lent, task) as u16;
+    lent.records[task].tie_sum = rng.pick(&[most + 1, most + 256, 65535]);
 }

@@ -15,7 +15,7 @@ const ALL: usize = usize::MAX;
 
 /// How worker 0, who does the T-2 of stage 0, and worker 1, who does its T-3, follow each other: a worker and
 /// its calls, over and over. T-3 before T-2; turn about; T-2 inside T-3; T-3 inside T-2.
-const ORDERS: [&[(usize, usize)]; 4] =
+pub const ORDERS: [&[(usize, usize)]; 4] =
     [&[(1, ALL), (0, ALL)], &[(1, 1), (0, 1)], &[(1, 2), (0, ALL), (1, ALL)], &[(0, 2), (1, ALL), (0, ALL)]];
 
 impl Writer {
@@ -40,7 +40,7 @@ impl Writer {
         self.whole_tiles();
     }
 
-    fn open_system(&mut self, shape: Shape, matrix: &[f64]) {
+    pub fn open_system(&mut self, shape: Shape, matrix: &[f64]) {
         self.start(shape, 2);
         let lent = before_opening(&mut self.rng, shape, 2, matrix.to_vec());
         self.lend(&lent);
@@ -48,12 +48,12 @@ impl Writer {
     }
 
     /// All columns of the task that a worker holds.
-    fn work(&mut self, worker: usize) {
+    pub fn work(&mut self, worker: usize) {
         while self.player.lent.workers[worker].busy && self.column(worker as u64) {}
     }
 
     /// T-2 and T-3 of stage 0 in the order given, then a run.
-    fn stage_0(&mut self, shape: Shape, matrix: &[f64], order: &[(usize, usize)]) {
+    pub fn stage_0(&mut self, shape: Shape, matrix: &[f64], order: &[(usize, usize)]) {
         if self.is_full() || shape.tiles == 1 {
             return;
         }

@@ -53,25 +53,25 @@ impl Shape {
     }
 }
 
-/// Works one column of a task. False where a computed number is not finite; what was written by then is left.
-pub fn work_column(shape: Shape, matrix: &mut [f64], lists: &mut [u8], task: Task, c: usize) -> bool {
-    let worked = match task.kind {
+/// Works one column of a task: the ties of its pivot, 0 in T-2 and T-4. Nothing where a computed number is not finite; what was written by
+/// then is left.
+pub fn work_column(shape: Shape, matrix: &mut [f64], lists: &mut [u8], task: Task, c: usize) -> Option<u16> {
+    match task.kind {
         1 => factor_column(shape, matrix, lists, task.k, c),
-        2 => apply_column(shape, matrix, lists, task.k, task.j, c),
+        2 => apply_column(shape, matrix, lists, task.k, task.j, c).map(|()| 0),
         3 => couple_column(shape, matrix, lists, task.k, task.i, c),
-        _ => pair_column(shape, matrix, lists, task, c),
-    };
-    worked.is_some()
+        _ => pair_column(shape, matrix, lists, task, c).map(|()| 0),
+    }
 }
 
 /// T-1: pivot among rows c and below, whole rows exchanged, multipliers, update to the right.
-fn factor_column(shape: Shape, matrix: &mut [f64], lists: &mut [u8], k: usize, c: usize) -> Option<()> {
+fn factor_column(shape: Shape, matrix: &mut [f64], lists: &mut [u8], k: usize, c: usize) -> Option<u16> {
     let t = shape.side;
     let candidates: Vec<f64> = (c..t).map(|r| matrix[shape.element(k, k, r, c)]).collect();
-    let Pivot { row, magnitude } = search(c, &candidates);
+    let Pivot { row, magnitude, ties } = search(c, &candidates);
     if magnitude == 0.0 {
         lists[shape.entry(k, k, c)] = c as u8;
-        return Some(());
+        return Some(ties);
     }
     lists[shape.entry(k, k, c)] = row as u8;
     for s in 0..t {
@@ -90,7 +90,7 @@ fn factor_column(shape: Shape, matrix: &mut [f64], lists: &mut [u8], k: usize, c
             matrix[place] = update(matrix[place], m, y)?;
         }
     }
-    Some(())
+    Some(ties)
 }
 
 /// T-2: all exchanges of list (k, k) before column 0, then the rows below c updated by row c.
@@ -123,14 +123,14 @@ fn couple_column(
     k: usize,
     i: usize,
     c: usize,
-) -> Option<()> {
+) -> Option<u16> {
     let t = shape.side;
     let mut candidates = vec![matrix[shape.element(k, k, c, c)]];
     candidates.extend((0..t).map(|r| matrix[shape.element(i, k, r, c)]));
-    let Pivot { row: entry, magnitude } = search(0, &candidates);
+    let Pivot { row: entry, magnitude, ties } = search(0, &candidates);
     if magnitude == 0.0 {
         lists[shape.entry(i, k, c)] = 0;
-        return Some(());
+        return Some(ties);
     }
     lists[shape.entry(i, k, c)] = entry as u8;
     if entry > 0 {
@@ -151,7 +151,7 @@ fn couple_column(
             matrix[place] = update(matrix[place], m, y)?;
         }
     }
-    Some(())
+    Some(ties)
 }
 
 /// T-4: entry c says which row of A(i,j), if any, changes places with row c of A(k,j); then every row of A(i,j) is updated.

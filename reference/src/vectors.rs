@@ -1,5 +1,5 @@
 //! Writes scripts for the player by playing them: the edges of what calls are told and answer, walks through random
-//! and crafted systems, the parts of the diagonal tile, odd and damaged states, wrong sizes and lengths.
+//! and crafted systems, the parts of the diagonal tile, tied pivots, odd and damaged states, wrong sizes and lengths.
 
 use crate::crafted::{all_crafted, Crafted};
 use crate::families::{not_finite, numbers, FAMILIES};
@@ -12,7 +12,7 @@ use crate::writer::{Options, Writer};
 /// The bytes of the lend line of a shape with its right lengths.
 fn lend_bytes(shape: Shape) -> usize {
     let count = table(shape.tiles).tasks.len();
-    3 + 32 + 16 * shape.matrix_length() + 2 * shape.lists_length() + 10 * count + 8 * SLOTS
+    3 + 32 + 16 * shape.matrix_length() + 2 * shape.lists_length() + 14 * count + 8 * SLOTS
 }
 
 /// The whole script.
@@ -23,6 +23,7 @@ pub fn script(options: Options) -> String {
     writer.edges();
     writer.crafted_systems();
     writer.diagonal_parts();
+    writer.tied_pivots();
     writer.damaged_systems();
     while !writer.is_full() {
         match writer.rng.below(10) {

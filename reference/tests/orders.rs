@@ -27,10 +27,15 @@ fn ready_tasks(shape: Shape, records: &[Record]) -> Vec<usize> {
     (0..records.len()).filter(|&task| is_ready(shape, records, task)).collect()
 }
 
+fn tie_sums(lent: &Lent) -> Vec<u16> {
+    lent.records.iter().map(|record| record.tie_sum).collect()
+}
+
 fn assert_ended(shape: Shape, lent: &Lent, last: &Final) {
     assert_eq!(bits(&lent.matrix), bits(&last.matrix));
     assert_eq!(lent.lists, last.lists);
     assert_eq!(marks(lent), last.marks);
+    assert_eq!(tie_sums(lent), last.tie_sums);
     assert_eq!(outcome(shape, &lent.matrix, &marks(lent)), last.outcome);
 }
 
@@ -157,13 +162,13 @@ fn crafted_systems() {
 // ---- every order
 
 /// All that tells one state from another, whoever holds the tasks.
-type State = (Vec<u64>, Vec<u8>, Vec<u8>, Vec<(u16, u8)>);
+type State = (Vec<u64>, Vec<u8>, Vec<u8>, Vec<u16>, Vec<(u16, u8)>);
 
 fn state_of(lent: &Lent) -> State {
     let mut held: Vec<(u16, u8)> =
         lent.workers.iter().filter(|worker| worker.busy).map(|worker| (worker.task, worker.column)).collect();
     held.sort();
-    (bits(&lent.matrix), lent.lists.clone(), marks(lent), held)
+    (bits(&lent.matrix), lent.lists.clone(), marks(lent), tie_sums(lent), held)
 }
 
 /// Goes through every state that takes and columns lead to; each end is that of the old loops.

@@ -1,4 +1,4 @@
-//! K4: what the pivot search carries along is the largest magnitude so far, in the first row that has it.
+//! K4 and K7: what the pivot search carries along is the largest magnitude so far, in the first row that has it, and how many others have it.
 
 use reference::numbers::{LARGEST, SMALLEST};
 use reference::rng::Rng;
@@ -8,11 +8,13 @@ use reference::search::{best_so_far, search, Pivot};
 fn expected(first: usize, candidates: &[f64]) -> Pivot {
     let larger = |x: f64| candidates.iter().any(|y| y.abs() > x.abs());
     let place = candidates.iter().position(|&x| !larger(x)).expect("one that none exceeds");
-    Pivot { row: first + place, magnitude: candidates[place].abs() }
+    let magnitude = candidates[place].abs();
+    let others = candidates.iter().filter(|x| x.abs() == magnitude).count() - 1;
+    Pivot { row: first + place, magnitude, ties: if magnitude == 0.0 { 0 } else { others as u16 } }
 }
 
-fn bits(pivot: Pivot) -> (usize, u64) {
-    (pivot.row, pivot.magnitude.to_bits())
+fn bits(pivot: Pivot) -> (usize, u64, u16) {
+    (pivot.row, pivot.magnitude.to_bits(), pivot.ties)
 }
 
 /// Every list of up to five candidates from a few numbers: ties, zeros of both signs, neighbours, extremes.
@@ -46,10 +48,22 @@ fn random_candidates() {
     }
 }
 
-/// Zeros: the first row, and +0 whatever their signs.
+/// Zeros: the first row, +0 whatever their signs, and no tie.
 #[test]
 fn zeros_are_told_by_the_first() {
     for candidates in [[-0.0, 0.0, -0.0], [0.0, -0.0, 0.0]] {
-        assert_eq!(bits(search(5, &candidates)), (5, 0));
+        assert_eq!(bits(search(5, &candidates)), (5, 0, 0));
     }
+}
+
+/// Signs are ignored, ties that were overtaken are forgotten, and all candidates may tie.
+#[test]
+fn ties_are_those_of_the_winner() {
+    let ties = |candidates: &[f64]| search(0, candidates).ties;
+    assert_eq!(ties(&[3.0]), 0);
+    assert_eq!(ties(&[-3.0, 3.0]), 1);
+    assert_eq!(ties(&[1.0, -1.0, 1.0, 2.0]), 0);
+    assert_eq!(ties(&[1.0, -1.0, -2.0, 1.0, 2.0]), 1);
+    assert_eq!(ties(&[0.0, -0.0, SMALLEST, -SMALLEST]), 1);
+    assert_eq!(ties(&[-LARGEST; 17]), 16);
 }

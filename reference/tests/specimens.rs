@@ -20,12 +20,16 @@ fn opened(tiles: usize, side: usize, rows: &[f64]) -> (Sizes, Lent) {
     let mut lent = Lent {
         matrix: tile_order(shape, rows),
         lists: vec![9; shape.lists_length()],
-        records: vec![Record { kind: 7, k: 7, i: 7, j: 7, mark: 7 }; table(tiles).tasks.len()],
+        records: vec![Record { kind: 7, k: 7, i: 7, j: 7, mark: 7, tie_sum: 7 }; table(tiles).tasks.len()],
         count: 1,
         workers: [IDLE; SLOTS],
     };
     opening(told, &mut lent).expect("a good system");
     (told, lent)
+}
+
+fn tie_sums(lent: &Lent) -> Vec<u16> {
+    lent.records.iter().map(|record| record.tie_sum).collect()
 }
 
 /// Runs to the end and compares with the published loops.
@@ -40,6 +44,7 @@ fn finished(tiles: usize, side: usize, rows: &[f64]) -> (Sizes, Lent, Outcome) {
     assert_eq!(bits(&lent.matrix), bits(&last.matrix));
     assert_eq!(lent.lists, last.lists);
     assert_eq!(reference::solve::marks(&lent), last.marks);
+    assert_eq!(tie_sums(&lent), last.tie_sums);
     (told, lent, last.outcome)
 }
 
@@ -78,6 +83,7 @@ fn p4_zeros() {
     assert_eq!(bits(&lent.matrix), bits(&[0.0; 4]));
     assert_eq!(lent.lists, [0, 1]);
     assert_eq!(outcome, Outcome::Singular(0));
+    assert_eq!(tie_sums(&lent), [0]);
 }
 
 #[test]
@@ -87,6 +93,8 @@ fn p5_overflow() {
     assert_eq!(lent.records[4].mark, 4);
     assert_eq!(bits(&lent.matrix), bits(&[1.0, 0.0, -1.0, 0.0]));
     assert_eq!(outcome, Outcome::Overflow(3));
+    // T-3 had 1 above −1.
+    assert_eq!(tie_sums(&lent), [0, 0, 1, 0, 0]);
 }
 
 #[test]

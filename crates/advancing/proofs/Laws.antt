@@ -2,27 +2,30 @@
 use Prim.Native.Nat.{ℕ, suc, _+_, _-_, _*_, _≤_, _<_}
 use mathlib.Core.Bool.{false, cond}
 use mathlib.Core.Path.{_≡_, refl, sym, ap, _∙_, subst}
-use mathlib.Core.List.{List}
+use mathlib.Core.List.{List, []}
 use native.Mathlib.Omega.{arith}
 use lib.Ieee.{Float}
 use lib.ListN.{length, getD, set}
 use borrow.Author.Tests.{eq-eqb, ne-eqb, lt-ltb}
 use Rattle.model.specs.declared.Sizes.{Sizes}
+use Rattle.model.specs.declared.ColumnEnd.{ColumnEnd}
 use Rattle.worker.specs.declared.Worker.{Worker}
 use Rattle.model.specs.Task.{Task, tasks}
 use Rattle.model.specs.Plan.{plan, planOf}
 use Rattle.model.specs.Links.{task, finished}
-use Rattle.model.specs.Buffer.{Ended}
-use Rattle.model.specs.Calls.{Lent, marked, worker, columnOf, advanced}
+use Rattle.model.specs.Buffer.{Buffers, Ended, markAfter, tiesAfter, endedWith}
+use Rattle.model.specs.Calls.{Lent, withColumn, changed, worker, columnOf, advanced}
 use Rattle.worker.specs.Holding.{idle, holding}
 use Rattle.model.specs.Refusal.{entryLimit, damaged}
 use Rattle.links.proofs.Order.{Within, within-1, within-2, within-3, within-4}
 use Rattle.column_laws.specs.Placed.{Placed, EntriesFit}
-use Rattle.records.specs.Records.{recordsFrom, crew, lent}
+use Rattle.records.specs.Records.{recordsFrom, tiesFrom, crew, lent}
 use Rattle.records.proofs.Laws.{crew-set}
 use Rattle.checks.specs.Checks.{Sized}
+use Rattle.checks.proofs.Laws.{small}
 use Rattle.run_laws.proofs.Undamaged.{entry-fits}
-use Rattle.call_laws.proofs.Undamaged.{worker-lent, record-named, task-inside, record-inside, recorded, worker-holds}
+use Rattle.run_laws.proofs.Ties.{column-ties-most}
+use Rattle.call_laws.proofs.Undamaged.{worker-lent, record-named, task-inside, record-inside, recorded, worker-holds, worker-ties}
 use Rattle.task_columns.specs.Due.{ColumnDue}
 use Rattle.advancing.specs.Advancing.{Working}
 
@@ -84,7 +87,17 @@ module _ (z : Sizes) (w : ℕ) (m : List Float) (l : List ℕ) (r : List (List �
         recorded = recorded z m l r ws (d .sound .sizes) (d .sound .lengths .records-fit) (d .sound .undamaged) p (holds .0);
         named = record-named z m l r ws (d .sound .sizes) (d .sound .lengths .records-fit) (d .sound .undamaged) p (holds .0);
         inside = record-inside z m l r ws (d .sound .sizes) (d .sound .lengths .records-fit) (d .sound .undamaged) p (holds .0);
+        few-ties = worker-ties z m l r ws w (d .sound .undamaged) (d .exists) (d .busy);
       }
+
+-- the tie sum, with those of the column, is a u16
+pub few-more : (z : Sizes) (h : Worker) (m : List Float) (l : List ℕ) (r : List (List ℕ)) → ColumnDue z (h .task) (h .column) m l r → (end : ColumnEnd) (left : Buffers)
+    → endedWith end left ≡ columnOf (planOf z) (lent m l r [] (z .workers)) (h .task) (h .column) → getD (tiesFrom r) (h .task) 0 + tiesAfter end < 65536
+unfolding plan
+few-more z h m l r d end left e =
+    let s = d .sizes in
+    let n : tiesAfter end ≡ columnOf (planOf z) (lent m l r [] (z .workers)) (h .task) (h .column) .ties = ap (λ (x : Ended). x .ties) e in
+    omega (arith, n, d .few-ties, column-ties-most (planOf z) (lent m l r [] (z .workers)) (h .task) (h .column), s .small-side, small (z .side) (h .column) (s .small-side) (omega (arith, d .workable .column, s .small-side)))
 
 -- ---- the state after worker w's column
 
@@ -96,7 +109,7 @@ module _ (z : Sizes) (m : List Float) (l : List ℕ) (r : List (List ℕ)) (ws :
   abbrev moved : Worker → Ended → Lent
   moved v x = record {
     buffers = x .left;
-    records = marked (v .task) (x .mark) (recordsFrom r);
+    records = changed (v .task) (withColumn (x .mark) (x .ties)) (recordsFrom r);
     workers = set (crew ws (z .workers)) w (cond (finished (x .mark)) idle (holding (v .task) (suc (v .column))));
   }
 
@@ -104,12 +117,12 @@ module _ (z : Sizes) (m : List Float) (l : List ℕ) (r : List (List ℕ)) (ws :
   unfolding advanced lent
   advanced-is = refl
 
-  pub state-after : (h : Worker) → h ≡ getD ws w idle → (m' : List Float) (l' : List ℕ) (r' : List (List ℕ)) (k : ℕ) (h' : Worker)
-      → _≡_ {A = Ended} (record { left = record { matrix = m'; lists = l' }; mark = k }) (columnOf (planOf z) old (h .task) (h .column))
-      → recordsFrom r' ≡ marked (h .task) k (recordsFrom r) → h' ≡ cond (finished k) idle (holding (h .task) (suc (h .column)))
+  pub state-after : (h : Worker) → h ≡ getD ws w idle → (m' : List Float) (l' : List ℕ) (r' : List (List ℕ)) (end : ColumnEnd) (h' : Worker)
+      → endedWith end (record { matrix = m'; lists = l' }) ≡ columnOf (planOf z) old (h .task) (h .column)
+      → recordsFrom r' ≡ changed (h .task) (withColumn (markAfter end) (tiesAfter end)) (recordsFrom r) → h' ≡ cond (finished (markAfter end)) idle (holding (h .task) (suc (h .column)))
       → lent m' l' r' (set ws w h') (z .workers) ≡ advanced (planOf z) w old
   unfolding lent
-  state-after h e m' l' r' k h' f g i =
+  state-after h e m' l' r' end h' f g i =
       (λ x. record {
         buffers = record { matrix = m'; lists = l' };
         records = g x;

@@ -6,23 +6,23 @@ use mathlib.Core.List.{List}
 use lib.Ieee.{Float}
 use lib.ListN.{getD}
 use Rattle.model.specs.declared.Sizes.{Sizes}
+use Rattle.model.specs.declared.ColumnEnd.{ColumnEnd}
 use Rattle.worker.specs.declared.Worker.{Worker}
 use Rattle.model.specs.Task.{tasks}
 use Rattle.model.specs.Plan.{planOf}
 use Rattle.model.specs.Links.{task, finished}
-use Rattle.model.specs.Buffer.{Ended, finiteTiles}
-use Rattle.model.specs.Calls.{marked, columnOf}
+use Rattle.model.specs.Buffer.{markAfter, tiesAfter, endedWith, finiteTiles}
+use Rattle.model.specs.Calls.{withColumn, changed, columnOf}
 use Rattle.worker.specs.Holding.{idle, holding}
 use Rattle.records.specs.Records.{recordsFrom, lent}
 use Rattle.states.specs.States.{Undamaged}
 
--- what the column of worker h leaves, for any slots beside it: the buffers and the task's mark as its column makes them, and the worker h'
+-- what the column of worker h leaves, for any slots beside it: the buffers and the task's record as its column makes them, and the worker h'
 pub record Advanced (z : Sizes) (h : Worker) (m : List Float) (l : List ℕ) (r : List (List ℕ)) (m' : List Float) (l' : List ℕ) (r' : List (List ℕ)) (h' : Worker) : Type 0 where
-  pub mark : ℕ
-  pub ends : (slots : List Worker) → _≡_ {A = Ended} (record { left = record { matrix = m'; lists = l' }; mark = mark })
-      (columnOf (planOf z) (lent m l r slots (z .workers)) (h .task) (h .column))
-  pub records : recordsFrom r' ≡ marked (h .task) mark (recordsFrom r)
-  pub worker : h' ≡ cond (finished mark) idle (holding (h .task) (suc (h .column)))
+  pub end : ColumnEnd
+  pub ends : (slots : List Worker) → endedWith end (record { matrix = m'; lists = l' }) ≡ columnOf (planOf z) (lent m l r slots (z .workers)) (h .task) (h .column)
+  pub records : recordsFrom r' ≡ changed (h .task) (withColumn (markAfter end) (tiesAfter end)) (recordsFrom r)
+  pub worker : h' ≡ cond (finished (markAfter end)) idle (holding (h .task) (suc (h .column)))
 
 -- worker w is busy in an undamaged state, and the tiles that its task touches are finite
 pub record Working (z : Sizes) (w : ℕ) (m : List Float) (l : List ℕ) (r : List (List ℕ)) (ws : List Worker) : Type 0 where

@@ -5,9 +5,11 @@ ghost use Rattle.model.specs.Calls.{advanced};
 ghost use Rattle.records.specs.Records.{allLent, OthersKept};
 ghost use Rattle.task_columns.specs.Due.{ColumnDue};
 ghost use Rattle.advancing.specs.Advancing.{Advanced, Working};
+use column_marks::mark_after;
 use column_marks::moved_on;
+use column_marks::ties_after;
 use model::Sizes;
-use record_changes::set_mark;
+use record_changes::add_column;
 use records::Record;
 use task_columns::work_task;
 use worker::Worker;
@@ -25,8 +27,9 @@ pub fn advance(
     ensures { λ r. ⌜ Advanced z h (now (matrix .entry)) (now (lists .entry)) (now (records .entry)) (now (matrix .exit)) (now (lists .exit)) (now (records .exit)) r ⌝ }
 {
     let p = h.task as usize;
-    let mark = work_task(z, matrix, lists, records, p, h.column as usize);
-    set_mark(records, p, mark);
+    let end = work_task(z, matrix, lists, records, p, h.column as usize);
+    let mark = mark_after(end);
+    add_column(records, p, mark, ties_after(end));
     moved_on(h, mark)
 }
 

@@ -2,7 +2,7 @@
 ghost use mathlib.Core.Path.{_≡_};
 ghost use Rattle.model.specs.Task.{T-2};
 ghost use Rattle.model.specs.Plan.{planOf};
-ghost use Rattle.model.specs.Buffer.{markAfter, columnEnds};
+ghost use Rattle.model.specs.Buffer.{endedWith, columnEnds};
 ghost use Rattle.column_laws.specs.Workable.{Workable};
 use apply_blocks::apply_rows;
 use block_starts::start_block;
@@ -23,7 +23,7 @@ pub fn apply_column(
     c: usize,
 ) -> ColumnEnd
     requires { ⌜ Workable z (T-2 k j) c (now matrix) (now lists) ⌝ }
-    ensures { λ r. ⌜ record { left = record { matrix = now (matrix .exit); lists = now (lists .entry) }; mark = markAfter r }
+    ensures { λ r. ⌜ endedWith r (record { matrix = now (matrix .exit); lists = now (lists .entry) })
         ≡ columnEnds (planOf z) (T-2 k j) c (record { matrix = now (matrix .entry); lists = now (lists .entry) }) ⌝ }
 {
     let n = z.tiles;
@@ -33,7 +33,7 @@ pub fn apply_column(
     let p = list_start(n, t, k, k);
     start_block(matrix, lists, t, t, a, p, c);
     if apply_rows(matrix, t, f, a, c) {
-        return column_end(t, c);
+        return column_end(t, c, 0);
     }
     fill_numbers(matrix, a, t * t);
     ColumnEnd::Failed

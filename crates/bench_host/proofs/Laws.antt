@@ -1,8 +1,9 @@
--- A column's end, with the mark that it gives. Assumes nothing.
-use Prim.Native.Nat.{ℕ}
+-- A column's end, with what it tells. Assumes nothing.
+use Prim.Native.Nat.{ℕ, _+_, _*_}
 use mathlib.Core.Path.{_≡_, ap, _∙_}
-use Rattle.model.specs.Buffer.{Buffers, Ended}
+use Rattle.model.specs.declared.ColumnEnd.{ColumnEnd}
+use Rattle.model.specs.Buffer.{Buffers, Ended, markAfter, tiesAfter, endedWith}
+use Rattle.bench_host.specs.Ends.{Tells}
 
--- a column that ends with the mark n
-pub ends : (s : Buffers) (n mark : ℕ) (e : Ended) → n ≡ mark → _≡_ {A = Ended} (record { left = s; mark = mark }) e → _≡_ {A = Ended} (record { left = s; mark = n }) e
-ends s n mark e q h = ap (λ x. record { left = s; mark = x }) q ∙ h
+pub ends : (s : Buffers) (n : ℕ) (end : ColumnEnd) (e : Ended) → n ≡ markAfter end + tiesAfter end * 256 → endedWith end s ≡ e → Tells e s n
+ends s n end e q h = record { left = ap (λ (x : Ended). x .left) h; told = q ∙ ap (λ (x : Ended). x .mark + x .ties * 256) h }

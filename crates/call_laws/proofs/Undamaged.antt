@@ -1,5 +1,5 @@
 -- What the calls may count on once what is lent passed refusals 1, 2 and 4. Assumes nothing.
-use Prim.Native.Nat.{ℕ, _≤_, _<_}
+use Prim.Native.Nat.{ℕ, _*_, _≤_, _<_}
 use mathlib.Core.Bool.{true, false}
 use mathlib.Core.Path.{_≡_, _∙_}
 use mathlib.Core.List.{List}
@@ -12,15 +12,15 @@ use Rattle.model.specs.Lengths.{RecordsFit}
 use Rattle.model.specs.Task.{tasks}
 use Rattle.model.specs.Plan.{plan, planOf}
 use Rattle.model.specs.Links.{task, mark, taken}
-use Rattle.model.specs.Calls.{marksOf, worker}
+use Rattle.model.specs.Calls.{marksOf, tiesOf, worker}
 use Rattle.worker.specs.Holding.{idle}
 use Rattle.model.specs.Refusal.{damaged}
-use Rattle.records.specs.Records.{recordsFrom, marksFrom, blank, lent}
+use Rattle.records.specs.Records.{recordsFrom, marksFrom, tiesFrom, blank, lent}
 use Rattle.records.proofs.Laws.{length-records, length-crew, worker-at, no-worker}
 use Rattle.links.proofs.Order.{Within, length-tasks, task-within}
 use Rattle.marks.specs.Marks.{Recorded}
 use Rattle.checks.specs.Checks.{Sized, Inside, taskFrom}
-use Rattle.run_laws.proofs.Undamaged.{Due, Held, due-any, held}
+use Rattle.run_laws.proofs.Undamaged.{Due, Held, due-any, held, sum-held}
 use Rattle.call_laws.proofs.Named.{named, inside}
 
 -- ---- workers
@@ -81,3 +81,11 @@ module _ (z : Sizes) (m : List Float) (l : List ℕ) (r : List (List ℕ)) (ws :
       let h = held (planOf z) (lent m l r ws (z .workers)) fine w (rw (workers-long m l r ws (z .workers) w) here) (rw e busy) in
       let k : Held (planOf z) (lent m l r ws (z .workers)) (getD ws w idle) = rw e at h in
       (k .exists, k .is-taken, k .column-fits)
+
+  -- and its tie sum is at most t times that column
+  pub worker-ties : getD (tiesFrom r) (getD ws w idle .task) 0 ≤ z .side * getD ws w idle .column
+  unfolding plan tiesOf lent tiesFrom
+  worker-ties =
+      let e = worker-lent m l r ws (z .workers) w here in
+      let h = sum-held (planOf z) (lent m l r ws (z .workers)) fine w (rw (workers-long m l r ws (z .workers) w) here) (rw e busy) in
+      rw e at h

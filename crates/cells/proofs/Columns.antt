@@ -9,15 +9,15 @@ use lib.ListN.{length, replicate, length-replicate}
 use Rattle.model.specs.Lists.{every}
 use Rattle.model.specs.Num.{plusZero, finite}
 use Rattle.model.specs.Tile.{zeros, upperFilled}
-use Rattle.model.specs.Column.{factorColumn, factorComputes, applyColumn, applyComputes, coupleColumn, coupleComputes, pairColumn, pairComputes}
+use Rattle.model.specs.Column.{factorPivot, couplePivot, factorColumn, factorComputes, applyColumn, applyComputes, coupleColumn, coupleComputes, pairColumn, pairComputes}
 use Rattle.model.specs.Task.{Task, T-1, T-2, T-3, T-4}
 use Rattle.model.specs.Plan.{Plan, plan}
 use Rattle.model.specs.Links.{task}
-use Rattle.model.specs.Buffer.{Buffers, tileOf, rowsOf, withTile, withRows, factorInput, coupleInput, pairInput, worked, computed, sound, fillTile, fillRows, fillUpper, filled}
+use Rattle.model.specs.Buffer.{Buffers, tileOf, rowsOf, withTile, withRows, factorInput, coupleInput, pairInput, worked, computed, columnTies, sound, fillTile, fillRows, fillUpper, filled}
 use Rattle.order_free.proofs.Tests.{set-there}
 use Rattle.laws.proofs.Each.{Each}
 use Rattle.laws.proofs.Blocks.{length-block}
-use Rattle.cells.specs.Cells.{Val, tileVal, tileAt, lowAt, listAt, view, putTile, putFactored, putCoupled, putPaired, putZeros, factorIn, coupleIn, pairIn, workedAt, computedAt, soundAt, filledAt, planFor, system}
+use Rattle.cells.specs.Cells.{Val, tileVal, tileAt, lowAt, listAt, view, putTile, putFactored, putCoupled, putPaired, putZeros, factorIn, coupleIn, pairIn, workedAt, computedAt, tiesAt, soundAt, filledAt, planFor, system}
 use Rattle.cells.proofs.Places.{cell-lt}
 use Rattle.cells.proofs.Lows.{low-low, apply-low, computes-low, couple-low}
 use Rattle.cells.proofs.Lengths.{factor-size, apply-size, couple-size, pair-size}
@@ -107,6 +107,15 @@ module _ (N t : ℕ) (ts : List Task) where
   unfolding sound soundAt
   sound-view a v c s = ap (every finite) (computed-view a v c s)
 
+  -- ---- the ties of its search
+
+  ties-view : (a : Task) → Valid N a → (c : ℕ) (s : Buffers) → columnTies z a c s ≡ tiesAt N t a c (view N t s)
+  unfolding columnTies tiesAt plan
+  ties-view (T-1 k) (v₁ h) c s = λ i. factorPivot t c (tile-in s k k h h i) .ties
+  ties-view (T-2 k j) v c s = refl
+  ties-view (T-3 k m) (v₃ h l f) c s = λ i. couplePivot t c (tile-in s k k h h i) (tile-in s m k l h i) .ties
+  ties-view (T-4 k m j) v c s = refl
+
   -- ---- what a fill leaves
 
   length-zeros : length (zeros (t * t)) ≡ t * t
@@ -147,3 +156,6 @@ module _ (N t : ℕ) (ts : List Task) where
 
     pub sound-same : (c : ℕ) → sound z (task ts p) c s ≡ system N t ts .ok p c σ
     sound-same c = sound-view (task ts p) v c s ∙ ap (soundAt N t (task ts p) c) (w .1)
+
+    pub ties-same : (c : ℕ) → columnTies z (task ts p) c s ≡ tiesAt N t (task ts p) c σ
+    ties-same c = ties-view (task ts p) v c s ∙ ap (tiesAt N t (task ts p) c) (w .1)

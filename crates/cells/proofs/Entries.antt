@@ -10,19 +10,19 @@ use lib.ListN.{length, getD}
 use lib.ListN as L
 use Rattle.model.specs.declared.Pivot.{Pivot}
 use Rattle.model.specs.Lists.{run, below}
-use Rattle.model.specs.Num.{isZero, magnitude, exceeds}
+use Rattle.model.specs.Num.{isZero, exceeds}
 use Rattle.model.specs.Tile.{at}
-use Rattle.model.specs.Column.{Factored, Coupled, better, searchFrom, search, factorCandidates, factorPivot, factorColumn, coupleCandidates, couplePivot, coupleColumn}
+use Rattle.model.specs.Column.{Factored, Coupled, candidate, tied, better, searchFrom, search, factorCandidates, factorPivot, factorColumn, coupleCandidates, couplePivot, coupleColumn}
 use Rattle.laws.proofs.Runs.{length-map-run}
 use Rattle.cells.proofs.Choices.{either}
 
 -- ---- the place of a pivot
 
 better-place : (m n : ℕ) (p : Pivot) (x : Float) → p .place ≤ m → n ≤ m → better p n x .place ≤ m
-unfolding better
+unfolding better tied
 better-place m n p x h l = go (exceeds x (p .magnitude))
   where
-    go : (b : Bool) → cond b (record { place = n; magnitude = magnitude x }) p .place ≤ m
+    go : (b : Bool) → cond b (candidate n x) (tied p x) .place ≤ m
     go true = l
     go false = h
 
@@ -34,7 +34,7 @@ search-from n m p (x ∷ xs) h l = search-from (suc n) m (better p n x) xs (bett
 search-place : (m : ℕ) (xs : List Float) → length xs ≤ suc m → search xs .place ≤ m
 unfolding search
 search-place m [] l = omega arith
-search-place m (x ∷ xs) l = search-from 1 m (record { place = 0; magnitude = magnitude x }) xs (omega arith) (omega arith)
+search-place m (x ∷ xs) l = search-from 1 m (candidate 0 x) xs (omega arith) (omega arith)
 
 module _ (t c : ℕ) where
   pub factor-place : c < t → (a : List Float) → c + factorPivot t c a .place < t

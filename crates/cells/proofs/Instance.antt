@@ -8,15 +8,16 @@ use lib.Dec.{eqb}
 use lib.Ieee.{Float}
 use Rattle.model.specs.Lists.{some, every}
 use Rattle.model.specs.Num.{finite}
-use Rattle.model.specs.Column.{factorColumn, factorComputes, applyColumn, applyComputes, coupleColumn, coupleComputes, pairColumn, pairComputes}
+use Rattle.model.specs.Column.{factorPivot, couplePivot, factorColumn, factorComputes, applyColumn, applyComputes, coupleColumn, coupleComputes, pairColumn, pairComputes}
 use Rattle.model.specs.Task.{Task, T-1, T-2, T-3, T-4, Place, A, low, list, lowOf, touches, writes, reads}
 use Rattle.model.specs.Links.{task}
 use Rattle.model.specs.Tile.{upperFilled}
 use Rattle.order_free.specs.Below.{set}
 use Rattle.order_free.specs.System.{Laws}
+use Rattle.order_free.specs.Sums.{Local}
 use Rattle.laws.proofs.Tests.{never, or-false}
 use Rattle.laws.proofs.Each.{Each}
-use Rattle.cells.specs.Cells.{Val, tileAt, lowAt, listAt, cellOf, atCell, putTile, putLow, putLowOf, putFactored, putCoupled, putPaired, putZeros, factorIn, coupleIn, pairIn, workedAt, computedAt, soundAt, filledAt, system}
+use Rattle.cells.specs.Cells.{Val, tileAt, lowAt, listAt, cellOf, atCell, putTile, putLow, putLowOf, putFactored, putCoupled, putPaired, putZeros, factorIn, coupleIn, pairIn, workedAt, computedAt, tiesAt, soundAt, filledAt, system, ties}
 use Rattle.cells.proofs.Members.{Member, first, later}
 use Rattle.cells.proofs.Valid.{Valid}
 use Rattle.cells.proofs.Places.{touched-proper, proper-in, at-member, member-at, writes-touch}
@@ -128,6 +129,13 @@ module _ (N t : ℕ) where
     unfolding soundAt
     sound-local a c h = ap (every finite) (computed-local a c h)
 
+    ties-local : (a : Task) (c : ℕ) → Agrees a σ τ → tiesAt N t a c σ ≡ tiesAt N t a c τ
+    unfolding tiesAt
+    ties-local (T-1 k) c h = λ i. factorPivot t c (same-factor k h i .tile) .ties
+    ties-local (T-2 k j) c h = refl
+    ties-local (T-3 k m) c h = λ i. couplePivot t c (same-couple k m h i .upper) (same-couple k m h i .lower) .ties
+    ties-local (T-4 k m j) c h = refl
+
     -- a fill reads nothing, but for T-3's upper tile
     filled-local : (a : Task) → Agrees a σ τ → (r : ℕ) → σ r ≡ τ r → filledAt N t a σ r ≡ filledAt N t a τ r
     unfolding filledAt set
@@ -151,3 +159,6 @@ module _ (N t : ℕ) where
     local-col = λ p c σ τ h l a r e. worked-local σ τ (task ts p) c a r (a r (writes-touch N (task ts p) r e));
     local-fill = λ p σ τ h a r e. filled-local σ τ (task ts p) a r (a r (writes-touch N (task ts p) r e));
   }
+
+  pub ties-laws : (ts : List Task) → Local (system N t ts) (ties N t ts)
+  ties-laws ts p c σ τ h l a = ties-local σ τ (task ts p) c a

@@ -12,13 +12,14 @@ use lib.Ieee.{Float}
 use Rattle.model.specs.Lists.{every, some, part}
 use Rattle.model.specs.Num.{finite}
 use Rattle.model.specs.Tile.{zeros, upperFilled}
-use Rattle.model.specs.Column.{Factored, Coupled, Paired, factorColumn, factorComputes, applyColumn, applyComputes, coupleColumn, coupleComputes, pairColumn, pairComputes}
+use Rattle.model.specs.Column.{Factored, Coupled, Paired, factorPivot, factorColumn, factorComputes, applyColumn, applyComputes, couplePivot, coupleColumn, coupleComputes, pairColumn, pairComputes}
 use Rattle.model.specs.Task.{Task, T-1, T-2, T-3, T-4, Place, touches, writes}
 use Rattle.model.specs.Links.{task}
 use Rattle.model.specs.Plan.{Plan}
 use Rattle.model.specs.Buffer.{Buffers, tile}
 use Rattle.order_free.specs.Below.{set}
 use Rattle.order_free.specs.System.{System}
+use Rattle.order_free.specs.Sums.{Gain}
 
 -- what a cell holds: the numbers of a tile or the entries of a row list, and nothing of the other
 pub record Val : Type 0 where
@@ -110,6 +111,13 @@ module _ (N t : ℕ) where
   computedAt (T-3 k i) c σ = coupleComputes t c (coupleIn k i σ)
   computedAt (T-4 k i j) c σ = pairComputes t t c (σ (tileAt N i k) .floats) (σ (listAt N i k) .bytes) (pairIn k i j σ)
 
+  -- the ties of a column's pivot search
+  unfoldable pub tiesAt : Task → ℕ → (ℕ → Val) → ℕ
+  tiesAt (T-1 k) c σ = factorPivot t c (σ (tileAt N k k) .floats) .ties
+  tiesAt (T-2 k j) c σ = 0
+  tiesAt (T-3 k i) c σ = couplePivot t c (σ (tileAt N k k) .floats) (σ (tileAt N i k) .floats) .ties
+  tiesAt (T-4 k i j) c σ = 0
+
   unfoldable pub soundAt : Task → ℕ → (ℕ → Val) → Bool
   soundAt a c σ = every finite (computedAt a c σ)
 
@@ -144,3 +152,7 @@ module _ (N t : ℕ) where
     ok = λ p c σ. soundAt (task ts p) c σ;
     fill = λ p σ. filledAt (task ts p) σ;
   }
+
+  -- the ties as order_free's gain: a failing column and spoiling add none
+  abbrev pub ties : (ts : List Task) → Gain (system ts)
+  ties ts = record { good = λ p c σ. tiesAt (task ts p) c σ; failing = 0; spoiling = 0 }

@@ -1,20 +1,16 @@
 // The end of a column that computed only finite numbers.
-ghost use mathlib.Core.Path.{_≡_};
-ghost use mathlib.Core.Bool.{cond};
-ghost use Prim.Native.Nat.{suc, _<_};
-ghost use lib.Dec.{eqb};
-ghost use Rattle.model.specs.Buffer.{markAfter};
-ghost use Rattle.model.specs.Links.{taken, done};
+ghost use Prim.Native.Nat.{_<_};
+ghost use Rattle.model.specs.Buffer.{Completed};
 use model::ColumnEnd;
 
-// How column c of a task that did not fail ends: the task is done after column t - 1.
-pub fn column_end(t: usize, c: usize) -> ColumnEnd
+// How column c of a task that did not fail ends, with the ties of its pivot: the task is done after column t - 1.
+pub fn column_end(t: usize, c: usize, ties: u16) -> ColumnEnd
     requires { ⌜ c < t ⌝ }
-    ensures { λ r. ⌜ markAfter r ≡ cond (eqb (suc c) t) done taken ⌝ }
+    ensures { λ r. ⌜ Completed t c ties r ⌝ }
 {
     if c + 1 == t {
-        ColumnEnd::Done
+        ColumnEnd::Done(ties)
     } else {
-        ColumnEnd::GoesOn
+        ColumnEnd::GoesOn(ties)
     }
 }

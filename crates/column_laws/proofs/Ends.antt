@@ -9,6 +9,8 @@ use native.Mathlib.Omega.{arith}
 use lib.Dec.{eqb}
 use lib.ListN.{length, getD, set, replicate, length-replicate}
 use lib.Ieee.{Float, nan}
+use Rattle.model.specs.declared.ColumnEnd.{ColumnEnd}
+use Rattle.model.specs.declared.ColumnEnd.the-variants.{Failed}
 use Rattle.model.specs.declared.Pivot.{Pivot}
 use Rattle.model.specs.Lists.{every, part, withPart}
 use Rattle.model.specs.Num.{finite, plusZero, isZero}
@@ -16,9 +18,9 @@ use Rattle.model.specs.Tile.{at, zeros, upperFilled}
 use Rattle.model.specs.Column.{applyStart, factorPivot, couplePivot}
 use Rattle.model.specs.Best.{FactorTold, CoupleTold}
 use Rattle.model.specs.Task.{Task, T-1, T-2, T-3, T-4}
-use Rattle.model.specs.Links.{taken, done, failed}
+use Rattle.model.specs.Links.{taken, done}
 use Rattle.model.specs.Plan.{Plan, plan}
-use Rattle.model.specs.Buffer.{Buffers, tile, putTile, putRows, tileOf, withTile, withRows, worked, sound, fillTile, fillRows, fillUpper, filled, columnEnds}
+use Rattle.model.specs.Buffer.{Buffers, tile, putTile, putRows, tileOf, withTile, withRows, worked, columnTies, sound, fillTile, fillRows, fillUpper, filled, columnEnds, Completed, endedWith}
 use Rattle.laws.specs.Apart.{Apart}
 use Rattle.laws.proofs.Parts.{Fits, length-put, part-put, part-other, put-put, length-part}
 use Rattle.column_laws.specs.Steps.{tileStart, listStart, RowsApplied, appliedBlock, RowsPaired, upperAt, lowerAt, withTwo, TileFactored, factored, exchangedAt, TilesCoupled, eliminatedRows}
@@ -31,11 +33,11 @@ use Rattle.column_laws.proofs.Worked.{pair-worked, pair-computed, apply
 -- ---- by whether every number computed is finite
 
 module _ (z : Plan) (a : Task) (c : ℕ) (s w : Buffers) where
-  ends-sound : (mark : ℕ) → w ≡ worked z a c s → sound z a c s ≡ true → mark ≡ cond (eqb (suc c) (z .t)) done taken → record { left = w; mark = mark } ≡ columnEnds z a c s
+  ends-sound : (n : ℕ) (end : ColumnEnd) → n ≡ columnTies z a c s → w ≡ worked z a c s → sound z a c s ≡ true → Completed (z .t) c n end → endedWith end w ≡ columnEnds z a c s
   unfolding columnEnds
-  ends-sound mark p h e = rw (p, e, h, columnEnds)
+  ends-sound n end q p h e = rw (p, e .mark, e .ties, q, h, columnEnds)
 
-  ends-failed : w ≡ filled z a (worked z a c s) → sound z a c s ≡ false → record { left = w; mark = failed } ≡ columnEnds z a c s
+  ends-failed : w ≡ filled z a (worked z a c s) → sound z a c s ≡ false → endedWith Failed w ≡ columnEnds z a c s
   unfolding columnEnds
   ends-failed p h = rw (p, h, columnEnds)
 
@@ -85,18 +87,18 @@ module _ (N t k i j c e u d : ℕ) (hc : c < t) (m : List Float) (l : List ℕ) 
   unfolding sound
   pair-sound = p .sound ∙ rw (hu, hd, hf) (ap (every finite) (sym (pair-computed N t c m l k i j hc lists e he)))
 
-  pub pair-ends : (mark : ℕ) → answer ≡ true → mark ≡ cond (eqb (suc c) t) done taken
-      → record { left = record { matrix = after; lists = l }; mark = mark } ≡ columnEnds (plan N t) (T-4 k i j) c (record { matrix = m; lists = l })
-  unfolding plan
-  pair-ends mark h q =
-      ends-sound (plan N t) (T-4 k i j) c (record { matrix = m; lists = l }) (record { matrix = after; lists = l }) mark
+  pub pair-ends : (end : ColumnEnd) → answer ≡ true → Completed t c 0 end
+      → endedWith end (record { matrix = after; lists = l }) ≡ columnEnds (plan N t) (T-4 k i j) c (record { matrix = m; lists = l })
+  unfolding plan columnTies
+  pair-ends end h q =
+      ends-sound (plan N t) (T-4 k i j) c (record { matrix = m; lists = l }) (record { matrix = after; lists = l }) 0 end refl
       (rw (p .whole h, hu, hd, hf) (sym (pair-worked N t c m l k i j hc lists e he)))
       (sym pair-sound ∙ h) q
 
   -- the worked column and the matrix where the code stopped differ only in the two tiles, which are filled
   pub pair-fails : (half last : List Float) → u + t * t ≤ length m → d + t * t ≤ length m → Apart (t * t) u d
       → answer ≡ false → half ≡ withPart d (t * t) (zeros (t * t)) after → last ≡ withPart u (t * t) (zeros (t * t)) half
-      → record { left = record { matrix = last; lists = l }; mark = failed } ≡ columnEnds (plan N t) (T-4 k i j) c (record { matrix = m; lists = l })
+      → endedWith Failed (record { matrix = last; lists = l }) ≡ columnEnds (plan N t) (T-4 k i j) c (record { matrix = m; lists = l })
   pair-fails half last ru rd apart h q q′ =
       let n = t * t in
       let long = length-upper t t 0 c e u d m in
@@ -130,17 +132,17 @@ module _ (N t k j c a b : ℕ) (m : List Float) (l : List ℕ) (ha : a ≡ tileS
   unfolding sound
   apply-sound = p .sound ∙ rw (kept, begun, hf, ha, hb) (ap (every finite) (sym (apply-computed N t c m l k j)))
 
-  pub apply-ends : (mark : ℕ) → answer ≡ true → mark ≡ cond (eqb (suc c) t) done taken
-      → record { left = record { matrix = after; lists = l }; mark = mark } ≡ columnEnds (plan N t) (T-2 k j) c (record { matrix = m; lists = l })
-  unfolding plan
-  apply-ends mark h q =
-      ends-sound (plan N t) (T-2 k j) c (record { matrix = m; lists = l }) (record { matrix = after; lists = l }) mark
+  pub apply-ends : (end : ColumnEnd) → answer ≡ true → Completed t c 0 end
+      → endedWith end (record { matrix = after; lists = l }) ≡ columnEnds (plan N t) (T-2 k j) c (record { matrix = m; lists = l })
+  unfolding plan columnTies
+  apply-ends end h q =
+      ends-sound (plan N t) (T-2 k j) c (record { matrix = m; lists = l }) (record { matrix = after; lists = l }) 0 end refl
       (ap (λ (y : List Float). record { matrix = y; lists = l }) (p .whole h ∙ put-mid (appliedBlock t t c (λ r. at t (part f (t * t) mid) r c) (part a (t * t) mid)))
       ∙ rw (kept, begun, hf, ha, hb) (sym (apply-worked N t c m l k j)))
       (sym apply-sound ∙ h) q
 
   pub apply-fails : (last : List Float) → length after ≡ length mid → answer ≡ false → last ≡ withPart a (t * t) (zeros (t * t)) after
-      → record { left = record { matrix = last; lists = l }; mark = failed } ≡ columnEnds (plan N t) (T-2 k j) c (record { matrix = m; lists = l })
+      → endedWith Failed (record { matrix = last; lists = l }) ≡ columnEnds (plan N t) (T-2 k j) c (record { matrix = m; lists = l })
   apply-fails last long h q =
       let n = t * t in
       let here : a + n ≤ length mid = rw (ap length x ∙ length-put n nan a m _ start-fits) room in
@@ -160,7 +162,11 @@ module _ (N t k c a b : ℕ) (ha : a ≡ tileStart N t k k) (hb : b ≡ listStar
   lists-here : listStart N t k k + t ≤ length l
   lists-here = rw (← hb) lists
 
-  pivot-is : f ≡ record { place = c + factorPivot t c (part (tileStart N t k k) (t * t) m) .place; magnitude = factorPivot t c (part (tileStart N t k k) (t * t) m) .magnitude }
+  pivot-is : f ≡ record {
+    place = c + factorPivot t c (part (tileStart N t k k) (t * t) m) .place;
+    magnitude = factorPivot t c (part (tileStart N t k k) (t * t) m) .magnitude;
+    ties = factorPivot t c (part (tileStart N t k k) (t * t) m) .ties;
+  }
   unfolding factorPivot
   pivot-is = told .told ∙ rw ha
 
@@ -170,14 +176,18 @@ module _ (N t k c a b : ℕ) (ha : a ≡ tileStart N t k k) (hb : b ≡ listStar
   row-is : c + factorPivot t c (part (tileStart N t k k) (t * t) m) .place ≡ f .place
   row-is = ap (λ (p : Pivot). p .place) (sym pivot-is)
 
+  ties-is : f .ties ≡ columnTies (plan N t) (T-1 k) c (record { matrix = m; lists = l })
+  unfolding columnTies plan tileOf tile
+  ties-is = ap (λ (p : Pivot). p .ties) pivot-is
+
   -- a pivot of zero stands in row c, and nothing is computed
-  pub factor-skips : (mark : ℕ) → isZero (f .magnitude) ≡ true → mark ≡ cond (eqb (suc c) t) done taken
-      → record { left = record { matrix = m; lists = l′ }; mark = mark } ≡ columnEnds (plan N t) (T-1 k) c (record { matrix = m; lists = l })
+  pub factor-skips : (end : ColumnEnd) → isZero (f .magnitude) ≡ true → Completed t c (f .ties) end
+      → endedWith end (record { matrix = m; lists = l′ }) ≡ columnEnds (plan N t) (T-1 k) c (record { matrix = m; lists = l })
   unfolding plan sound every
-  factor-skips mark z q =
+  factor-skips end z q =
       let zero = rw magnitude-is at z in
       let first : f .place ≡ c = told-zero _ c c _ f told z in
-      ends-sound (plan N t) (T-1 k) c (record { matrix = m; lists = l }) (record { matrix = m; lists = l′ }) mark
+      ends-sound (plan N t) (T-1 k) c (record { matrix = m; lists = l }) (record { matrix = m; lists = l′ }) (f .ties) end ties-is
       (rw (hl, first, hb) (sym (factor-skipped N t c m l k hc lists-here zero))) (ap (every finite) (factor-none N t c m l k zero)) q
 
   module _ (room : a + t * t ≤ length m) (nz : isZero (f .magnitude) ≡ false)
@@ -192,15 +202,15 @@ module _ (N t k c a b : ℕ) (ha : a ≡ tileStart N t k k) (hb : b ≡ listStar
     worked-is : worked (plan N t) (T-1 k) c (record { matrix = m; lists = l }) ≡ record { matrix = withPart a (t * t) (factored t c (exchangedAt t c (f .place) a m)) m; lists = l′ }
     worked-is = factor-worked N t c m l k hc lists-here some ∙ rw (row-is, ← ha, ← hb, ← hl)
 
-    pub factor-ends : (mark : ℕ) → answer ≡ true → mark ≡ cond (eqb (suc c) t) done taken
-        → record { left = record { matrix = after; lists = l′ }; mark = mark } ≡ columnEnds (plan N t) (T-1 k) c (record { matrix = m; lists = l })
+    pub factor-ends : (end : ColumnEnd) → answer ≡ true → Completed t c (f .ties) end
+        → endedWith end (record { matrix = after; lists = l′ }) ≡ columnEnds (plan N t) (T-1 k) c (record { matrix = m; lists = l })
     unfolding plan
-    factor-ends mark h q =
-        ends-sound (plan N t) (T-1 k) c (record { matrix = m; lists = l }) (record { matrix = after; lists = l′ }) mark
+    factor-ends end h q =
+        ends-sound (plan N t) (T-1 k) c (record { matrix = m; lists = l }) (record { matrix = after; lists = l′ }) (f .ties) end ties-is
         (ap (λ (x : List Float). record { matrix = x; lists = l′ }) (p .whole h) ∙ sym worked-is) (sym factor-sound ∙ h) q
 
     pub factor-fails : (last : List Float) (l″ : List ℕ) → answer ≡ false → last ≡ withPart a (t * t) (zeros (t * t)) after → l″ ≡ withPart b t (replicate t 0) l′
-        → record { left = record { matrix = last; lists = l″ }; mark = failed } ≡ columnEnds (plan N t) (T-1 k) c (record { matrix = m; lists = l })
+        → endedWith Failed (record { matrix = last; lists = l″ }) ≡ columnEnds (plan N t) (T-1 k) c (record { matrix = m; lists = l })
     factor-fails last l″ h q q′ =
         let n = t * t in
         let stopped : withPart a n (zeros n) after ≡ withPart a n (zeros n) m =
@@ -221,13 +231,17 @@ module _ (N t k i c u d b : ℕ) (hu : u ≡ tileStart N t k k) (hd : d ≡ tile
   unfolding couplePivot
   found-is = told .told ∙ rw (hu, hd, zero-add (couplePivot t c (part (tileStart N t k k) (t * t) m) (part (tileStart N t i k) (t * t) m) .place))
 
-  pub couple-skips : (mark : ℕ) → isZero (f .magnitude) ≡ true → mark ≡ cond (eqb (suc c) t) done taken
-      → record { left = record { matrix = m; lists = l′ }; mark = mark } ≡ columnEnds (plan N t) (T-3 k i) c (record { matrix = m; lists = l })
+  ties-found : f .ties ≡ columnTies (plan N t) (T-3 k i) c (record { matrix = m; lists = l })
+  unfolding columnTies plan tileOf tile
+  ties-found = ap (λ (p : Pivot). p .ties) found-is
+
+  pub couple-skips : (end : ColumnEnd) → isZero (f .magnitude) ≡ true → Completed t c (f .ties) end
+      → endedWith end (record { matrix = m; lists = l′ }) ≡ columnEnds (plan N t) (T-3 k i) c (record { matrix = m; lists = l })
   unfolding plan sound every
-  couple-skips mark z q =
+  couple-skips end z q =
       let zero = rw found-is at z in
       let first : f .place ≡ 0 = told-zero _ 0 c _ f told z in
-      ends-sound (plan N t) (T-3 k i) c (record { matrix = m; lists = l }) (record { matrix = m; lists = l′ }) mark
+      ends-sound (plan N t) (T-3 k i) c (record { matrix = m; lists = l }) (record { matrix = m; lists = l′ }) (f .ties) end ties-found
       (rw (hl, first, hb) (sym (couple-skipped N t c m l k i hc list-here zero))) (ap (every finite) (couple-none N t c m l k i zero)) q
 
   module _ (ru : u + t * t ≤ length m) (rd : d + t * t ≤ length m) (apart : Apart (t * t) u d)
@@ -246,16 +260,16 @@ module _ (N t k i c u d b : ℕ) (hu : u ≡ tileStart N t k k) (hd : d ≡ tile
         ≡ record { matrix = withTwo (t * t) u d (upperAt t t c c (f .place) u d m) (eliminatedRows t t c (at t (upperAt t t c c (f .place) u d m) c) (lowerAt t t c c (f .place) u d m)) m; lists = l′ }
     coupled-is = couple-worked N t c m l k i hc list-here found (f .place) entry-is ∙ rw (hl, hu, hd, hb)
 
-    pub couple-ends : (mark : ℕ) → answer ≡ true → mark ≡ cond (eqb (suc c) t) done taken
-        → record { left = record { matrix = after; lists = l′ }; mark = mark } ≡ columnEnds (plan N t) (T-3 k i) c (record { matrix = m; lists = l })
+    pub couple-ends : (end : ColumnEnd) → answer ≡ true → Completed t c (f .ties) end
+        → endedWith end (record { matrix = after; lists = l′ }) ≡ columnEnds (plan N t) (T-3 k i) c (record { matrix = m; lists = l })
     unfolding plan
-    couple-ends mark h q =
-        ends-sound (plan N t) (T-3 k i) c (record { matrix = m; lists = l }) (record { matrix = after; lists = l′ }) mark
+    couple-ends end h q =
+        ends-sound (plan N t) (T-3 k i) c (record { matrix = m; lists = l }) (record { matrix = after; lists = l′ }) (f .ties) end ties-found
         (ap (λ (x : List Float). record { matrix = x; lists = l′ }) (p .whole h) ∙ sym coupled-is) (sym couple-sound ∙ h) q
 
     pub couple-fails : (half last : List Float) (l″ : List ℕ) → answer ≡ false → half ≡ withPart d (t * t) (zeros (t * t)) after
         → last ≡ withPart u (t * t) (upperFilled t (part u (t * t) half)) half → l″ ≡ withPart b t (replicate t 0) l′
-        → record { left = record { matrix = last; lists = l″ }; mark = failed } ≡ columnEnds (plan N t) (T-3 k i) c (record { matrix = m; lists = l })
+        → endedWith Failed (record { matrix = last; lists = l″ }) ≡ columnEnds (plan N t) (T-3 k i) c (record { matrix = m; lists = l })
     couple-fails half last l″ h q q′ q″ =
         let n = t * t in
         let x = upperAt t t c c (f .place) u d m in

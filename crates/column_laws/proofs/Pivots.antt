@@ -29,10 +29,10 @@ use Rattle.column_laws.proofs.Updates.{at-part}
 
 -- ---- what a search tells, once its rows count from `from`
 
-module _ (xs : List Float) (from c : ℕ) (listed : List ℕ → List ℕ) (p q : Pivot) (s : Searched xs p) (e : q ≡ record { place = from + p .place; magnitude = p .magnitude }) where
+module _ (xs : List Float) (from c : ℕ) (listed : List ℕ → List ℕ) (p q : Pivot) (s : Searched xs p) (e : q ≡ record { place = from + p .place; magnitude = p .magnitude; ties = p .ties }) where
   told-from : ((rows : List ℕ) → listed rows ≡ set rows c (from + search xs .place)) → Told xs from c listed q
   told-from h = record {
-    told = e ∙ ap (λ (f : Pivot). record { place = from + f .place; magnitude = f .magnitude }) (s .found);
+    told = e ∙ ap (λ (f : Pivot). record { place = from + f .place; magnitude = f .magnitude; ties = f .ties }) (s .found);
     best = rw (← (s .found)) (s .best);
     zeros = λ z. e ∙ rw (s .zeros z, add-zero from);
     recorded = λ rows. h rows ∙ ap (λ (f : Pivot). set rows c (from + f .place)) (sym (s .found)) ∙ ap (λ (f : Pivot). set rows c (f .place)) (sym e);
@@ -56,7 +56,7 @@ factor-recorded t c a b rows = go (isZero (factorPivot t c a .magnitude)) refl
     go true e = rw (e, factorColumn, zero-first (factorCandidates t c a) (factorPivot t c a) b e, add-zero c)
     go false e = rw (e, factorColumn)
 
-pub factor-told : (t c : ℕ) (a : List Float) (p q : Pivot) → Searched (factorCandidates t c a) p → q ≡ record { place = c + p .place; magnitude = p .magnitude } → FactorTold t c a q
+pub factor-told : (t c : ℕ) (a : List Float) (p q : Pivot) → Searched (factorCandidates t c a) p → q ≡ record { place = c + p .place; magnitude = p .magnitude; ties = p .ties } → FactorTold t c a q
 unfolding factorPivot
 factor-told t c a p q s e = told-from (factorCandidates t c a) c c _ p q s e (factor-recorded t c a (rw (← (s .found)) (s .best)))
 
@@ -141,7 +141,7 @@ couple-recorded t c u d b rows = go (isZero (couplePivot t c u d .magnitude)) re
 pub couple-told : (t c : ℕ) (u d : List Float) (p : Pivot) → Searched (coupleCandidates t c u d) p → CoupleTold t c u d p
 unfolding couplePivot
 couple-told t c u d p s =
-    told-from (coupleCandidates t c u d) 0 c _ p p s (ap (λ (n : ℕ). record { place = n; magnitude = p .magnitude }) (sym (zero-add (p .place)))) (couple-recorded t c u d (rw (← (s .found)) (s .best)))
+    told-from (coupleCandidates t c u d) 0 c _ p p s (ap (λ (n : ℕ). record { place = n; magnitude = p .magnitude; ties = p .ties }) (sym (zero-add (p .place)))) (couple-recorded t c u d (rw (← (s .found)) (s .best)))
 
 module _ (t c u d : ℕ) (hc : c < t) (m : List Float) (ru : u + t * t ≤ length m) (rd : d + t * t ≤ length m) where
   pub couple-candidates : (first rest : ℕ) → first ≡ u + (c * t + c) → rest ≡ d + c → candidates m first rest t t ≡ coupleCandidates t c (part u (t * t) m) (part d (t * t) m)

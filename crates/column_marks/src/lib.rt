@@ -1,11 +1,11 @@
-// Marks around a column: whether they spoil its task, the one that its end gives, and what that makes of the worker.
+// Around a column: whether the marks spoil its task, the mark and the ties that its end gives, and what that makes of the worker.
 ghost use mathlib.Core.Path.{_≡_};
 ghost use mathlib.Core.Bool.{_&&_, cond};
 ghost use Prim.Native.Nat.{suc, _<_};
 ghost use lib.Dec.{eqb};
 ghost use Rattle.model.specs.Task.{tasks};
 ghost use Rattle.model.specs.Links.{spoils, finished};
-ghost use Rattle.model.specs.Buffer.{markAfter};
+ghost use Rattle.model.specs.Buffer.{markAfter, tiesAfter};
 ghost use Rattle.worker.specs.Holding.{idle, holding};
 ghost use Rattle.marks.specs.Marks.{Recorded};
 ghost use Rattle.records.specs.Records.{marksFrom};
@@ -32,9 +32,22 @@ pub fn mark_after(end: ColumnEnd) -> u8
     ensures { λ r. ⌜ r ≡ markAfter end ⌝ }
 {
     match end {
-        ColumnEnd::GoesOn => 1,
-        ColumnEnd::Done => 2,
+        ColumnEnd::GoesOn(_) => 1,
+        ColumnEnd::Done(_) => 2,
         ColumnEnd::Failed => 3,
+        ColumnEnd::Spoiled => 4,
+    }
+}
+
+// The ties that a column's end adds to its task's sum.
+pub fn ties_after(end: ColumnEnd) -> u16
+    ensures { λ r. ⌜ r ≡ tiesAfter end ⌝ }
+{
+    match end {
+        ColumnEnd::GoesOn(ties) => ties,
+        ColumnEnd::Done(ties) => ties,
+        ColumnEnd::Failed => 0,
+        ColumnEnd::Spoiled => 0,
     }
 }
 

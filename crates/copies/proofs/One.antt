@@ -17,7 +17,7 @@ use Rattle.model.specs.declared.Answer.the-variants.{Accepted, Refused}
 use Rattle.model.specs.declared.CallReply.{CallReply}
 use Rattle.model.specs.Task.{T-1}
 use Rattle.model.specs.Plan.{planOf}
-use Rattle.model.specs.Calls.{Lent, worker, recordOf, withMark, marked, took, columnOf, advanced}
+use Rattle.model.specs.Calls.{Lent, worker, recordOf, withMark, withColumn, changed, took, columnOf, advanced}
 use Rattle.worker.specs.Holding.{idle}
 use Rattle.model.specs.Refusal.{Reply, replied, badSizes, badLengths, damaged, badTiles, noWorker, takeAnswer, takeCall, columnAnswer, columnCall}
 use Rattle.laws.proofs.Refusals.{passed}
@@ -45,7 +45,7 @@ reply-changes p (Refused n x) old new h = refused-changes p old
 
 module _ (z : Sizes) where
   take-changes : (w p : ℕ) (s : Lent) → Changes p s (takeCall z w p s .left)
-  unfolding takeCall took marked
+  unfolding takeCall took changed
   take-changes w p s = reply-changes p (takeAnswer z w p s) s (took (planOf z) w p s) (λ e. (withMark 1 (getD (s .records) p (recordOf (T-1 0))), refl))
 
   module _ (w : ℕ) (s : Lent) (ws : Workers) (held : s .workers ≡ crew (ws .slots) (ws .count)) where
@@ -72,10 +72,12 @@ module _ (z : Sizes) where
         never (or-right (noWorker w s) (not (worker s w .busy)) (ap (λ (h : Worker). not (h .busy)) (no-slot l))) (d .0)
 
     left-record : TaskRecord
-    left-record = withMark (columnOf (planOf z) s (worker s w .task) (worker s w .column) .mark) (getD (s .records) (worker s w .task) (recordOf (T-1 0)))
+    left-record =
+        let e = columnOf (planOf z) s (worker s w .task) (worker s w .column) in
+        withColumn (e .mark) (e .ties) (getD (s .records) (worker s w .task) (recordOf (T-1 0)))
 
     column-changes : Changes p s (columnCall z w s .left)
-    unfolding columnCall advanced marked left-record
+    unfolding columnCall advanced changed left-record
     column-changes =
         reply-changes p (columnAnswer z w s) s (advanced (planOf z) w s) (λ e.
         ⊎-elim (λ l. (left-record, ap (λ (h : Worker). set (s .records) (h .task) left-record) (its-slot l))) (λ l. idle-refused l e) (lt-or-le w (ws .count)))

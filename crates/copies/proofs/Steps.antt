@@ -18,27 +18,28 @@ use denote.Builtin.{u8, usize}
 use denote.Array.{Array, array-vals, array-tells}
 use denote.Slice.{Room}
 use denote.Steps.{only}
+use Rattle.task_records.proofs.Shelf.{bytes}
 
 -- ---- the array of copies
 
 abbrev pub N : ℕ
 N = 1497
 
--- five bytes
+-- a copy
 abbrev pub B : RattleType
-B = Array u8 5
+B = Array u8 bytes
 
 pub room : Room B N
 room = (lit< tt, lit< tt)
 
-abbrev pub vals₅ : List ℕ → List Val
-vals₅ = array-vals (uint-vals w8)
+abbrev pub byteVals : List ℕ → List Val
+byteVals = array-vals (uint-vals w8)
 
-pub tells₅ : Tells B (Is B) vals₅
-tells₅ = array-tells u8 (uint-vals w8) (uint-tells w8) 5
+pub byteTells : Tells B (Is B) byteVals
+byteTells = array-tells u8 (uint-vals w8) (uint-tells w8) bytes
 
-abbrev pub val₅ : List (List ℕ) → Val
-val₅ xs = only (array-vals vals₅ xs)
+abbrev pub copiesVal : List (List ℕ) → Val
+copiesVal xs = only (array-vals byteVals xs)
 
 -- ---- calls that ask nothing
 

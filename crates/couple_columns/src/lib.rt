@@ -2,7 +2,7 @@
 ghost use mathlib.Core.Path.{_≡_};
 ghost use Rattle.model.specs.Task.{T-3};
 ghost use Rattle.model.specs.Plan.{planOf};
-ghost use Rattle.model.specs.Buffer.{markAfter, columnEnds};
+ghost use Rattle.model.specs.Buffer.{endedWith, columnEnds};
 ghost use Rattle.column_laws.specs.Workable.{Workable};
 use column_ends::column_end;
 use couple_fills::fill_coupled;
@@ -23,7 +23,7 @@ pub fn couple_column(
     c: usize,
 ) -> ColumnEnd
     requires { ⌜ Workable z (T-3 k i) c (now matrix) (now lists) ⌝ }
-    ensures { λ r. ⌜ record { left = record { matrix = now (matrix .exit); lists = now (lists .exit) }; mark = markAfter r }
+    ensures { λ r. ⌜ endedWith r (record { matrix = now (matrix .exit); lists = now (lists .exit) })
         ≡ columnEnds (planOf z) (T-3 k i) c (record { matrix = now (matrix .entry); lists = now (lists .entry) }) ⌝ }
 {
     let n = z.tiles;
@@ -36,10 +36,10 @@ pub fn couple_column(
     lists[p + c] = e as u8;
     let magnitude = found.magnitude;
     if magnitude == 0.0 {
-        return column_end(t, c);
+        return column_end(t, c, found.ties);
     }
     if couple_rows(matrix, t, u, d, c, e) {
-        return column_end(t, c);
+        return column_end(t, c, found.ties);
     }
     fill_coupled(matrix, lists, t, u, d, p);
     ColumnEnd::Failed

@@ -1,6 +1,6 @@
 // Refusal 4 but for elements: records, what the workers hold, and list entries.
 ghost use mathlib.Core.Path.{_≡_};
-ghost use mathlib.Core.Bool.{_&&_, not};
+ghost use mathlib.Core.Bool.{_&&_, _||_, not};
 ghost use mathlib.Core.List.{List};
 ghost use lib.Dec.{eqb, leb};
 ghost use lib.Ieee.{Float};
@@ -9,11 +9,11 @@ ghost use Rattle.model.specs.Lengths.{ListsFit, RecordsFit};
 ghost use Rattle.model.specs.Lists.{below, some};
 ghost use Rattle.model.specs.Task.{tasks};
 ghost use Rattle.model.specs.Plan.{planOf};
-ghost use Rattle.model.specs.Refusal.{badRecord, damaged as isDamaged};
+ghost use Rattle.model.specs.Refusal.{badRecord, badHold, badTies, damaged as isDamaged};
 ghost use Rattle.records.specs.Records.{lent};
-ghost use Rattle.checks.specs.Checks.{Sized, recordsAlone};
+ghost use Rattle.checks.specs.Checks.{Sized, held};
 use entries::bad_entries;
-use holds::bad_holds;
+use holds::bad_hold;
 use model::Sizes;
 use model::TaskRecord;
 use numbering::Triple;
@@ -36,18 +36,27 @@ fn differs(found: TaskRecord, due: TaskRecord) -> bool
     !(same_task & (found.mark <= 4))
 }
 
-// Whether a record's task differs from the numbering, or a mark exceeds 4.
-fn bad_records(z: Sizes, records: &[Record]) -> bool
+// Whether a record's task differs from the numbering, a mark exceeds 4, a task with mark 1 has no worker or several, or a tie sum is above its limit. At
+// most one more task with mark 1 has its workers counted than there are workers.
+fn bad_records(z: Sizes, records: &[Record], workers: Slots) -> bool
     requires { ⌜ Sized z × RecordsFit z (now records) ⌝ }
-    ensures { λ r. ⌜ r ≡ some (badRecord (planOf z) (recordsAlone (now (records .entry)))) (below (length (tasks (z .tiles)))) ⌝ }
+    ensures { λ r. ⌜ r ≡ (some (badRecord (planOf z) (held (now (records .entry)) workers (z .workers))) (below (length (tasks (z .tiles))))
+        || some (badHold (planOf z) (held (now (records .entry)) workers (z .workers))) (below (length (tasks (z .tiles))))
+        || some (badTies (planOf z) (held (now (records .entry)) workers (z .workers))) (below (length (tasks (z .tiles))))) ⌝ }
 {
     let count = task_count(z.tiles);
     let mut a = Triple { k: 0, i: 0, j: 0 };
     let mut p = 0;
     while p < count {
         let due = record_of(a);
-        if differs(record_at(records, p), due) {
+        let found = record_at(records, p);
+        if differs(found, due) {
             return true;
+        }
+        if (found.mark == 1) | (found.ties != 0) {
+            if bad_hold(z, found.mark, found.ties, workers, p) {
+                return true;
+            }
         }
         a = next(z.tiles as u8, a);
         p += 1;
@@ -60,10 +69,7 @@ pub fn damaged(z: Sizes, lists: &[u8], records: &[Record], workers: Slots) -> bo
     requires { ⌜ Sized z × ListsFit z (now lists) × RecordsFit z (now records) ⌝ }
     ensures { λ r. ⌜ ((matrix : List Float) → r ≡ isDamaged (planOf z) (lent matrix (now (lists .entry)) (now (records .entry)) workers (z .workers))) ⌝ }
 {
-    if bad_records(z, records) {
-        return true;
-    }
-    if bad_holds(z, records, workers) {
+    if bad_records(z, records, workers) {
         return true;
     }
     if bad_workers(z, records, workers) {

@@ -15,13 +15,13 @@ use Rattle.model.specs.Plan.{plan, planOf}
 use Rattle.model.specs.Links.{ready}
 use Rattle.model.specs.Calls.{Lent, marksOf, worker}
 use Rattle.worker.specs.Holding.{idle}
-use Rattle.model.specs.Refusal.{badSizes, noWorker, badLengths, badRecord, badHold, badWorker, badEntry, damaged, takeAnswer, columnAnswer, runAnswer}
+use Rattle.model.specs.Refusal.{badSizes, noWorker, badLengths, badRecord, badHold, badTies, badWorker, badEntry, damaged, takeAnswer, columnAnswer, runAnswer}
 use Rattle.laws.proofs.Refusals.{passed}
 use Rattle.laws.proofs.Tests.{never, false-if, or-false, false-or, fails-below}
 use Rattle.cells.proofs.Members.{some-elim, none-below, member-index, index-member}
 use Rattle.cells.proofs.Machine.{count, Stated}
 use Rattle.demand.proofs.Whole.{Whole, tiles-finite}
-use Rattle.demand.proofs.Checks.{passes, fails, lengths, good-lengths, recorded, good-record, one-holder, good-hold, at-work, good-worker}
+use Rattle.demand.proofs.Checks.{passes, fails, lengths, good-lengths, recorded, good-record, few-ties, good-ties, one-holder, good-hold, at-work, good-worker}
 use Rattle.demand.proofs.Limits.{in-limits, good-entry, finite-matrix, good-tiles}
 
 module _ (z : Sizes) (s : Lent) where
@@ -35,14 +35,17 @@ module _ (z : Sizes) (s : Lent) where
       let rs = some (badRecord (planOf z) s) (below (count z)) in
       let hs = some (badHold (planOf z) s) (below (count z)) in
       let ws = some (badWorker (planOf z) s) (s .workers) in
-      let f = or-false (rs || hs || ws) _ (d .0) in
-      let g = or-false (rs || hs) ws (f .0) in
-      let h = or-false rs hs (g .0) in
+      let ns = some (badTies (planOf z) s) (below (count z)) in
+      let f = or-false (rs || hs || ns || ws) _ (d .0) in
+      let g = or-false (rs || hs || ns) ws (f .0) in
+      let k = or-false (rs || hs) ns (g .0) in
+      let h = or-false rs hs (k .0) in
       let l : Stated z s = lengths z s (b .0) in
       record {
         fit = a .0;
         stated = l;
         records = λ p k. recorded z s l p k (fails-below (badRecord (planOf z) s) (count z) p (h .0) k);
+        sums = λ p l. few-ties z s p (fails-below (badTies (planOf z) s) (count z) p (k .1) l);
         holder = λ p k m. one-holder z s p (fails-below (badHold (planOf z) s) (count z) p (h .1) k) m;
         held = λ w k m. at-work z s w (unfold worker in fails (badWorker (planOf z) s) (s .workers) (getD (s .workers) w idle) (g .1)
             (index-member idle (s .workers) w (subst (λ (n : ℕ). w < n) (sym (l .workers)) k))) m;
@@ -61,9 +64,9 @@ module _ (z : Sizes) (s : Lent) where
     undamaged : damaged (planOf z) s ≡ false
     unfolding damaged plan
     undamaged =
-        false-or _ _ (false-or _ _ (false-or _ _
+        false-or _ _ (false-or _ _ (false-or _ _ (false-or _ _
         (none-below (badRecord (planOf z) s) (count z) (λ p l. good-record z s (h .stated) p l (h .records p l)))
-        (none-below (badHold (planOf z) s) (count z) (λ p l. good-hold z s p (h .holder p l)))) good-workers)
+        (none-below (badHold (planOf z) s) (count z) (λ p l. good-hold z s p (h .holder p l)))) (none-below (badTies (planOf z) s) (count z) (λ p l. good-ties z s p (h .sums p l)))) good-workers)
         (none-below (badEntry (planOf z) s) (z .tiles * z .tiles * z .side) (good-entry z s (h .stated .sized) (h .rows)))
 
     is-worker : (w : ℕ) → w < z .workers → noWorker w s ≡ false

@@ -1,14 +1,15 @@
--- The checks of refusals 2 and 4 as facts, each way: lengths, records, and who holds what.
+-- The checks of refusals 2 and 4 as facts, each way: lengths, records, tie sums, and who holds what.
 -- Assumes nothing.
-use Prim.Native.Nat.{ℕ, _*_, _<_}
+use Prim.Native.Nat.{ℕ, _*_, _≤_, _<_}
 use mathlib.Core.Bool.{Bool, true, false, not, _&&_}
 use mathlib.Core.Path.{_≡_, refl, sym, ap, _∙_, subst}
 use mathlib.Core.List.{List}
 use native.Mathlib.Nat.{mul-mul-mul-comm}
 use native.Mathlib.Omega.{arith}
 use lib.Dec.{eqb, ltb}
-use lib.ListN.{length, getD}
-use borrow.Author.Tests.{eqb-true, eq-eqb, ltb-true, lt-ltb, le-leb, not-false}
+use native.Mathlib.Omega.{arith}
+use lib.ListN.{length, getD, List·getD-map}
+use borrow.Author.Tests.{eqb-true, eq-eqb, ltb-true, ltb-false, lt-ltb, le-leb, not-false}
 use Rattle.model.specs.declared.Sizes.{Sizes}
 use Rattle.model.specs.declared.Answer.{Answer}
 use Rattle.model.specs.declared.Answer.the-variants.{Accepted, Refused}
@@ -16,9 +17,9 @@ use Rattle.model.specs.Lists.{some, keep}
 use Rattle.model.specs.Task.{Task, T-1, tasks}
 use Rattle.model.specs.Plan.{plan, planOf, order}
 use Rattle.model.specs.Links.{task, mark}
-use Rattle.model.specs.Calls.{Lent, marksOf, recordOf, worker}
+use Rattle.model.specs.Calls.{Lent, marksOf, tiesOf, recordOf, worker}
 use Rattle.worker.specs.Holding.{idle}
-use Rattle.model.specs.Refusal.{refuse, replied, holds, badLengths, badRecord, badHold, badWorker}
+use Rattle.model.specs.Refusal.{refuse, replied, holds, badLengths, badRecord, badHold, tieLimit, badTies, badWorker}
 use Rattle.laws.proofs.Every.{getD-any}
 use Rattle.laws.proofs.Tests.{never, and-left, and-right, and-intro, false-if, and-true-not}
 use Rattle.run_laws.proofs.Undamaged.{Due, due-of}
@@ -97,6 +98,20 @@ module _ (z : Sizes) (s : Lent) where
       (getD-any (s .records) p (recordOf (T-1 0)) (recordOf (tk p)) (subst (λ (k : ℕ). p < k) (sym (g .records)) h)) x in
       ap not (and-intro _ _ (and-intro _ _ (and-intro _ _ (and-intro _ _ (eq-eqb _ _ (a .kind-is)) (eq-eqb _ _ (a .k-is))) (eq-eqb _ _ (a .i-is)))
       (eq-eqb _ _ (a .j-is))) (le-leb _ _ (a .mark-most)))
+
+  -- ---- tie sums
+
+  pub sum-at : (p : ℕ) → getD (tiesOf s) p 0 ≡ getD (s .records) p (recordOf (T-1 0)) .ties
+  unfolding tiesOf recordOf
+  sum-at p = List·getD-map (λ r. r .ties) (s .records) p (recordOf (T-1 0))
+
+  pub few-ties : (p : ℕ) → badTies (planOf z) s p ≡ false → getD (s .records) p (recordOf (T-1 0)) .ties ≤ tieLimit (planOf z) s p
+  unfolding badTies
+  few-ties p e = omega (arith, sum-at p, ltb-false (tieLimit (planOf z) s p) (getD (tiesOf s) p 0) e)
+
+  pub good-ties : (p : ℕ) → getD (s .records) p (recordOf (T-1 0)) .ties ≤ tieLimit (planOf z) s p → badTies (planOf z) s p ≡ false
+  unfolding badTies
+  good-ties p h = false-if _ (λ e. omega (arith, sum-at p, h, ltb-true (tieLimit (planOf z) s p) (getD (tiesOf s) p 0) e))
 
   -- ---- who holds what
 

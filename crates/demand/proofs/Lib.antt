@@ -1,4 +1,5 @@
 pub mod Single
+pub mod Totals
 pub mod Whole
 pub mod Stores
 pub mod Steps

@@ -17,25 +17,15 @@ use Rattle.model.specs.declared.RunAnswer.the-variants.{Finished}
 use Rattle.model.specs.Task.{Task, T-1, tasks}
 use Rattle.model.specs.Plan.{plan, planOf}
 use Rattle.model.specs.Links.{mark, finished}
-use Rattle.model.specs.Calls.{Lent, RunEnd, marksOf, recordOf, withMark, marked, worker, opened, took, columnOf, advanced, runFrom}
+use Rattle.model.specs.Calls.{Lent, RunEnd, marksOf, recordOf, withMark, withColumn, changed, worker, opened, took, columnOf, advanced, runFrom}
 use Rattle.worker.specs.Holding.{idle, holding}
 use Rattle.cells.proofs.Machine.{count, column-ends}
+use Rattle.demand.proofs.Totals.{total, total-set}
 use Rattle.demand.proofs.Whole.{AtWork, Whole, in-range, mark-at}
 use Rattle.demand.proofs.Steps.{ready-waits}
 use Rattle.demand.proofs.Moves.{Move, takes, works, move-whole}
 use Rattle.demand.proofs.Progress.{next-moves}
 use Rattle.demand.proofs.Turns.{Turns, ends, spends, turns, apart}
-
--- the sum of f over a list
-unfoldable pub total : {A : Type 0} → (A → ℕ) → List A → ℕ
-total f [] = 0
-total f (x ∷ xs) = f x + total f xs
-
-total-set : {A : Type 0} (f : A → ℕ) (xs : List A) (i : ℕ) (v d : A) → i < length xs → total f (set xs i v) + f (getD xs i d) ≡ total f xs + f v
-unfolding total
-total-set f [] i v d h = absurd (omega arith)
-total-set f (x ∷ xs) zero v d h = omega arith
-total-set f (x ∷ xs) (suc i) v d h = omega (arith, total-set f xs i v d (omega arith))
 
 module _ (t : ℕ) where
   abbrev taskLeft : TaskRecord → ℕ
@@ -57,12 +47,10 @@ module _ (z : Sizes) where
     abbrev old : ℕ → TaskRecord
     old p = getD (s .records) p (recordOf (T-1 0))
 
-    records-left : (p v : ℕ) → p < count z
-        → total (taskLeft t) (marked p v (s .records)) + cond (eqb (mark (marksOf s) p) 0) (t + 1) 0 ≡ total (taskLeft t) (s .records) + cond (eqb v 0) (t + 1) 0
-    unfolding marked withMark
-    records-left p v l =
-        let new = withMark v (old p) in
-        subst (λ (k : ℕ). total (taskLeft t) (set (s .records) p new) + cond (eqb k 0) (t + 1) 0 ≡ total (taskLeft t) (s .records) + cond (eqb v 0) (t + 1) 0)
+    records-left : (p : ℕ) (new : TaskRecord) → p < count z
+        → total (taskLeft t) (set (s .records) p new) + cond (eqb (mark (marksOf s) p) 0) (t + 1) 0 ≡ total (taskLeft t) (s .records) + cond (eqb (new .mark) 0) (t + 1) 0
+    records-left p new l =
+        subst (λ (k : ℕ). total (taskLeft t) (set (s .records) p new) + cond (eqb k 0) (t + 1) 0 ≡ total (taskLeft t) (s .records) + cond (eqb (new .mark) 0) (t + 1) 0)
         (sym (mark-at s p)) (total-set (taskLeft t) (s .records) p new (recordOf (T-1 0)) (subst (λ (k : ℕ). p < k) (sym (h .stated .records)) l))
 
     workers-left : (w : ℕ) (x : Worker) → w < z .workers
@@ -71,9 +59,9 @@ module _ (z : Sizes) where
     workers-left w x l = total-set (workerLeft t) (s .workers) w x idle (subst (λ (k : ℕ). w < k) (sym (h .stated .workers)) l)
 
   pub move-lowers : {s s' : Lent} {p : ℕ} → Whole z s → Move z s s' p → left s' < left s
-  unfolding left took advanced
+  unfolding left took advanced changed withMark withColumn
   move-lowers {s} h (takes w p hw hb hp hr) =
-      let a = records-left s h p 1 hp in
+      let a = records-left s h p (withMark 1 (old s h p)) hp in
       let b = workers-left s h w (holding p 0) hw in
       let c : cond (eqb (mark (marksOf s) p) 0) (t + 1) 0 ≡ t + 1 = ap (λ (k : ℕ). cond (eqb k 0) (t + 1) 0) (ready-waits z s p hr) in
       let d : workerLeft t (worker s w) ≡ 0 = ap (λ (x : Bool). cond x (t - worker s w .column) 0) hb in
@@ -85,14 +73,15 @@ module _ (z : Sizes) where
       let m = columnOf (planOf z) s p c .mark in
       let next = cond (finished m) idle (holding p (suc c)) in
       let begun : 1 ≤ m = column-ends z s (h .stated) p c (a .task) .begun in
-      let x = records-left s h p m (a .task) in
+      let n = columnOf (planOf z) s p c .ties in
+      let x = records-left s h p (withColumn m n (old s h p)) (a .task) in
       let y = workers-left s h w next hw in
       let f : cond (eqb (mark (marksOf s) p) 0) (t + 1) 0 ≡ 0 = ap (λ (k : ℕ). cond (eqb k 0) (t + 1) 0) (a .mark) in
       let g : cond (eqb m 0) (t + 1) 0 ≡ 0 = ap (λ (b : Bool). cond b (t + 1) 0) (ne-eqb m 0 (λ e. omega arith)) in
       let k : workerLeft t (worker s w) ≡ t - c = ap (λ (b : Bool). cond b (t - c) 0) hb in
       let l : workerLeft t next ≤ t - suc c = after (finished m) p c in
-      let n : c < t = a .column in
-      omega (arith, x, y, f, g, k, l, n)
+      let q : c < t = a .column in
+      omega (arith, x, y, f, g, k, l, q)
     where
       after : (b : Bool) (p c : ℕ) → workerLeft t (cond b idle (holding p (suc c))) ≤ t - suc c
       after true p c = omega arith

@@ -2,7 +2,7 @@
 -- Assumes nothing.
 use Prim.Native.Nat.{ℕ, _+_, _≤_, _<_}
 use mathlib.Core.Bool.{Bool, true, false, not, cond, _&&_}
-use mathlib.Core.Path.{_≡_, refl, sym, ap, _∙_}
+use mathlib.Core.Path.{_≡_, refl, sym, ap, _∙_, subst}
 use mathlib.Core.List.{List, [], _∷_, _++_}
 use native.Mathlib.Omega.{arith}
 use lib.Dec.{eqb, ltb}
@@ -21,8 +21,13 @@ use Rattle.cells.specs.Cells.{Val}
 use Rattle.cells.proofs.Valid.{tasks-valid}
 use Rattle.cells.proofs.Marks.{toMark}
 use Rattle.cells.proofs.Links.{ready-is}
-use Rattle.cells.proofs.Machine.{S, count, workerOf, busy-of, abs, took-is, advanced-is}
-use Rattle.demand.proofs.Whole.{Whole}
+use Rattle.cells.proofs.Machine.{S, count, workerOf, busy-of, abs, sumsFn, tieGain, took-is, took-sums, advanced-is, advanced-sums}
+use Rattle.order_free.specs.Sums.{summed}
+use Rattle.order_free.proofs.Sums.{Sums, summed-sums}
+use Rattle.order_free.proofs.Invariant.{Inv}
+use Rattle.order_free.proofs.Calls.{always}
+use Rattle.cells.proofs.Instance.{system-laws, ties-laws}
+use Rattle.demand.proofs.Whole.{Whole, in-range}
 use Rattle.demand.proofs.Moves.{Move, takes, works, move-whole}
 
 idle-of : (h : MW.Worker) → h .busy ≡ false → is-idle (workerOf h) ≡ true
@@ -34,10 +39,12 @@ module _ (z : Sizes) (σ : ℕ → Val) (q : ℕ) where
     pub whole : Whole z s
     pub calls : List Call
     pub is : abs z s ≡ after (S z) (z .workers) calls (start (S z) σ)
+    -- the tie sums are those that the machine carries
+    pub sums : Sums (S z) (tieGain z) (z .workers) σ (abs z s) (sumsFn z s)
     pub made : n ≤ spent (S z) (z .workers) q calls (start (S z) σ)
 
   pub as-many : (n k : ℕ) (s : Lent) → n ≡ k → Reach n s → Reach k s
-  as-many n k s h r = record { whole = r .whole; calls = r .calls; is = r .is; made = omega (arith, r .made) }
+  as-many n k s h r = record { whole = r .whole; calls = r .calls; is = r .is; sums = r .sums; made = omega (arith, r .made) }
 
   -- ---- one more call
 
@@ -57,10 +64,12 @@ module _ (z : Sizes) (σ : ℕ → Val) (q : ℕ) where
   spent-last (x ∷ xs) c s = omega (arith, spent-last xs c (step (S z) (z .workers) x s))
 
   grows : (n : ℕ) (s s' : Lent) → Reach n s → (c : Call) → accepts (S z) (z .workers) c (abs z s) ≡ true → Whole z s' → abs z s' ≡ effect (S z) c (abs z s)
+      → sumsFn z s' ≡ summed (S z) (tieGain z) c (abs z s) (sumsFn z s)
       → Reach (n + cond (about (S z) c (abs z s) q) 1 0) s'
   unfolding step
-  grows n s s' r c a h e =
+  grows n s s' r c a h e f =
       let end = after (S z) (z .workers) (r .calls) (start (S z) σ) in
+      let laws = system-laws (z .tiles) (z .side) (tasks (z .tiles)) (tasks-valid (z .tiles)) (in-range z (r .whole .fit) .some-side) in
       let x : counted c end ≡ cond (about (S z) c (abs z s) q) 1 0 =
       ap (counted c) (sym (r .is)) ∙ ap (λ (b : Bool). cond (b && about (S z) c (abs z s) q) 1 0) a in
       record {
@@ -68,6 +77,12 @@ module _ (z : Sizes) (σ : ℕ → Val) (q : ℕ) where
         calls = r .calls ++ (c ∷ []);
         is = e ∙ ap (λ (b : Bool). cond b (effect (S z) c (abs z s)) (abs z s)) (sym a) ∙ ap (step (S z) (z .workers) c) (r .is) ∙ sym
             (after-last (r .calls) c (start (S z) σ));
+        sums =
+            let I : Inv (S z) (z .workers) σ (abs z s) = subst (Inv (S z) (z .workers) σ) (sym (r .is)) (always (S z) (z .workers) σ laws (r .calls)) in
+            let g : step (S z) (z .workers) c (abs z s) ≡ abs z s' = unfold step in (ap (λ (b : Bool). cond b (effect (S z) c (abs z s)) (abs z s)) a ∙ sym e) in
+            let y = summed-sums (S z) (tieGain z) (z .workers) σ laws (ties-laws (z .tiles) (z .side) (tasks (z .tiles))) (abs z s) I (sumsFn z s) (r .sums) c a in
+            subst (λ (u : ℕ → ℕ). Sums (S z) (tieGain z) (z .workers) σ (abs z s') u) (sym f)
+            (subst (λ (k : State (S z)). Sums (S z) (tieGain z) (z .workers) σ k (summed (S z) (tieGain z) c (abs z s) (sumsFn z s))) g y);
         made = omega (arith, x, spent-last (r .calls) c (start (S z) σ), r .made);
       }
 
@@ -92,8 +107,8 @@ module _ (z : Sizes) (σ : ℕ → Val) (q : ℕ) where
   unfolding about abs
   move-reach {n = n} {s = s} r (takes w p hw hb hp hr) =
       grows n s (took (planOf z) w p s) r (take w p) (may-take s w p hw hb hp hr) (move-whole (r .whole) (takes w p hw hb hp hr))
-      (took-is z s (r .whole .stated) w p hw hp)
+      (took-is z s (r .whole .stated) w p hw hp) (unfold abs in took-sums z s (r .whole .stated) w p hp)
   move-reach {n = n} {s = s} r (works w hw hb) =
       as-many _ _ _ (ap (λ (y : Worker). n + cond (works-on y q) 1 0) (busy-of (worker s w) hb))
       (grows n s (advanced (planOf z) w s) r (column w) (may-column s w hw hb) (move-whole (r .whole) (works w hw hb))
-      (advanced-is z s (r .whole .stated) w (r .whole .held w hw hb .task) hw hb))
+      (advanced-is z s (r .whole .stated) w (r .whole .held w hw hb .task) hw hb) (unfold abs in advanced-sums z s (r .whole .stated) w (r .whole .held w hw hb .task) hb))

@@ -1,8 +1,9 @@
 -- A take and a column keep what a run asks of what is lent.
 -- Assumes nothing.
-use Prim.Native.Nat.{ℕ, suc, _<_}
+use Prim.Native.Nat.{ℕ, suc, _+_, _*_, _≤_, _<_}
 use mathlib.Core.Bool.{Bool, true, false, cond, _&&_}
 use mathlib.Core.Path.{_≡_, refl, sym, ap, _∙_, subst}
+use native.Mathlib.Nat.{mul-suc, mul-le-mul-left}
 use native.Mathlib.Omega.{arith}
 use lib.Dec.{eqb}
 use lib.ListN.{length}
@@ -12,24 +13,27 @@ use Rattle.model.specs.Task.{tasks}
 use Rattle.model.specs.Plan.{plan, planOf}
 use Rattle.model.specs.Links.{task, mark, finished, ready}
 use Rattle.model.specs.Links as ML
-use Rattle.model.specs.Buffer.{Buffers, Ended, sound, columnEnds}
-use Rattle.model.specs.Calls.{Lent, marksOf, worker, took, columnOf, advanced}
+use Rattle.model.specs.Buffer.{Buffers, Ended, worked, filled, columnTies, sound, columnEnds}
+use Rattle.model.specs.Calls.{Lent, marksOf, withMark, withColumn, changed, worker, took, columnOf, advanced}
 use Rattle.worker.specs.Holding.{idle, holding}
-use Rattle.model.specs.Refusal.{holds}
+use Rattle.model.specs.Refusal.{holds, nextColumn, tieLimit}
 use Rattle.order_free.specs.Graph.{Mark, spoils}
 use Rattle.order_free.specs.Graph as G
 use Rattle.order_free.specs.Loops.{TaskEnd}
 use Rattle.order_free.specs.Machine.{perform}
 use Rattle.laws.proofs.Tests.{never, and-left}
 use Rattle.cells.specs.Cells.{Val, view}
-use Rattle.demand.proofs.Single.{Single}
+use Rattle.run_laws.proofs.Undamaged.{next-of}
+use Rattle.run_laws.proofs.Ties.{ties-most}
+use Rattle.demand.proofs.Single.{Single, single-kept}
+use Rattle.demand.proofs.Totals.{limitFor}
 use Rattle.cells.proofs.Choices.{either}
 use Rattle.cells.proofs.Valid.{Valid, tasks-valid, task-valid}
 use Rattle.cells.proofs.View.{Sized, tile-cell, length-tile}
 use Rattle.cells.proofs.Kept.{Tiles, Rows, Long, worked-rows, worked-tiles}
 use Rattle.cells.proofs.Fills.{filled-rows, spoiled-tiles, failed-tiles}
 use Rattle.cells.proofs.Marks.{toMark}
-use Rattle.cells.proofs.Machine.{S, count, took-stated, advanced-stated, column-ends}
+use Rattle.cells.proofs.Machine.{S, count, recordAt, took-stated, advanced-stated, column-ends}
 use Rattle.demand.proofs.Whole.{AtWork, Whole, in-range}
 use Rattle.demand.proofs.Stores.{holds-busy, holds-task, busy-holds, Suits, rests, works, stored-whole}
 
@@ -42,16 +46,19 @@ module _ (z : Sizes) where
 
   pub took-whole : (s : Lent) → Whole z s → (w p : ℕ) → w < z .workers → worker s w .busy ≡ false → p < count z
       → ready (tasks (z .tiles)) (marksOf s) p ≡ true → Whole z (took (planOf z) w p s)
-  unfolding took
+  unfolding took changed withMark limitFor
   took-whole s h w p hw hb hp hr =
-      stored-whole z s h (s .buffers) p 1 w (holding p 0) hp hw
+      stored-whole z s h (s .buffers) p (withMark 1 (recordAt z s p)) w (holding p 0) hp hw
       (works refl refl refl (in-range z (h .fit) .some-side))
       (λ j d l e. let m = h .held j l (holds-busy p (worker s j) e) .mark in
       let k : mark (marksOf s) p ≡ 1 = ap (mark (marksOf s)) (sym (holds-task p (worker s j) e)) ∙ m in
       let f : mark (marksOf s) p ≡ 0 = ready-waits s p hr in
       omega arith)
       (λ q e. never (holds-busy q (worker s w) e) hb)
-      (omega arith) (unfold took in took-stated z s (h .stated) w p) (h .rows) (h .tiles)
+      (let r = h .records p hp in unfold withMark in record { kind-is = r .kind-is; k-is = r .k-is; i-is = r .i-is; j-is = r .j-is; mark-most = omega arith })
+      (let l : tieLimit (planOf z) s p ≡ 0 = unfold tieLimit plan in ap (λ (m : ℕ). limitFor (z .side) m (nextColumn s p)) (ready-waits s p hr) in
+      unfold withMark in omega (arith, h .sums p hp, l))
+      (unfold took changed in took-stated z s (h .stated) w p) (h .rows) (h .tiles)
 
   -- ---- column
 
@@ -67,6 +74,54 @@ module _ (z : Sizes) where
       last : (b : Bool) → eqb (suc c) (z .side) ≡ b → Suits z p (cond b 2 1) (cond (finished (cond b 2 1)) idle (holding p (suc c)))
       last true e = rests refl (λ f. omega arith)
       last false e = let d = eqb-false (suc c) (z .side) e in works refl refl refl (omega arith)
+
+  -- k ties before column c are within the limit, and so are those after it
+  column-fits : (s : Lent) (p c k : ℕ) → c < z .side → k ≤ z .side * c
+      → k + columnOf (planOf z) s p c .ties
+      ≤ limitFor (z .side) (columnOf (planOf z) s p c .mark) (cond (finished (columnOf (planOf z) s p c .mark)) idle (holding p (suc c)) .column)
+  unfolding columnOf columnEnds plan finished limitFor
+  column-fits s p c k hc hk = go (eqb c 0 && ML.spoils (tasks (z .tiles)) (marksOf s) p) refl
+    where
+      t : ℕ
+      t = z .side
+
+      fine : Ended → Type 0
+      fine e = k + e .ties ≤ limitFor t (e .mark) (cond (finished (e .mark)) idle (holding p (suc c)) .column)
+
+      good : Ended
+      good = record {
+        left = worked (planOf z) (task (tasks (z .tiles)) p) c (s .buffers);
+        mark = cond (eqb (suc c) t) 2 1;
+        ties = columnTies (planOf z) (task (tasks (z .tiles)) p) c (s .buffers);
+      }
+
+      bad : Ended
+      bad = record { left = filled (planOf z) (task (tasks (z .tiles)) p) (worked (planOf z) (task (tasks (z .tiles)) p) c (s .buffers)); mark = 3; ties = 0 }
+
+      spoilt : Ended
+      spoilt = record { left = filled (planOf z) (task (tasks (z .tiles)) p) (s .buffers); mark = 4; ties = 0 }
+
+      most : columnTies (planOf z) (task (tasks (z .tiles)) p) c (s .buffers) ≤ t
+      most = ties-most (planOf z) (task (tasks (z .tiles)) p) c (s .buffers)
+
+      up : t * c + t ≡ t * suc c
+      up = omega (arith, mul-suc t c)
+
+      fits : (b : Bool) → eqb (suc c) t ≡ b → k + columnTies (planOf z) (task (tasks (z .tiles)) p) c (s .buffers)
+          ≤ limitFor t (cond b 2 1) (cond (finished (cond b 2 1)) idle (holding p (suc c)) .column)
+      fits true e = let f : t * suc c ≡ t * t = ap (λ (i : ℕ). t * i) (eqb-true (suc c) t e) in omega (arith, most, up, f)
+      fits false e = omega (arith, most, up)
+
+      go : (b : Bool) → (eqb c 0 && ML.spoils (tasks (z .tiles)) (marksOf s) p) ≡ b
+          → fine (elim b as (λ q. Ended) [
+            | true ↦ spoilt
+            | false ↦ elim (sound (planOf z) (task (tasks (z .tiles)) p) c (s .buffers)) as (λ q. Ended) [ true ↦ good | false ↦ bad ]
+          ])
+      go true e =
+          let f : t * c ≡ t * 0 = ap (λ (i : ℕ). t * i) (eqb-true c 0 (and-left (eqb c 0) _ e)) in
+          omega (arith, f)
+      go false e = either fine (sound (planOf z) (task (tasks (z .tiles)) p) c (s .buffers)) good bad (fits (eqb (suc c) t) refl)
+          (let l : c ≤ t = omega arith in let m : t * c ≤ t * t = mul-le-mul-left t l in omega (arith, m))
 
   long : (b : Buffers) → Sized (z .tiles) (z .side) b → Long (z .tiles) (z .side) (view (z .tiles) (z .side) b)
   long b d i j hi hj = ap length (tile-cell (z .tiles) (z .side) b i j hi hj) ∙ length-tile (z .tiles) (z .side) b d i j hi hj
@@ -105,8 +160,13 @@ module _ (z : Sizes) where
             (worked-rows N t (task (tasks N) p) v c hc σ r),
       )
 
+  -- the limit of a held task's sum
+  limit-before : (s : Lent) (p c : ℕ) → mark (marksOf s) p ≡ 1 → nextColumn s p ≡ c → tieLimit (planOf z) s p ≡ z .side * c
+  unfolding tieLimit plan limitFor
+  limit-before s p c m e = (λ i. limitFor (z .side) (m i) (nextColumn s p)) ∙ ap (λ (i : ℕ). z .side * i) e
+
   pub advanced-whole : (s : Lent) → Whole z s → (w : ℕ) → w < z .workers → worker s w .busy ≡ true → Whole z (advanced (planOf z) w s)
-  unfolding advanced
+  unfolding advanced changed withColumn
   advanced-whole s h w hw hb =
       let N = z .tiles in
       let t = z .side in
@@ -117,11 +177,18 @@ module _ (z : Sizes) where
       let x = performed-kept p c (a .task) (a .column) (λ q. toMark (mark (marksOf s) q)) (view N t (s .buffers)) (h .tiles) (h .rows)
       (long (s .buffers) (h .stated .sized)) in
       let one : Single (holds p) idle (s .workers) = h .holder p (a .task) (a .mark) in
+      let here : w < length (s .workers) = subst (λ (k : ℕ). w < k) (sym (h .stated .workers)) hw in
       let mine : w ≡ one .place = unfold worker in
       (one .alone w (subst (λ (k : ℕ). w < k) (sym (h .stated .workers)) hw) (busy-holds p (worker s w) hb refl)) in
-      stored-whole z s h (columnOf (planOf z) s p c .left) p (columnOf (planOf z) s p c .mark) w _ (a .task) hw
-      (column-suits s p c (a .column))
+      let e = columnOf (planOf z) s p c in
+      let r = h .records p (a .task) in
+      let before : tieLimit (planOf z) s p ≡ z .side * c =
+      limit-before s p c (a .mark) (next-of s p w here (busy-holds p (worker s w) hb refl) (single-kept (holds p) idle (s .workers) one)) in
+      stored-whole z s h (e .left) p (withColumn (e .mark) (e .ties) (recordAt z s p)) w _ (a .task) hw
+      (unfold withColumn in column-suits s p c (a .column))
       (λ j d l e. d (one .alone j (subst (λ (k : ℕ). j < k) (sym (h .stated .workers)) l) (unfold worker in e) ∙ sym mine))
       (λ q e. sym (holds-task q (worker s w) e))
-      (en .most) (unfold advanced in advanced-stated z s (h .stated) w (a .task))
+      (unfold withColumn in record { kind-is = r .kind-is; k-is = r .k-is; i-is = r .i-is; j-is = r .j-is; mark-most = en .most })
+      (unfold withColumn in column-fits s p c (recordAt z s p .ties) (a .column) (subst (λ (k : ℕ). recordAt z s p .ties ≤ k) before (h .sums p (a .task))))
+      (unfold advanced changed in advanced-stated z s (h .stated) w (a .task))
       (subst (Rows N t) (sym (en .left .1)) (x .1)) (subst (Tiles N t) (sym (en .left .1)) (x .0))

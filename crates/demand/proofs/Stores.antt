@@ -15,15 +15,18 @@ use Rattle.worker.specs.declared.Worker.{Worker}
 use Rattle.model.specs.Task.{T-1, tasks}
 use Rattle.model.specs.Links.{task, mark}
 use Rattle.model.specs.Buffer.{Buffers}
-use Rattle.model.specs.Calls.{Lent, marksOf, recordOf, withMark, marked, worker}
+use Rattle.model.specs.Plan.{plan, planOf}
+use Rattle.model.specs.Calls.{Lent, marksOf, recordOf, worker}
 use Rattle.worker.specs.Holding.{idle}
-use Rattle.model.specs.Refusal.{holds}
-use Rattle.laws.proofs.Tests.{never, and-left, and-right, and-intro, same-or-not}
+use Rattle.model.specs.Refusal.{holds, nextColumn, tieLimit}
+use Rattle.laws.proofs.Tests.{never, and-left, and-right, and-intro, same-or-not, false-if}
 use Rattle.cells.specs.Cells.{view}
-use Rattle.demand.proofs.Single.{Single}
+use Rattle.demand.proofs.Single.{Single, single-kept}
+use Rattle.demand.proofs.Totals.{total-set, columnIn, next-total, not-in, limitFor, limit-other}
+use native.Mathlib.Omega.{arith}
 use Rattle.cells.proofs.Kept.{Tiles, Rows}
 use Rattle.cells.proofs.Machine.{count, Stated}
-use Rattle.run_laws.proofs.Undamaged.{Due}
+use Rattle.run_laws.proofs.Undamaged.{Due, next-of}
 use Rattle.demand.proofs.Whole.{AtWork, Whole, mark-at}
 
 pub holds-busy : (p : ℕ) (h : Worker) → holds p h ≡ true → h .busy ≡ true
@@ -43,26 +46,26 @@ pub data Suits (z : Sizes) (p v : ℕ) (x : Worker) : Type 0 where
   rests : x .busy ≡ false → (v ≡ 1 → ⊥) → Suits z p v x
   works : x .busy ≡ true → x .task ≡ p → v ≡ 1 → x .column < z .side → Suits z p v x
 
-module _ (z : Sizes) (s : Lent) (h : Whole z s) (b : Buffers) (p v w : ℕ) (x : Worker) (hp : p < count z) (hw : w < z .workers) where
-  -- what is lent, with that mark, that worker, and the buffers b
+module _ (z : Sizes) (s : Lent) (h : Whole z s) (b : Buffers) (p : ℕ) (new : TaskRecord) (w : ℕ) (x : Worker) (hp : p < count z) (hw : w < z .workers) where
+  -- what is lent, with that record, that worker, and the buffers b
   abbrev pub stored : Lent
-  stored = record { buffers = b; records = marked p v (s .records); workers = L.set (s .workers) w x }
+  stored = record { buffers = b; records = L.set (s .records) p new; workers = L.set (s .workers) w x }
+
+  abbrev v : ℕ
+  v = new .mark
 
   -- ---- what is read afterwards
 
   abbrev none : TaskRecord
   none = recordOf (T-1 0)
 
-  record-here : getD (marked p v (s .records)) p none ≡ withMark v (getD (s .records) p none)
-  unfolding marked
+  record-here : getD (L.set (s .records) p new) p none ≡ new
   record-here = getD-set-same (s .records) p _ none (subst (λ (k : ℕ). p < k) (sym (h .stated .records)) hp)
 
-  record-there : (q : ℕ) → (q ≡ p → ⊥) → getD (marked p v (s .records)) q none ≡ getD (s .records) q none
-  unfolding marked
+  record-there : (q : ℕ) → (q ≡ p → ⊥) → getD (L.set (s .records) p new) q none ≡ getD (s .records) q none
   record-there q d = getD-set-other (s .records) p q _ none d
 
   pub mark-here : mark (marksOf stored) p ≡ v
-  unfolding withMark
   mark-here = mark-at stored p ∙ ap (λ (r : TaskRecord). r .mark) record-here
 
   pub mark-there : (q : ℕ) → (q ≡ p → ⊥) → mark (marksOf stored) q ≡ mark (marksOf s) q
@@ -76,16 +79,14 @@ module _ (z : Sizes) (s : Lent) (h : Whole z s) (b : Buffers) (p v w : ℕ) (x :
   unfolding worker
   worker-there u d = getD-set-other (s .workers) w u x idle d
 
-  records-kept : v ≤ 4 → (q : ℕ) → q < count z → Due (task (tasks (z .tiles)) q) (getD (marked p v (s .records)) q none)
-  unfolding withMark
-  records-kept hv q hq = go (same-or-not q p)
+  records-kept : Due (task (tasks (z .tiles)) p) new → (q : ℕ) → q < count z → Due (task (tasks (z .tiles)) q) (getD (L.set (s .records) p new) q none)
+  records-kept d q hq = go (same-or-not q p)
     where
-      go : (q ≡ p) ⊎ (q ≢ p) → Due (task (tasks (z .tiles)) q) (getD (marked p v (s .records)) q none)
+      go : (q ≡ p) ⊎ (q ≢ p) → Due (task (tasks (z .tiles)) q) (getD (L.set (s .records) p new) q none)
       go (inl e) =
-          let r = h .records p hp in
-          subst (λ (k : ℕ). Due (task (tasks (z .tiles)) k) (getD (marked p v (s .records)) k none)) (sym e)
-          (subst (Due (task (tasks (z .tiles)) p)) (sym record-here) (record { kind-is = r .kind-is; k-is = r .k-is; i-is = r .i-is; j-is = r .j-is; mark-most = hv }))
-      go (inr d) = subst (Due (task (tasks (z .tiles)) q)) (sym (record-there q d)) (h .records q hq)
+          subst (λ (k : ℕ). Due (task (tasks (z .tiles)) k) (getD (L.set (s .records) p new) k none)) (sym e)
+          (subst (Due (task (tasks (z .tiles)) p)) (sym record-here) d)
+      go (inr n) = subst (Due (task (tasks (z .tiles)) q)) (sym (record-there q n)) (h .records q hq)
 
   -- ---- who holds what, where no other worker held p, and w no other task
 
@@ -174,6 +175,58 @@ module _ (z : Sizes) (s : Lent) (h : Whole z s) (b : Buffers) (p v w : ℕ) (x :
         go (inl d) = subst (AtWork z stored) (sym d) (here y (ap (λ (k : Worker). k .busy) (sym worker-here ∙ ap (worker stored) (sym d)) ∙ e))
         go (inr d) = let f : worker s u .busy ≡ true = ap (λ (k : Worker). k .busy) (sym (worker-there u d)) ∙ e in there d (h .held u hu f) f
 
-    pub stored-whole : v ≤ 4 → Stated z stored → Rows (z .tiles) (z .side) (view (z .tiles) (z .side) b)
-        → Tiles (z .tiles) (z .side) (view (z .tiles) (z .side) b) → Whole z stored
-    stored-whole hv g r f = record { fit = h .fit; stated = g; records = records-kept hv; holder = holder-kept; held = held-kept; rows = r; tiles = f }
+    -- ---- the tie sums
+
+    -- the worker that holds p holds its next column
+    next-here : v ≡ 1 → nextColumn stored p ≡ x .column
+    next-here e =
+        next-of stored p w (above hw) (held-new y) (single-kept (holds p) idle (stored .workers) (holder-kept p hp (mark-here ∙ e)))
+        ∙ ap (λ (a : Worker). a .column) worker-here
+      where
+        held-new : Suits z p v x → holds p (worker stored w) ≡ true
+        held-new (rests n m) = absurd (m e)
+        held-new (works n m k c) = subst (λ (a : Worker). holds p a ≡ true) (sym worker-here) (busy-holds p x n m)
+
+    next-there : (q : ℕ) → (q ≡ p → ⊥) → nextColumn stored q ≡ nextColumn s q
+    unfolding nextColumn worker
+    next-there q d =
+        let a = total-set (columnIn q) (s .workers) w x idle (old-below hw) in
+        let f : columnIn q (getD (s .workers) w idle) ≡ 0 = not-in q (getD (s .workers) w idle) (false-if _ (λ e. d (own q e))) in
+        let g : columnIn q x ≡ 0 = not-in q x (false-if _ (λ e. d (mine y e))) in
+        omega (arith, a, f, g, next-total q (s .workers), next-total q (L.set (s .workers) w x))
+      where
+        mine : Suits z p v x → holds q x ≡ true → q ≡ p
+        mine (rests n m) f = never (holds-busy q x f) n
+        mine (works n m k c) f = sym (holds-task q x f) ∙ m
+
+    sums-kept : new .ties ≤ limitFor (z .side) v (x .column) → (q : ℕ) → q < count z
+        → getD (L.set (s .records) p new) q none .ties ≤ tieLimit (planOf z) stored q
+    unfolding tieLimit plan limitFor
+    sums-kept l q hq = go (same-or-not q p)
+      where
+        here : (v ≡ 1) ⊎ (v ≢ 1) → limitFor (z .side) v (x .column) ≡ tieLimit (planOf z) stored p
+        here (inl e) = λ i. limitFor (z .side) (sym mark-here i) (sym (next-here e) i)
+        here (inr n) = limit-other (z .side) v (x .column) (nextColumn stored p) n ∙ (λ i. limitFor (z .side) (sym mark-here i) (nextColumn stored p))
+
+        there : (q ≢ p) → tieLimit (planOf z) s q ≡ tieLimit (planOf z) stored q
+        there d = λ i. limitFor (z .side) (sym (mark-there q d) i) (sym (next-there q d) i)
+
+        go : (q ≡ p) ⊎ (q ≢ p) → getD (L.set (s .records) p new) q none .ties ≤ tieLimit (planOf z) stored q
+        go (inl e) = subst (λ (k : ℕ). getD (L.set (s .records) p new) k none .ties ≤ tieLimit (planOf z) stored k) (sym e)
+            (subst (λ (r : TaskRecord). r .ties ≤ tieLimit (planOf z) stored p) (sym record-here)
+            (subst (λ (k : ℕ). new .ties ≤ k) (here (same-or-not v 1)) l))
+        go (inr d) = subst (λ (r : TaskRecord). r .ties ≤ tieLimit (planOf z) stored q) (sym (record-there q d))
+            (subst (λ (k : ℕ). getD (s .records) q none .ties ≤ k) (there d) (h .sums q hq))
+
+    pub stored-whole : Due (task (tasks (z .tiles)) p) new → new .ties ≤ limitFor (z .side) v (x .column) → Stated z stored
+        → Rows (z .tiles) (z .side) (view (z .tiles) (z .side) b) → Tiles (z .tiles) (z .side) (view (z .tiles) (z .side) b) → Whole z stored
+    stored-whole d l g r f = record {
+      fit = h .fit;
+      stated = g;
+      records = records-kept d;
+      sums = sums-kept l;
+      holder = holder-kept;
+      held = held-kept;
+      rows = r;
+      tiles = f;
+    }

@@ -2,11 +2,11 @@
 -- Assumes nothing.
 use Prim.Native.Nat.{ℕ, _+_, _*_, _≤_, _<_}
 use mathlib.Core.Bool.{true, false}
-use mathlib.Core.Path.{_≡_, sym, ap, _∙_, subst}
+use mathlib.Core.Path.{_≡_, refl, sym, ap, _∙_, subst, fun-ext}
 use mathlib.Core.List.{List, []}
 use native.Mathlib.Omega.{arith}
 use lib.Ieee.{Float}
-use lib.ListN.{length}
+use lib.ListN.{length, length-map}
 use lib.Seq.{ext-getD}
 use Rattle.model.specs.declared.Sizes.{Sizes}
 use Rattle.model.specs.declared.Answer.the-variants.{Accepted}
@@ -16,7 +16,7 @@ use Rattle.model.specs.Links.{mark}
 use Rattle.model.specs.Links as ML
 use Rattle.model.specs.Loops.{outcome}
 use Rattle.model.specs.Loops as M
-use Rattle.model.specs.Calls.{Lent, marksOf, stateOf, allFinished}
+use Rattle.model.specs.Calls.{Lent, marksOf, tiesOf, stateOf, allFinished, opened}
 use Rattle.model.specs.Refusal.{openCall}
 use Rattle.model.specs.History.{Call, spentOn}
 use Rattle.demand.specs.Demand.{SomeCall, a-take, a-column, Demand3, end}
@@ -26,19 +26,34 @@ use Rattle.order_free.specs.Machine.{after}
 use Rattle.order_free.specs.Theorem as T
 use Rattle.order_free.proofs.OrderFree.{order-free}
 use Rattle.cells.specs.Cells.{Val, view}
+use Rattle.order_free.specs.Sums.{loopGain}
+use Rattle.order_free.proofs.Sums.{Sums, start-sums}
 use Rattle.laws.proofs.Every.{every-at}
 use Rattle.cells.proofs.Instance.{system-laws}
 use Rattle.cells.proofs.Valid.{tasks-valid}
 use Rattle.cells.proofs.View.{same-buffers}
 use Rattle.cells.proofs.Marks.{toMark, finished-is, finished-most, mark-same}
-use Rattle.cells.proofs.Loops.{Matches, σ₀, loops-match}
-use Rattle.cells.proofs.Machine.{S, count, abs, length-marks, opened-is}
-use Rattle.demand.proofs.Whole.{Whole, in-range}
+use Rattle.cells.proofs.Loops.{Matches, σ₀, loops-match, Summed, loops-sums}
+use Rattle.cells.proofs.Machine.{S, count, abs, sumsFn, tieGain, length-marks, opened-is}
+use Rattle.demand.proofs.Whole.{Whole, in-range, opened-ties}
+use Rattle.demand.proofs.Checks.{sum-at}
 use Rattle.demand.proofs.Answers.{run-accepted, take-accepted, column-accepted}
 use Rattle.demand.proofs.Progress.{Goes, can-work, can-take, goes}
 use Rattle.demand.proofs.Reach.{Reach, move-reach}
 use Rattle.demand.proofs.Opening.{Opened, opened-by, left-whole}
 use Rattle.demand.proofs.Calls.{calls-keep}
+
+-- ---- the opening's tie sums
+
+pub opened-sums : (z : Sizes) (m : List Float) (hm : length m ≡ z .tiles * z .tiles * (z .side * z .side))
+    → Sums (S z) (tieGain z) (z .workers) (σ₀ (z .tiles) (z .side) m) (abs z (opened (planOf z) (z .workers) m))
+    (sumsFn z (opened (planOf z) (z .workers) m))
+unfolding opened plan
+opened-sums z m hm =
+    subst (λ (u : ℕ → ℕ). Sums (S z) (tieGain z) (z .workers) (σ₀ (z .tiles) (z .side) m) (abs z (opened (planOf z) (z .workers) m)) u)
+    (sym (fun-ext (λ p. opened-ties (tasks (z .tiles)) p)))
+    (subst (λ k. Sums (S z) (tieGain z) (z .workers) (σ₀ (z .tiles) (z .side) m) k (λ p. 0)) (sym (opened-is z m hm))
+    (start-sums (S z) (tieGain z) (z .workers) (σ₀ (z .tiles) (z .side) m)))
 
 -- ---- the end
 
@@ -56,6 +71,7 @@ module _ (z : Sizes) (m : List Float) (hm : length m ≡ z .tiles * z .tiles * (
     buffers = same-buffers N t (s .buffers) (M.loops (planOf z) m .buffers) (r .whole .stated .sized)
         (match .cells .0) same-view i;
     marks = same-list i;
+    ties = same-sums i;
   }
     where
       match : Matches N t (tasks N) (M.loops (planOf z) m) (loops (S z) (count z) (σ₀ N t m))
@@ -87,6 +103,21 @@ module _ (z : Sizes) (m : List Float) (hm : length m ≡ z .tiles * z .tiles * (
           let f : ML.finished y ≡ true = sym (finished-is y) ∙ ap finished (sym (same-mark p h)) ∙ finished-is x ∙ done p h in
           mark-same x y (finished-most x (done p h)) (finished-most y f) (same-mark p h))
 
+      summed : Summed N t (tasks N) (tasks-valid N) m hm (count z) (M.loops (planOf z) m)
+      summed = unfold plan in (loops-sums N t (tasks N) (tasks-valid N) m hm)
+
+      -- a finished task has the loops' tie sum
+      sum-same : (p : ℕ) → p < count z → sumsFn z s p ≡ loopGain (S z) (tieGain z) (σ₀ N t m) p
+      sum-same p h = r .sums .ends p h refl (unfold abs in (finished-is (mark (marksOf s) p) ∙ done p h))
+
+      long-sums : length (tiesOf s) ≡ count z
+      long-sums = unfold tiesOf in (length-map (s .records) (λ r. r .ties) ∙ r .whole .stated .records)
+
+      same-sums : tiesOf s ≡ M.loops (planOf z) m .ties
+      same-sums = ext-getD 0 (tiesOf s) (M.loops (planOf z) m .ties) (long-sums ∙ sym (summed .long)) (λ p l.
+          let h : p < count z = subst (λ (k : ℕ). p < k) long-sums l in
+          sum-at z s p ∙ sum-same p h ∙ sym (summed .sums p h))
+
 -- ---- the demand
 
 module _ (z : Sizes) (s : Lent) (cs : List Call) (e : openCall z s .answer ≡ Accepted) where
@@ -104,8 +135,13 @@ module _ (z : Sizes) (s : Lent) (cs : List Call) (e : openCall z s .answer ≡ A
         whole = left-whole z s o;
         calls = [];
         is = ap (abs z) (o .left) ∙ opened-is z (s .buffers .matrix) (o .long);
+        sums = start-reached;
         made = omega arith;
       })
+    where
+      start-reached : Sums (S z) (tieGain z) (z .workers) cells (abs z (openCall z s .left)) (sumsFn z (openCall z s .left))
+      start-reached = subst (λ (l : Lent). Sums (S z) (tieGain z) (z .workers) cells (abs z l) (sumsFn z l)) (sym (o .left))
+          (unfold cells in (opened-sums z (s .buffers .matrix) (o .long)))
 
   some-call : allFinished (planOf z) (end z s cs) ≡ false → SomeCall z (end z s cs)
   some-call f = go (reached 0 .whole) (goes z (end z s cs) (reached 0 .whole) f)

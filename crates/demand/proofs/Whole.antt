@@ -21,7 +21,7 @@ use Rattle.model.specs.Buffer.{Buffers, tileOf, tile, rowsOf, rows}
 use Rattle.model.specs.Loops.{start}
 use Rattle.model.specs.Calls.{Lent, marksOf, recordOf, worker, opened}
 use Rattle.worker.specs.Holding.{idle}
-use Rattle.model.specs.Refusal.{inside, badSizes, holds}
+use Rattle.model.specs.Refusal.{inside, badSizes, holds, tieLimit}
 use Rattle.laws.proofs.Tests.{never, and-left, and-right}
 use Rattle.run_laws.proofs.Undamaged.{Due}
 use Rattle.cells.specs.Cells.{view, listAt}
@@ -43,6 +43,8 @@ pub record Whole (z : Sizes) (s : Lent) : Type 0 where
   pub fit : badSizes z ≡ false
   pub stated : Stated z s
   pub records : (p : ℕ) → p < count z → Due (task (tasks (z .tiles)) p) (getD (s .records) p (recordOf (T-1 0)))
+  -- a tie sum is within its limit
+  pub sums : (p : ℕ) → p < count z → getD (s .records) p (recordOf (T-1 0)) .ties ≤ tieLimit (planOf z) s p
   -- a taken task is held by one worker, and a busy worker is at work
   pub holder : (p : ℕ) → p < count z → mark (marksOf s) p ≡ 1 → Single (holds p) idle (s .workers)
   pub held : (w : ℕ) → w < z .workers → worker s w .busy ≡ true → AtWork z s w
@@ -87,6 +89,12 @@ opened-records [] p h = absurd (omega arith)
 opened-records (a ∷ ts) zero h = record { kind-is = refl; k-is = refl; i-is = refl; j-is = refl; mark-most = omega arith }
 opened-records (a ∷ ts) (suc p) h = opened-records ts p (omega arith)
 
+pub opened-ties : (ts : List Task) (p : ℕ) → getD (map recordOf ts) p (recordOf (T-1 0)) .ties ≡ 0
+unfolding recordOf
+opened-ties [] p = refl
+opened-ties (a ∷ ts) zero = refl
+opened-ties (a ∷ ts) (suc p) = opened-ties ts p
+
 zeros-zero : (n : ℕ) → every (λ x. eqb x 0) (replicate n 0) ≡ true
 unfolding every
 zeros-zero zero = refl
@@ -120,6 +128,7 @@ opened-whole z m fit hm f = record {
   fit = fit;
   stated = unfold opened plan start in opened-stated z m hm;
   records = opened-records (tasks (z .tiles));
+  sums = λ p l. omega (arith, opened-ties (tasks (z .tiles)) p);
   holder = λ p h e. let q : _≡_ {A = ℕ} 0 1 = sym (opened-marks (tasks (z .tiles)) p) ∙ e in absurd (omega arith);
   held = λ w h e. never e (ap (λ x. x .busy) (getD-same (z .workers) w idle));
   rows = λ i j hi hj e. omega (arith, zero-rows (z .tiles) (z .side) m i j e);

@@ -2,7 +2,7 @@
 ghost use mathlib.Core.Path.{_≡_};
 ghost use Rattle.model.specs.Task.{T-1};
 ghost use Rattle.model.specs.Plan.{planOf};
-ghost use Rattle.model.specs.Buffer.{markAfter, columnEnds};
+ghost use Rattle.model.specs.Buffer.{endedWith, columnEnds};
 ghost use Rattle.column_laws.specs.Workable.{Workable};
 use column_ends::column_end;
 use factor_tiles::factor_rows;
@@ -23,7 +23,7 @@ pub fn factor_column(
     c: usize,
 ) -> ColumnEnd
     requires { ⌜ Workable z (T-1 k) c (now matrix) (now lists) ⌝ }
-    ensures { λ r. ⌜ record { left = record { matrix = now (matrix .exit); lists = now (lists .exit) }; mark = markAfter r }
+    ensures { λ r. ⌜ endedWith r (record { matrix = now (matrix .exit); lists = now (lists .exit) })
         ≡ columnEnds (planOf z) (T-1 k) c (record { matrix = now (matrix .entry); lists = now (lists .entry) }) ⌝ }
 {
     let n = z.tiles;
@@ -35,10 +35,10 @@ pub fn factor_column(
     lists[p + c] = y as u8;
     let magnitude = found.magnitude;
     if magnitude == 0.0 {
-        return column_end(t, c);
+        return column_end(t, c, found.ties);
     }
     if factor_rows(matrix, t, a, c, y) {
-        return column_end(t, c);
+        return column_end(t, c, found.ties);
     }
     fill_numbers(matrix, a, t * t);
     fill_entries(lists, p, t);

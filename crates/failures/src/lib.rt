@@ -7,7 +7,7 @@ ghost use Rattle.model.specs.Lists.{firstOr};
 ghost use Rattle.model.specs.Plan.{planOf};
 ghost use Rattle.model.specs.Buffer.{element};
 ghost use Rattle.model.specs.Loops.{failedTasks, zeroRows, outcome as outcomeOf};
-ghost use Rattle.records.specs.Records.{marksFrom};
+ghost use Rattle.records.specs.Records.{marksFrom, tiesFrom};
 ghost use Rattle.checks.specs.Checks.{Sized};
 ghost use Rattle.finite_numbers.specs.declared.Lowest.the-variants.{None, At};
 use finite_numbers::Lowest;
@@ -63,6 +63,7 @@ pub fn outcome_of(z: Sizes, matrix: &[f64], records: &[Record]) -> Outcome
     ensures { λ r. ⌜ ((lists : List ℕ) → r ≡ outcomeOf (planOf z) (record {
       buffers = record { matrix = now (matrix .entry); lists = lists };
       marks = marksFrom (now (records .entry));
+      ties = tiesFrom (now (records .entry));
     })) ⌝ }
 {
     let task = first_failed(records);

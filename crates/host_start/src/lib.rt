@@ -12,7 +12,7 @@ use model::Sizes;
 use records::Record;
 use worker::SLOTS;
 
-const VERSION: usize = 3;
+const VERSION: usize = 4;
 
 // The version of the interface, as the header has it.
 #[no_mangle]

@@ -1,7 +1,7 @@
 // A column of a task by its record's kind.
 ghost use mathlib.Core.Path.{_≡_};
 ghost use Rattle.model.specs.Plan.{planOf};
-ghost use Rattle.model.specs.Buffer.{markAfter, columnEnds};
+ghost use Rattle.model.specs.Buffer.{endedWith, columnEnds};
 ghost use Rattle.column_laws.specs.Workable.{Workable};
 ghost use Rattle.checks.specs.Checks.{taskFrom};
 use apply_columns::apply_column;
@@ -21,7 +21,7 @@ pub fn work_column(
     c: usize,
 ) -> ColumnEnd
     requires { ⌜ Workable z (taskFrom task) c (now matrix) (now lists) ⌝ }
-    ensures { λ r. ⌜ record { left = record { matrix = now (matrix .exit); lists = now (lists .exit) }; mark = markAfter r }
+    ensures { λ r. ⌜ endedWith r (record { matrix = now (matrix .exit); lists = now (lists .exit) })
         ≡ columnEnds (planOf z) (taskFrom task) c (record { matrix = now (matrix .entry); lists = now (lists .entry) }) ⌝ }
 {
     let k = task.k as usize;

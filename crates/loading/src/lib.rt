@@ -1,4 +1,4 @@
-// Copies task records from a lent slice of structs to a slice of five bytes each.
+// Copies task records from a lent slice of structs to a slice of RECORD bytes each.
 ghost use mathlib.Core.Path.{_≡_};
 ghost use Prim.Native.Nat.{_≤_};
 ghost use lib.ListN.{length};

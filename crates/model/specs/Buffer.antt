@@ -1,19 +1,20 @@
 -- The lent matrix and row lists, cut into tiles and lists; one column of a task on them; what a failed or spoiled task leaves.
 -- Assumes nothing.
 use Prim.Native.Nat.{ℕ, suc, _+_, _*_, _/_, _%_}
+use mathlib.Core.Path.{_≡_}
 use mathlib.Core.Bool.{Bool, true, false, cond, _||_}
 use mathlib.Core.List.{List}
 use lib.ListN.{replicate}
 use lib.Dec.{eqb}
 use lib.Ieee.{Float}
 use Rattle.model.specs.declared.ColumnEnd.{ColumnEnd}
-use Rattle.model.specs.declared.ColumnEnd.the-variants.{GoesOn, Done, Failed}
+use Rattle.model.specs.declared.ColumnEnd.the-variants.{GoesOn, Done, Failed, Spoiled}
 use Rattle.model.specs.Lists.{every, part, withPart}
 use Rattle.model.specs.Num.{finite}
 use Rattle.model.specs.Tile.{at, allFinite, zeros, upperFilled}
-use Rattle.model.specs.Column.{Factored, Coupled, Paired, factorColumn, factorComputes, applyColumn, applyComputes, coupleColumn, coupleComputes, pairColumn, pairComputes, Column·open}
+use Rattle.model.specs.Column.{Factored, Coupled, Paired, factorPivot, factorColumn, factorComputes, applyColumn, applyComputes, couplePivot, coupleColumn, coupleComputes, pairColumn, pairComputes, Column·open}
 use Rattle.model.specs.Task.{Task, T-1, T-2, T-3, T-4, Place, isList, touches}
-use Rattle.model.specs.Links.{taken, done, failed}
+use Rattle.model.specs.Links.{taken, done, failed, spoiled}
 use Rattle.model.specs.Plan.{Plan, Plan·open}
 
 -- ---- parts of the lent slices
@@ -44,16 +45,34 @@ pub record Buffers : Type 0 where
   pub matrix : List Float
   pub lists : List ℕ
 
--- what a column or a task left, and the task's mark then
+-- what a column or a task left, the task's mark then, and the ties of what it completed (K7)
 pub record Ended : Type 0 where
   pub left : Buffers
   pub mark : ℕ
+  pub ties : ℕ
 
 -- the mark that a column's end gives its task
 abbrev pub markAfter : ColumnEnd → ℕ
-markAfter GoesOn = taken
-markAfter Done = done
+markAfter (GoesOn n) = taken
+markAfter (Done n) = done
 markAfter Failed = failed
+markAfter Spoiled = spoiled
+
+-- and the ties that it adds: a failing column isn't completed, and a spoiled task completes none
+abbrev pub tiesAfter : ColumnEnd → ℕ
+tiesAfter (GoesOn n) = n
+tiesAfter (Done n) = n
+tiesAfter Failed = 0
+tiesAfter Spoiled = 0
+
+-- e ends column c of a task of t columns, which was completed with n ties
+pub record Completed (t c n : ℕ) (e : ColumnEnd) : Type 0 where
+  pub mark : markAfter e ≡ cond (eqb (suc c) t) done taken
+  pub ties : tiesAfter e ≡ n
+
+-- what a column that ended so, and left b, is
+abbrev pub endedWith : ColumnEnd → Buffers → Ended
+endedWith e b = record { left = b; mark = markAfter e; ties = tiesAfter e }
 
 module _ (z : Plan) where
   unfoldable pub tileOf : Buffers → ℕ → ℕ → List Float
@@ -101,6 +120,13 @@ module _ (z : Plan) where
   computed (T-3 k i) c s = coupleComputes (z .t) c (coupleInput s k i)
   computed (T-4 k i j) c s = pairComputes (z .t) (z .t) c (tileOf s i k) (rowsOf s i k) (pairInput s k i j)
 
+  -- how many candidates of the column's pivot search tie with the winner (K7): only T-1 and T-3 search
+  unfoldable pub columnTies : Task → ℕ → Buffers → ℕ
+  columnTies (T-1 k) c s = factorPivot (z .t) c (tileOf s k k) .ties
+  columnTies (T-2 k j) c s = 0
+  columnTies (T-3 k i) c s = couplePivot (z .t) c (tileOf s k k) (tileOf s i k) .ties
+  columnTies (T-4 k i j) c s = 0
+
   -- every number computed is finite
   unfoldable pub sound : Task → ℕ → Buffers → Bool
   sound a c s = every finite (computed a c s)
@@ -135,10 +161,10 @@ module _ (z : Plan) where
 
   unfoldable pub columnEnds : Task → ℕ → Buffers → Ended
   columnEnds a c s = elim (sound a c s) [
-    | true ↦ record { left = worked a c s; mark = cond (eqb (suc c) (z .t)) done taken }
-    | false ↦ record { left = filled a (worked a c s); mark = failed }
+    | true ↦ record { left = worked a c s; mark = cond (eqb (suc c) (z .t)) done taken; ties = columnTies a c s }
+    | false ↦ record { left = filled a (worked a c s); mark = failed; ties = 0 }
   ]
 
 unfoldable pub Buffer·open : Unit {0}
-unfolding Column·open Plan·open tile putTile rows putRows element tileOf rowsOf withTile withRows factorInput coupleInput pairInput worked computed sound finiteIn finiteTiles fillTile fillRows fillUpper filled columnEnds
+unfolding Column·open Plan·open tile putTile rows putRows element tileOf rowsOf withTile withRows factorInput coupleInput pairInput worked computed columnTies sound finiteIn finiteTiles fillTile fillRows fillUpper filled columnEnds
 Buffer·open = tt

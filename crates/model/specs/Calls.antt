@@ -28,21 +28,29 @@ pub record Lent : Type 0 where
 unfoldable pub marksOf : Lent → List ℕ
 marksOf s = map (λ r. r .mark) (s .records)
 
--- the buffers and marks, as the published loops have them
+-- K7's sums
+unfoldable pub tiesOf : Lent → List ℕ
+tiesOf s = map (λ r. r .ties) (s .records)
+
+-- the buffers, marks and tie sums, as the published loops have them
 unfoldable pub stateOf : Lent → State
-stateOf s = record { buffers = s .buffers; marks = marksOf s }
+stateOf s = record { buffers = s .buffers; marks = marksOf s; ties = tiesOf s }
 
 -- the record of a waiting task
 unfoldable pub recordOf : Task → TaskRecord
-recordOf a = record { kind = kindOf a; k = kOf a; i = iOf a; j = jOf a; mark = waiting }
+recordOf a = record { kind = kindOf a; k = kOf a; i = iOf a; j = jOf a; mark = waiting; ties = 0 }
+
+-- the record r with the mark m and n ties more
+unfoldable pub withColumn : ℕ → ℕ → TaskRecord → TaskRecord
+withColumn m n r = record { kind = r .kind; k = r .k; i = r .i; j = r .j; mark = m; ties = r .ties + n }
 
 -- the record r with the mark m
 unfoldable pub withMark : ℕ → TaskRecord → TaskRecord
-withMark m r = record { kind = r .kind; k = r .k; i = r .i; j = r .j; mark = m }
+withMark m r = record { kind = r .kind; k = r .k; i = r .i; j = r .j; mark = m; ties = r .ties }
 
--- the records with the mark m for task p
-unfoldable pub marked : ℕ → ℕ → List TaskRecord → List TaskRecord
-marked p m rs = set rs p (withMark m (getD rs p (recordOf (T-1 0))))
+-- the records with f done to that of task p
+unfoldable pub changed : ℕ → (TaskRecord → TaskRecord) → List TaskRecord → List TaskRecord
+changed p f rs = set rs p (f (getD rs p (recordOf (T-1 0))))
 
 unfoldable pub worker : Lent → ℕ → Worker
 worker s w = getD (s .workers) w idle
@@ -67,7 +75,7 @@ module _ (z : Plan) where
   unfoldable pub took : ℕ → ℕ → Lent → Lent
   took w p s = record {
     buffers = s .buffers;
-    records = marked p taken (s .records);
+    records = changed p (withMark taken) (s .records);
     workers = set (s .workers) w (holding p 0);
   }
 
@@ -78,18 +86,18 @@ module _ (z : Plan) where
   columnOf s p c =
       let a = task (z .tasks) p in
       elim (eqb c 0 && spoils (z .tasks) (marksOf s) p) [
-        | true ↦ record { left = filled z a (s .buffers); mark = spoiled }
+        | true ↦ record { left = filled z a (s .buffers); mark = spoiled; ties = 0 }
         | false ↦ columnEnds z a c (s .buffers)
       ]
 
-  -- the column done, its task marked, and the worker moved on
+  -- the column done, its task marked and its ties added, and the worker moved on
   unfoldable pub advanced : ℕ → Lent → Lent
   advanced w s =
       let h = worker s w in
       let e = columnOf s (h .task) (h .column) in
       record {
         buffers = e .left;
-        records = marked (h .task) (e .mark) (s .records);
+        records = changed (h .task) (withColumn (e .mark) (e .ties)) (s .records);
         workers = set (s .workers) w (cond (finished (e .mark)) idle (holding (h .task) (suc (h .column))));
       }
 
@@ -130,5 +138,5 @@ module _ (z : Plan) where
   wholeRun W budget s = runFrom W budget 0 0 s
 
 unfoldable pub Calls·open : Unit {0}
-unfolding Loops·open marksOf stateOf recordOf withMark marked worker opened took columnOf advanced readyTasks allFinished hasWork turn nextWorker runFrom wholeRun
+unfolding Loops·open marksOf tiesOf stateOf recordOf withMark withColumn changed worker opened took columnOf advanced readyTasks allFinished hasWork turn nextWorker runFrom wholeRun
 Calls·open = tt

@@ -3,21 +3,29 @@
 -- The steps' verbs: T-1 factors a tile, T-2 applies it to a block, T-3 couples two tiles, T-4 pairs two blocks.
 -- Assumes nothing.
 use Prim.Native.Nat.{ℕ, suc, _+_, _-_, pred, compare, Ordering, Ordering·lt, Ordering·eq, Ordering·gt}
-use mathlib.Core.Bool.{true, false, cond, _&&_}
+use mathlib.Core.Bool.{true, false, cond, not, _&&_}
 use mathlib.Core.List.{List, [], _∷_, map}
 use lib.ListN.{getD, set}
 use lib.Dec.{eqb, ltb, leb}
 use lib.Ieee.{Float}
 use Rattle.model.specs.declared.Pivot.{Pivot}
 use Rattle.model.specs.Lists.{below, run, joined, inTurn}
-use Rattle.model.specs.Num.{plusZero, isZero, magnitude, exceeds, update, updateComputes, quotient}
+use Rattle.model.specs.Num.{plusZero, isZero, magnitude, exceeds, sameMagnitude, update, updateComputes, quotient}
 use Rattle.model.specs.Tile.{at, block, exchanged, Tile·open}
 
--- ---- the pivot search: the largest magnitude, the first candidate on a tie
+-- ---- the pivot search: the largest magnitude, the first candidate on a tie, and how many others tie with it (K7)
+
+-- the candidate x at place n alone
+abbrev pub candidate : ℕ → Float → Pivot
+candidate n x = record { place = n; magnitude = magnitude x; ties = 0 }
+
+-- the pivot p, behind which the candidate x stands: one tie more where x has its magnitude, but none where that is zero
+unfoldable pub tied : Pivot → Float → Pivot
+tied p x = record { place = p .place; magnitude = p .magnitude; ties = cond (sameMagnitude x (p .magnitude) && not (isZero (p .magnitude))) (suc (p .ties)) (p .ties) }
 
 -- the better of the pivot p and the candidate x at place n
 unfoldable pub better : Pivot → ℕ → Float → Pivot
-better p n x = cond (exceeds x (p .magnitude)) (record { place = n; magnitude = magnitude x }) p
+better p n x = cond (exceeds x (p .magnitude)) (candidate n x) (tied p x)
 
 -- the best of p and the candidates from place n on
 unfoldable pub searchFrom : ℕ → Pivot → List Float → Pivot
@@ -25,8 +33,8 @@ searchFrom n p [] = p
 searchFrom n p (x ∷ xs) = searchFrom (suc n) (better p n x) xs
 
 unfoldable pub search : List Float → Pivot
-search [] = record { place = 0; magnitude = plusZero }
-search (x ∷ xs) = searchFrom 1 (record { place = 0; magnitude = magnitude x }) xs
+search [] = record { place = 0; magnitude = plusZero; ties = 0 }
+search (x ∷ xs) = searchFrom 1 (candidate 0 x) xs
 
 -- ---- the rows of a column
 
@@ -176,5 +184,5 @@ pairComputes t w c l p s =
     joined (map (λ r. rowComputes w (at t l r c) (at w (x .upper) c) (at w (x .lower) r)) (below t))
 
 unfoldable pub Column·open : Unit {0}
-unfolding Tile·open better searchFrom search beyond eliminated eliminationComputes rowComputes factorCandidates factorPivot factorExchanged factorColumn factorComputes permuted applyStart applyColumn applyComputes coupleCandidates couplePivot upperExchanged lowerExchanged coupleColumn coupleComputes pairExchanged pairColumn pairComputes
+unfolding Tile·open tied better searchFrom search beyond eliminated eliminationComputes rowComputes factorCandidates factorPivot factorExchanged factorColumn factorComputes permuted applyStart applyColumn applyComputes coupleCandidates couplePivot upperExchanged lowerExchanged coupleColumn coupleComputes pairExchanged pairColumn pairComputes
 Column·open = tt

@@ -14,6 +14,11 @@ run a (suc n) = a ∷ run (suc a) n
 unfoldable pub below : ℕ → List ℕ
 below n = run 0 n
 
+-- the sum of all
+unfoldable pub total : List ℕ → ℕ
+total [] = 0
+total (x ∷ xs) = x + total xs
+
 module _ {A : Type 0} where
   -- f 0, f 1, .. , f (n - 1)
   unfoldable pub table : ℕ → (ℕ → A) → List A
@@ -55,5 +60,5 @@ module _ {A S : Type 0} where
   inTurn f (x ∷ xs) s = inTurn f xs (f x s)
 
 unfoldable pub Lists·open : Unit {0}
-unfolding run below table every some keep joined firstOr inTurn
+unfolding run below total table every some keep joined firstOr inTurn
 Lists·open = tt

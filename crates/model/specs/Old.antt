@@ -67,12 +67,12 @@ module _ (z : Plan) where
   oldEnded s p =
       let a = task (z .tasks) p in
       elim (oldSpoils (z .tasks) (s .marks) p) [
-        | true ↦ record { left = filled z a (s .buffers); mark = spoiled }
+        | true ↦ record { left = filled z a (s .buffers); mark = spoiled; ties = 0 }
         | false ↦ columns z (z .t) 0 a (s .buffers)
       ]
 
   unfoldable pub oldPerformed : ℕ → State → State
-  oldPerformed p s = let e = oldEnded s p in record { buffers = e .left; marks = set (s .marks) p (e .mark) }
+  oldPerformed p s = let e = oldEnded s p in record { buffers = e .left; marks = set (s .marks) p (e .mark); ties = set (s .ties) p (e .ties) }
 
   unfoldable pub oldLoops : List Float → State
   oldLoops m = inTurn oldPerformed (below (length (z .tasks))) (start z m)

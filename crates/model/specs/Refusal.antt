@@ -2,7 +2,7 @@
 -- what an accepted call does. A refusal changes nothing. Assumes nothing.
 use Prim.Native.Nat.{ℕ, _-_, _*_, _/_, _%_}
 use mathlib.Core.Bool.{Bool, true, false, cond, not, _&&_, _||_}
-use mathlib.Core.List.{List}
+use mathlib.Core.List.{List, map}
 use lib.ListN.{length, getD}
 use lib.Dec.{eqb, leb, ltb}
 use lib.Ieee.{Float, nan}
@@ -14,15 +14,15 @@ use Rattle.model.specs.declared.RunAnswer.the-variants.{RunRefused}
 use Rattle.model.specs.declared.OutcomeAnswer.{OutcomeAnswer}
 use Rattle.model.specs.declared.OutcomeAnswer.the-variants.{Known, Unfinished, OutcomeRefused}
 use Rattle.model.specs.Limits.{mostTiles, mostSide, mostWorkers}
-use Rattle.model.specs.Lists.{below, some, keep, firstOr}
+use Rattle.model.specs.Lists.{below, some, keep, firstOr, total}
 use Rattle.model.specs.Num.{finite}
 use Rattle.model.specs.Tile.{allFinite}
 use Rattle.model.specs.Task.{kindOf, kOf, iOf, jOf}
 use Rattle.model.specs.Plan.{Plan, planOf, order}
-use Rattle.model.specs.Links.{task, mark, taken, finished, ready}
+use Rattle.model.specs.Links.{task, mark, taken, done, failed, finished, ready}
 use Rattle.model.specs.Buffer.{finiteTiles}
 use Rattle.model.specs.Loops.{outcome}
-use Rattle.model.specs.Calls.{Lent, RunEnd, marksOf, stateOf, recordOf, worker, took, advanced, opened, wholeRun, Calls·open}
+use Rattle.model.specs.Calls.{Lent, RunEnd, marksOf, tiesOf, stateOf, recordOf, worker, took, advanced, opened, wholeRun, Calls·open}
 
 -- ---- the form of the table: a row's number, its place, and when it is given; the first row that holds decides
 
@@ -82,6 +82,10 @@ noWorker w s = leb (length (s .workers)) w
 unfoldable pub holds : ℕ → Worker → Bool
 holds p h = h .busy && eqb (h .task) p
 
+-- the next column of task p, where one worker holds it
+unfoldable pub nextColumn : Lent → ℕ → ℕ
+nextColumn s p = total (map (λ h. h .column) (keep (holds p) (s .workers)))
+
 module _ (z : Plan) where
   -- 2: a lent length differs from the one stated
   unfoldable pub badLengths : ℕ → Lent → Bool
@@ -100,6 +104,15 @@ module _ (z : Plan) where
   unfoldable pub badHold : Lent → ℕ → Bool
   badHold s p = eqb (mark (marksOf s) p) taken && not (eqb (length (keep (holds p) (s .workers))) 1)
 
+  -- 4: the most that the sum of task p's ties may be (K7): t·t when it is done or failed, t times its next column when it is taken, else 0
+  unfoldable pub tieLimit : Lent → ℕ → ℕ
+  tieLimit s p =
+      let m = mark (marksOf s) p in
+      cond (eqb m done || eqb m failed) (z .t * z .t) (cond (eqb m taken) (z .t * nextColumn s p) 0)
+
+  unfoldable pub badTies : Lent → ℕ → Bool
+  badTies s p = ltb (tieLimit s p) (getD (tiesOf s) p 0)
+
   -- 4: what a busy worker holds: there is no such task, it isn't taken, or it has no such column
   unfoldable pub badWorker : Lent → Worker → Bool
   badWorker s h = h .busy && not (ltb (h .task) (length (z .tasks)) && eqb (mark (marksOf s) (h .task)) taken && ltb (h .column) (z .t))
@@ -115,7 +128,7 @@ module _ (z : Plan) where
   unfoldable pub damaged : Lent → Bool
   damaged s =
       some (badRecord s) (below (length (z .tasks))) || some (badHold s) (below (length (z .tasks)))
-      || some (badWorker s) (s .workers) || some (badEntry s) (below (z .N * z .N * z .t))
+      || some (badTies s) (below (length (z .tasks))) || some (badWorker s) (s .workers) || some (badEntry s) (below (z .N * z .N * z .t))
 
   -- 4, for a column: an element of a tile that the task touches isn't finite. A worker that is idle or doesn't exist has no task
   unfoldable pub badTiles : ℕ → Lent → Bool
@@ -183,5 +196,5 @@ module _ (z : Sizes) where
       otherwise Accepted) (outcomeFound s)
 
 unfoldable pub Refusal·open : Unit {0}
-unfolding Calls·open refuse replied runReplied outcomeReplied inside badSizes firstNotFinite noWorker badLengths badRecord holds badHold badWorker entryLimit badEntry damaged badTiles unfinished openAnswer openCall takeAnswer takeCall columnAnswer columnCall runAnswer runCall outcomeFound outcomeCall
+unfolding Calls·open refuse replied runReplied outcomeReplied inside badSizes firstNotFinite noWorker badLengths nextColumn badRecord holds badHold tieLimit badTies badWorker entryLimit badEntry damaged badTiles unfinished openAnswer openCall takeAnswer takeCall columnAnswer columnCall runAnswer runCall outcomeFound outcomeCall
 Refusal·open = tt

@@ -22,28 +22,32 @@ pub struct Sizes {
     pub workers: usize,
 }
 
-// What is lent for a task: kind 1 to 4, k, i and j (0 where unused), and its mark.
+// What is lent for a task: kind 1 to 4, k, i and j (0 where unused), the sum of the ties of the columns that it completed, and its mark. In this order
+// copies of it as bytes are quicker to make.
 #[repr(C)]
 pub struct TaskRecord {
     pub kind: u8,
     pub k: u8,
     pub i: u8,
     pub j: u8,
+    pub ties: u16,
     pub mark: u8,
 }
 
-// What a pivot search carries along and tells: the winner's place and its magnitude. Among candidates the place counts from 0; what is told of a column
-// is the row that the row list records.
+// What a pivot search carries along and tells: the winner's place, its magnitude, and its ties, which are the other candidates with that magnitude.
+// Among candidates the place counts from 0; what is told of a column is the row that the row list records.
 pub struct Pivot {
     pub place: usize,
     pub magnitude: f64,
+    pub ties: u16,
 }
 
-// How a column of a task that is not spoiled ends.
+// How a column ends: with the ties of its pivot where it is completed and its task goes on or is done, and else with a failed or a spoiled task.
 pub enum ColumnEnd {
-    GoesOn,
-    Done,
+    GoesOn(u16),
+    Done(u16),
     Failed,
+    Spoiled,
 }
 
 // What a call answers: that it was accepted, or a refusal's number and place.

@@ -5,7 +5,7 @@ ghost use Prim.Native.Nat.{suc, min, _<_};
 ghost use lib.ListN.{length};
 ghost use Rattle.model.specs.Links.{taken};
 ghost use Rattle.worker.specs.Holding.{holding};
-ghost use Rattle.model.specs.Calls.{marked};
+ghost use Rattle.model.specs.Calls.{withMark, changed};
 ghost use Rattle.records.specs.Records.{recordsFrom};
 ghost use Rattle.marks.specs.Marks.{Recorded};
 ghost use Rattle.next_task.specs.NextTask.{NoneBelow, LowestReady, NoneBetween};
@@ -48,7 +48,7 @@ pub fn lowest_ready(n: usize, records: &[Record], from: usize) -> usize
 pub fn take_task(records: &mut [Record], h: Worker, p: usize) -> Worker
     requires { ⌜ (p < length (now records)) × (p < 65536) ⌝ }
     ensures { λ r. ⌜ r ≡ holding p 0 ⌝ }
-    ensures { λ _. ⌜ recordsFrom (now (records .exit)) ≡ marked p taken (recordsFrom (now (records .entry))) ⌝ }
+    ensures { λ _. ⌜ recordsFrom (now (records .exit)) ≡ changed p (withMark taken) (recordsFrom (now (records .entry))) ⌝ }
     ensures { λ _. ⌜ length (now (records .exit)) ≡ length (now (records .entry)) ⌝ }
 {
     set_mark(records, p, 1);

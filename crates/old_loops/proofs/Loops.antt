@@ -37,13 +37,13 @@ module _ (N t : ℕ) where
   same-ended : (s : State) (p : ℕ) → p < taskCount N → ended z s p ≡ oldEnded z s p
   unfolding ended oldEnded
   same-ended s p h = ap (λ (b : Bool). elim b as (λ x. Ended) [
-    | true ↦ record { left = filled z (task (tasks N) p) (s .buffers); mark = spoiled }
+    | true ↦ record { left = filled z (task (tasks N) p) (s .buffers); mark = spoiled; ties = 0 }
     | false ↦ columns z t 0 (task (tasks N) p) (s .buffers)
   ]) (same-spoils N (s .marks) p h)
 
   same-performed : (p : ℕ) (s : State) → p < taskCount N → performed z p s ≡ oldPerformed z p s
   unfolding performed oldPerformed
-  same-performed p s h = ap (λ (e : Ended). record { buffers = e .left; marks = set (s .marks) p (e .mark) }) (same-ended s p h)
+  same-performed p s h = ap (λ (e : Ended). record { buffers = e .left; marks = set (s .marks) p (e .mark); ties = set (s .ties) p (e .ties) }) (same-ended s p h)
 
   in-turn : (a n : ℕ) (s : State) → a + n ≤ taskCount N → inTurn (performed z) (run a n) s ≡ inTurn (oldPerformed z) (run a n) s
   unfolding inTurn run

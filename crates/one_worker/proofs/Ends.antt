@@ -8,7 +8,7 @@ use native.Mathlib.Nat.{mul-comm}
 use native.Mathlib.Numerals.{add-one}
 use native.Mathlib.Omega.{arith}
 use lib.Ieee.{Float}
-use lib.ListN.{length}
+use lib.ListN.{length, getD}
 use lib.Seq.{ext-getD}
 use borrow.Author.Tests.{le-leb, eq-eqb}
 use Rattle.model.specs.declared.Sizes.{Sizes}
@@ -24,15 +24,16 @@ use Rattle.model.specs.Task.{Task, T-1, tasks}
 use Rattle.model.specs.Plan.{plan, planOf, order}
 use Rattle.model.specs.Links.{task, mark}
 use Rattle.model.specs.Loops.{outcome, loops, State}
-use Rattle.model.specs.Calls.{Lent, RunEnd, marksOf, stateOf, recordOf, withMark, allFinished, opened, wholeRun}
+use Rattle.model.specs.Calls.{Lent, RunEnd, marksOf, tiesOf, stateOf, recordOf, withColumn, allFinished, opened, wholeRun}
 use Rattle.model.specs.Refusal.{Reply, refuse, replied, inside, badSizes, badLengths, openAnswer, openCall, runCall}
 use Rattle.model.specs.History.{leftBy, afterCalls}
 use Rattle.model.specs.History as H
-use Rattle.records.specs.Records.{recordsFrom, marksFrom, crew, lent, allLent}
-use Rattle.records.proofs.Laws.{length-records, length-crew, marks-lent}
+use Rattle.records.specs.Records.{recordsFrom, marksFrom, tiesFrom, crew, lent, allLent}
+use Rattle.records.proofs.Laws.{length-records, length-crew, marks-lent, ties-lent}
 use Rattle.laws.proofs.Runs.{length-map-below, getD-map-run}
 use Rattle.run_laws.proofs.Undamaged.{Due}
 use Rattle.demand.proofs.Whole.{Whole, mark-at}
+use Rattle.demand.proofs.Checks.{sum-at}
 use Rattle.demand.proofs.Answers.{run-whole}
 use Rattle.demand.proofs.Opening.{opened-by}
 use Rattle.demand.proofs.Theorem.{demand-3}
@@ -40,23 +41,23 @@ use Rattle.demand.proofs.Runs.{run-itself, runs-are-calls}
 use Rattle.demand.proofs.Corollaries.{run-finishes}
 use Rattle.one_worker.specs.Alone.{Lendable, Result, alone, numbered, published}
 
--- ---- records of an undamaged state are the numbering with its marks
+-- ---- records of an undamaged state are the numbering with its marks and tie sums
 
-due-is : (a : Task) (r : TaskRecord) (m : ℕ) → Due a r → m ≡ r .mark → r ≡ withMark m (recordOf a)
-unfolding withMark recordOf
-due-is a r m h e = λ i. record { kind = h .kind-is i; k = h .k-is i; i = h .i-is i; j = h .j-is i; mark = sym e i }
+due-is : (a : Task) (r : TaskRecord) (m n : ℕ) → Due a r → m ≡ r .mark → n ≡ r .ties → r ≡ withColumn m n (recordOf a)
+unfolding withColumn recordOf
+due-is a r m n h e f = let g : r .ties ≡ 0 + n = omega (arith, f) in λ i. record { kind = h .kind-is i; k = h .k-is i; i = h .i-is i; j = h .j-is i; mark = sym e i; ties = g i }
 
-records-numbered : (z : Sizes) (s : Lent) → Whole z s → s .records ≡ numbered (tasks (z .tiles)) (marksOf s)
+records-numbered : (z : Sizes) (s : Lent) → Whole z s → s .records ≡ numbered (tasks (z .tiles)) (marksOf s) (tiesOf s)
 unfolding numbered below
 records-numbered z s h =
-    ext-getD (recordOf (T-1 0)) (s .records) (numbered (tasks (z .tiles)) (marksOf s))
+    ext-getD (recordOf (T-1 0)) (s .records) (numbered (tasks (z .tiles)) (marksOf s) (tiesOf s))
     (h .stated .records ∙ sym (length-map-below _ (length (tasks (z .tiles)))))
     (λ p l.
     let k : p < length (tasks (z .tiles)) = omega (arith, h .stated .records) in
     let e : 0 + p ≡ p = omega arith in
-    due-is _ _ _ (h .records p k) (mark-at s p)
-    ∙ sym (getD-map-run (λ q. withMark (mark (marksOf s) q) (recordOf (task (tasks (z .tiles)) q))) 0 (length (tasks (z .tiles))) p (recordOf (T-1 0)) k
-    ∙ ap (λ (q : ℕ). withMark (mark (marksOf s) q) (recordOf (task (tasks (z .tiles)) q))) e))
+    due-is _ _ _ _ (h .records p k) (mark-at s p) (sum-at z s p)
+    ∙ sym (getD-map-run (λ q. withColumn (mark (marksOf s) q) (getD (tiesOf s) q 0) (recordOf (task (tasks (z .tiles)) q))) 0 (length (tasks (z .tiles))) p (recordOf (T-1 0)) k
+    ∙ ap (λ (q : ℕ). withColumn (mark (marksOf s) q) (getD (tiesOf s) q 0) (recordOf (task (tasks (z .tiles)) q))) e))
 
 module _ (N t : ℕ) (m : List Float) (l : List ℕ) (r : List (List ℕ)) (ws : Workers) (h : Lendable N t m l r) (one : ws .count ≡ 1) where
   abbrev z : Sizes
@@ -128,7 +129,7 @@ module _ (N t : ℕ) (m : List Float) (l : List ℕ) (r : List (List ℕ)) (ws :
   told e = record { buffers = e .buffers; records = e .records; outcome = outcome (plan N t) (stateOf e) }
 
   told-state : State → Result
-  told-state x = record { buffers = x .buffers; records = numbered (tasks N) (x .marks); outcome = outcome (plan N t) x }
+  told-state x = record { buffers = x .buffers; records = numbered (tasks N) (x .marks) (x .ties); outcome = outcome (plan N t) x }
 
   told-whole : told (runCall z budget first .left) ≡ told-state (stateOf (runCall z budget first .left))
   unfolding told told-state stateOf
@@ -139,16 +140,20 @@ module _ (N t : ℕ) (m : List Float) (l : List ℕ) (r : List (List ℕ)) (ws :
   module _ (a : Answer) (l₁ : List ℕ) (r₁ : List (List ℕ)) (ws₁ : Workers) (opened-to : _≡_ {A = Reply} (record { answer = a; left = allLent m l₁ r₁ ws₁ }) (openCall z s))
       (b : ℕ) (b-is : b ≡ length (tasks N) * (t + 1))
       (a₂ : RunAnswer) (m₂ : List Float) (l₂ : List ℕ) (r₂ : List (List ℕ)) (ws₂ : Workers) (ran-to : _≡_ {A = RunEnd} (record { answer = a₂; left = allLent m₂ l₂ r₂ ws₂ }) (runCall z b (allLent m l₁ r₁ ws₁)))
-      (o : Outcome) (o-is : (lists : List ℕ) → o ≡ outcome (plan N t) (record { buffers = record { matrix = m₂; lists = lists }; marks = marksFrom r₂ })) where
+      (o : Outcome) (o-is : (lists : List ℕ) → o ≡ outcome (plan N t) (record { buffers = record { matrix = m₂; lists = lists }; marks = marksFrom r₂; ties = tiesFrom r₂ })) where
     left-is : allLent m₂ l₂ r₂ ws₂ ≡ runCall z budget first .left
     left-is =
         ap (λ (e : RunEnd). e .left) ran-to
         ∙ ap (λ (k : ℕ). runCall z k (allLent m l₁ r₁ ws₁) .left) (b-is ∙ ap (λ (k : ℕ). length (tasks N) * k) (add-one t))
         ∙ ap (λ (k : Reply). runCall z budget (k .left) .left) opened-to
 
-    states : outcome (plan N t) (record { buffers = record { matrix = m₂; lists = l₂ }; marks = marksFrom r₂ }) ≡ outcome (plan N t) (stateOf (allLent m₂ l₂ r₂ ws₂))
+    states : outcome (plan N t) (record { buffers = record { matrix = m₂; lists = l₂ }; marks = marksFrom r₂; ties = tiesFrom r₂ }) ≡ outcome (plan N t) (stateOf (allLent m₂ l₂ r₂ ws₂))
     unfolding stateOf lent
-    states = ap (λ (ms : List ℕ). outcome (plan N t) (record { buffers = record { matrix = m₂; lists = l₂ }; marks = ms })) (sym (marks-lent m₂ l₂ r₂ (ws₂ .slots) (ws₂ .count)))
+    states = λ i. outcome (plan N t) (record {
+      buffers = record { matrix = m₂; lists = l₂ };
+      marks = sym (marks-lent m₂ l₂ r₂ (ws₂ .slots) (ws₂ .count)) i;
+      ties = sym (ties-lent m₂ l₂ r₂ (ws₂ .slots) (ws₂ .count)) i;
+    })
 
     told-is : _≡_ {A = Result} (record { buffers = record { matrix = m₂; lists = l₂ }; records = recordsFrom r₂; outcome = o }) (told (runCall z budget first .left))
     unfolding told lent

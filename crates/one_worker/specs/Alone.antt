@@ -3,7 +3,7 @@ use Prim.Native.Nat.{ℕ, suc, _*_, _≤_}
 use mathlib.Core.Path.{_≡_}
 use mathlib.Core.Bool.{true}
 use mathlib.Core.List.{List, map}
-use lib.ListN.{length}
+use lib.ListN.{length, getD}
 use lib.Ieee.{Float}
 use Rattle.model.specs.declared.TaskRecord.{TaskRecord}
 use Rattle.model.specs.declared.Outcome.{Outcome}
@@ -16,7 +16,7 @@ use Rattle.model.specs.Plan.{Plan, sizes}
 use Rattle.model.specs.Links.{task, mark}
 use Rattle.model.specs.Buffer.{Buffers}
 use Rattle.model.specs.Loops.{loops, outcome as outcomeOf}
-use Rattle.model.specs.Calls.{stateOf, recordOf, withMark, opened, wholeRun}
+use Rattle.model.specs.Calls.{stateOf, recordOf, withColumn, opened, wholeRun}
 
 -- sizes in their ranges, lengths that fit them, and finite numbers
 pub record Lendable (N t : ℕ) (m : List Float) (l : List ℕ) (r : List (List ℕ)) : Type 0 where
@@ -37,10 +37,10 @@ alone z m =
     let e = wholeRun z 1 (length (z .tasks) * suc (z .t)) (opened z 1 m) in
     record { buffers = e .left .buffers; records = e .left .records; outcome = outcomeOf z (stateOf (e .left)) }
 
--- the numbering, each task with its mark
-unfoldable pub numbered : List Task → List ℕ → List TaskRecord
-numbered ts ms = map (λ p. withMark (mark ms p) (recordOf (task ts p))) (below (length ts))
+-- the numbering, each task with its mark and its tie sum
+unfoldable pub numbered : List Task → List ℕ → List ℕ → List TaskRecord
+numbered ts ms ns = map (λ p. withColumn (mark ms p) (getD ns p 0) (recordOf (task ts p))) (below (length ts))
 
 -- the published loops
 unfoldable pub published : Plan → List Float → Result
-published z m = let e = loops z m in record { buffers = e .buffers; records = numbered (z .tasks) (e .marks); outcome = outcomeOf z e }
+published z m = let e = loops z m in record { buffers = e .buffers; records = numbered (z .tasks) (e .marks) (e .ties); outcome = outcomeOf z e }

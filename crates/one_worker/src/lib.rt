@@ -24,7 +24,7 @@ fn one_idle() -> Workers
 }
 
 // Opens a system of finite numbers and runs it with one worker to its end. Lists and records may hold anything before. What is left is also what
-// the published loops leave, with their marks in the records.
+// the published loops leave, with their marks and tie sums in the records.
 pub fn run_alone(
     tiles: usize,
     side: usize,

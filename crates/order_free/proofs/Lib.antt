@@ -8,3 +8,4 @@ pub mod Progress
 pub mod Count
 pub mod OrderFree
 pub mod Views
+pub mod Sums

@@ -4,3 +4,4 @@ pub mod Graph
 pub mod Loops
 pub mod Machine
 pub mod Theorem
+pub mod Sums

@@ -14,9 +14,9 @@ use Rattle.model.specs.Lists.{below, keep, firstOr}
 use Rattle.model.specs.Plan.{planOf}
 use Rattle.model.specs.Links.{mark, finished}
 use Rattle.model.specs.Loops.{outcome}
-use Rattle.model.specs.Calls.{Lent, marksOf, stateOf}
+use Rattle.model.specs.Calls.{Lent, marksOf, tiesOf, stateOf}
 use Rattle.model.specs.Refusal.{outcomeReplied, badSizes, badLengths, unfinished, outcomeFound, outcomeCall}
-use Rattle.records.specs.Records.{marksFrom, lent}
+use Rattle.records.specs.Records.{marksFrom, tiesFrom, lent}
 use Rattle.finite_numbers.specs.declared.Lowest.{Lowest}
 use Rattle.finite_numbers.specs.declared.Lowest.the-variants.{None, At}
 use Rattle.answers.proofs.Refusals.{refuses, passes, lengths-fit}
@@ -54,7 +54,7 @@ module _ (z : Sizes) (m : List Float) (l : List ℕ) (r : List (List ℕ)) (ws :
         unfolding outcomeFound
         answer-3 k i = sym (from-at Unfinished _ (unfinished (planOf z) old) g k (h ∙ ap (λ xs. firstOr xs At None) (unfinished-is z m l r ws count (fits .records-fit))) i) ∙ found-then
 
-        pub answer-4 : (o : Outcome) → g ≡ None → o ≡ outcome (planOf z) (record { buffers = record { matrix = m; lists = l }; marks = marksFrom r }) → Known o ≡ outcomeCall z old
-        unfolding outcomeFound stateOf marksOf lent marksFrom
+        pub answer-4 : (o : Outcome) → g ≡ None → o ≡ outcome (planOf z) (record { buffers = record { matrix = m; lists = l }; marks = marksFrom r; ties = tiesFrom r }) → Known o ≡ outcomeCall z old
+        unfolding outcomeFound stateOf marksOf tiesOf lent marksFrom tiesFrom
         answer-4 o i j =
             ap Known j ∙ sym (from-none Unfinished _ (unfinished (planOf z) old) g (h ∙ ap (λ xs. firstOr xs At None) (unfinished-is z m l r ws count (fits .records-fit))) i) ∙ found-then

@@ -2,7 +2,7 @@
 ghost use mathlib.Core.Path.{_≡_};
 ghost use Rattle.model.specs.Task.{T-4};
 ghost use Rattle.model.specs.Plan.{planOf};
-ghost use Rattle.model.specs.Buffer.{markAfter, columnEnds};
+ghost use Rattle.model.specs.Buffer.{endedWith, columnEnds};
 ghost use Rattle.column_laws.specs.Workable.{Workable};
 use column_ends::column_end;
 use fills::fill_numbers;
@@ -24,7 +24,7 @@ pub fn pair_column(
     c: usize,
 ) -> ColumnEnd
     requires { ⌜ Workable z (T-4 k i j) c (now matrix) (now lists) ⌝ }
-    ensures { λ r. ⌜ record { left = record { matrix = now (matrix .exit); lists = now (lists .entry) }; mark = markAfter r }
+    ensures { λ r. ⌜ endedWith r (record { matrix = now (matrix .exit); lists = now (lists .entry) })
         ≡ columnEnds (planOf z) (T-4 k i j) c (record { matrix = now (matrix .entry); lists = now (lists .entry) }) ⌝ }
 {
     let n = z.tiles;
@@ -36,7 +36,7 @@ pub fn pair_column(
     let p = list_start(n, t, i, k);
     let e = wide(lists[p + c]);
     if pair_rows(matrix, t, f, u, d, c, e) {
-        return column_end(t, c);
+        return column_end(t, c, 0);
     }
     fill_numbers(matrix, d, s);
     fill_numbers(matrix, u, s);

@@ -20,6 +20,7 @@ pub fn factor_pivot(m: &[f64], t: usize, a: usize, c: usize) -> Pivot
     Pivot {
         place: row,
         magnitude: best.magnitude,
+        ties: best.ties,
     }
 }
 

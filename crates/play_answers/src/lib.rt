@@ -41,10 +41,8 @@ pub fn put_numbers(out: &mut [u8], at: usize, m: &[f64])
 
 fn mixed_record(h: u64, task: TaskRecord) -> u64 {
     let a = mixed(mixed(h, task.kind as u64), task.k as u64);
-    mixed(
-        mixed(mixed(a, task.i as u64), task.j as u64),
-        task.mark as u64,
-    )
+    let b = mixed(mixed(a, task.i as u64), task.j as u64);
+    mixed(mixed(b, task.mark as u64), task.ties as u64)
 }
 
 fn mixed_records(h: u64, records: &[Record]) -> u64 {

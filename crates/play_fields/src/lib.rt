@@ -104,22 +104,24 @@ pub fn read_bytes(line: &[u8], at: usize, n: usize, l: &mut [u8])
 fn record(line: &[u8], at: usize) -> TaskRecord
     requires { ⌜ at ≤ 33554432 ⌝ }
 {
+    let ties = number(line, at + 10, 4) % 65536;
     TaskRecord {
         kind: two(line, at),
         k: two(line, at + 2),
         i: two(line, at + 4),
         j: two(line, at + 6),
         mark: two(line, at + 8),
+        ties: ties as u16,
     }
 }
 
-// Records of ten digits each, to the first n places.
+// Records of 14 digits each, to the first n places.
 pub fn read_records(line: &[u8], at: usize, n: usize, records: &mut [Record])
     requires { ⌜ (at ≤ 16777216) × (n ≤ 65600) × (n ≤ length (now records)) ⌝ }
 {
     let mut k = 0;
     while k < n {
-        put_record(records, k, record(line, at + k * 10));
+        put_record(records, k, record(line, at + k * 14));
         k += 1;
     }
 }

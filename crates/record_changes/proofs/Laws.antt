@@ -1,11 +1,13 @@
--- Laws of the records as lent: storing one, and giving one another mark. Assumes nothing.
-use Prim.Native.Nat.{ℕ, zero, suc}
+-- Laws of the records as lent: storing one, and changing one. Assumes nothing.
+use Prim.Native.Nat.{ℕ, zero, suc, _+_, _*_, _/_, _%_}
+use native.Mathlib.Nat.{div-add-mod'}
+use native.Mathlib.Omega.{arith}
 use mathlib.Core.Path.{_≡_, refl, ap}
 use mathlib.Core.List.{List, [], _∷_, map}
 use lib.ListN.{getD, set}
 use Rattle.model.specs.declared.TaskRecord.{TaskRecord}
 use Rattle.model.specs.Task.{T-1}
-use Rattle.model.specs.Calls.{recordOf, withMark, marked}
+use Rattle.model.specs.Calls.{recordOf, changed}
 use Rattle.records.specs.Records.{recordFrom, recordsFrom, blank}
 
 module _ {A B : Type 0} (f : A → B) where
@@ -24,7 +26,11 @@ pub set-record : (l : List (List ℕ)) (p : ℕ) (b : List ℕ) → recordsFrom 
 unfolding recordsFrom
 set-record l p b = map-set recordFrom l p b
 
--- task p's record with another mark is the whole record with that mark
-pub marked-is : (l : List TaskRecord) (p m : ℕ) → set l p (withMark m (getD l p blank)) ≡ marked p m l
-unfolding marked
-marked-is l p m = set-any (withMark m) blank (recordOf (T-1 0)) l p
+-- what is done to task p's record
+pub changed-is : (f : TaskRecord → TaskRecord) (l : List TaskRecord) (p : ℕ) → set l p (f (getD l p blank)) ≡ changed p f l
+unfolding changed
+changed-is f l p = set-any f blank (recordOf (T-1 0)) l p
+
+-- the two bytes of a number
+pub two-bytes : (n : ℕ) → n % 256 + n / 256 * 256 ≡ n
+two-bytes n = let d = div-add-mod' n 256 in omega arith

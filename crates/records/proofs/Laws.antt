@@ -13,10 +13,10 @@ use Rattle.worker.proofs.Workers as Ws
 use Rattle.worker.specs.Holding.{idle}
 use Rattle.model.specs.Lists.{below, table, some, keep}
 use Rattle.model.specs.Links.{mark}
-use Rattle.model.specs.Calls.{marksOf}
+use Rattle.model.specs.Calls.{marksOf, tiesOf}
 use Rattle.laws.proofs.Blocks.{length-table, getD-table}
 use Rattle.laws.proofs.Searches.{some-map, keep-map, by-places}
-use Rattle.records.specs.Records.{recordFrom, recordsFrom, marksFrom, blank, crew, lent}
+use Rattle.records.specs.Records.{recordFrom, recordsFrom, marksFrom, tiesFrom, blank, crew, lent}
 
 pub length-records : (l : List (List ℕ)) → length (recordsFrom l) ≡ length l
 unfolding recordsFrom
@@ -35,10 +35,19 @@ pub get-mark : (l : List (List ℕ)) (p : ℕ) → mark (marksFrom l) p ≡ getD
 unfolding marksFrom mark
 get-mark l p = List·getD-map (λ r. r .mark) (recordsFrom l) p blank
 
+-- and so with its ties
+pub get-ties : (l : List (List ℕ)) (p : ℕ) → getD (tiesFrom l) p 0 ≡ getD (recordsFrom l) p blank .ties
+unfolding tiesFrom
+get-ties l p = List·getD-map (λ r. r .ties) (recordsFrom l) p blank
+
 -- the marks of what is lent
 pub marks-lent : (m : List Float) (l : List ℕ) (r : List (List ℕ)) (h : List Worker) (W : ℕ) → marksOf (lent m l r h W) ≡ marksFrom r
 unfolding marksOf lent marksFrom
 marks-lent m l r h W = refl
+
+pub ties-lent : (m : List Float) (l : List ℕ) (r : List (List ℕ)) (h : List Worker) (W : ℕ) → tiesOf (lent m l r h W) ≡ tiesFrom r
+unfolding tiesOf lent tiesFrom
+ties-lent m l r h W = refl
 
 -- ---- workers
 

@@ -1,6 +1,6 @@
--- Task records as they are lent, five bytes each: kind, k, i, j and mark; and everything lent to a call, as the definitions have it.
+-- Task records as they are lent, seven bytes each: kind, k, i, j, mark and the tie sum, whose low byte is first; and everything lent to a call, as the definitions have it.
 -- Assumes nothing.
-use Prim.Native.Nat.{ℕ}
+use Prim.Native.Nat.{ℕ, _+_, _*_}
 use mathlib.Core.Path.{_≡_}
 use mathlib.Core.List.{List, map}
 use lib.ListN.{getD, drop}
@@ -12,9 +12,9 @@ use Rattle.worker.specs.Holding.{idle}
 use Rattle.model.specs.Lists.{table}
 use Rattle.model.specs.Calls.{Lent}
 
--- the record that five bytes hold
+-- the record that seven bytes hold
 unfoldable pub recordFrom : List ℕ → TaskRecord
-recordFrom b = record { kind = getD b 0 0; k = getD b 1 0; i = getD b 2 0; j = getD b 3 0; mark = getD b 4 0 }
+recordFrom b = record { kind = getD b 0 0; k = getD b 1 0; i = getD b 2 0; j = getD b 3 0; mark = getD b 4 0; ties = getD b 5 0 + getD b 6 0 * 256 }
 
 unfoldable pub recordsFrom : List (List ℕ) → List TaskRecord
 recordsFrom l = map recordFrom l
@@ -22,9 +22,12 @@ recordsFrom l = map recordFrom l
 unfoldable pub marksFrom : List (List ℕ) → List ℕ
 marksFrom l = map (λ r. r .mark) (recordsFrom l)
 
+unfoldable pub tiesFrom : List (List ℕ) → List ℕ
+tiesFrom l = map (λ r. r .ties) (recordsFrom l)
+
 -- what is read past the end of the records
 abbrev pub blank : TaskRecord
-blank = record { kind = 0; k = 0; i = 0; j = 0; mark = 0 }
+blank = record { kind = 0; k = 0; i = 0; j = 0; mark = 0; ties = 0 }
 
 -- W workers, each as its slot has it; one without a slot is idle
 unfoldable pub crew : List Worker → ℕ → List Worker

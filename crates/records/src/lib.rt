@@ -1,15 +1,22 @@
-// Task records in a slice that the caller lends, five bytes each. Only these functions and those of record_changes look inside the bytes.
+// Task records in a slice that the caller lends, RECORD bytes each. Only these functions and those of record_changes look inside the bytes.
 ghost use mathlib.Core.Path.{_≡_};
-ghost use Prim.Native.Nat.{_<_};
+ghost use Prim.Native.Nat.{_+_, _*_, _<_};
 ghost use lib.ListN.{length, getD};
 ghost use Rattle.model.specs.Links.{mark as markAt};
 ghost use Rattle.records.specs.Records.{recordsFrom, marksFrom, blank};
 use model::TaskRecord;
 
-// The bytes of a task record as lent: kind, k, i, j and mark.
-pub const RECORD: usize = 5;
+// The bytes of a task record as lent: kind, k, i, j and mark, and the tie sum in two, the low one first.
+pub const RECORD: usize = 7;
 
 pub type Record = [u8; RECORD];
+
+// The number of two bytes, the low one first.
+fn joined(low: u8, high: u8) -> u16
+    ensures { λ r. ⌜ r ≡ low + high * 256 ⌝ }
+{
+    low as u16 + high as u16 * 256
+}
 
 // The record of task p.
 pub fn record_at(records: &[Record], p: usize) -> TaskRecord
@@ -23,6 +30,7 @@ pub fn record_at(records: &[Record], p: usize) -> TaskRecord
         i: b[2],
         j: b[3],
         mark: b[4],
+        ties: joined(b[5], b[6]),
     }
 }
 

@@ -1,25 +1,26 @@
--- What a state that passes refusal 4 has: the numbering's records, tasks held as their marks say, and list entries within their limits.
+-- What a state that passes refusal 4 has: the numbering's records, tasks held as their marks say, and tie sums and list entries within their limits.
 -- Assumes nothing.
 use Prim.Native.Nat.{ℕ, zero, suc, _+_, _*_, _/_, _%_, _≤_, _<_}
-use mathlib.Core.Bool.{Bool, true, false, not, _&&_, _||_}
-use mathlib.Core.Path.{_≡_}
-use mathlib.Core.List.{List, [], _∷_}
+use mathlib.Core.Bool.{Bool, true, false, not, cond, _&&_, _||_}
+use mathlib.Core.Path.{_≡_, refl, ap, _∙_}
+use mathlib.Core.List.{List, [], _∷_, map}
 use native.Mathlib.Omega.{arith}
 use lib.Dec.{eqb, leb, ltb}
 use lib.ListN.{length, getD}
 use borrow.Author.Tests.{eqb-true, eq-eqb, leb-true, ltb-true, ltb-false, not-false}
 use Rattle.model.specs.declared.TaskRecord.{TaskRecord}
 use Rattle.worker.specs.declared.Worker.{Worker}
-use Rattle.model.specs.Lists.{below, some, keep}
+use Rattle.model.specs.Lists.{below, some, keep, total}
 use Rattle.model.specs.Plan.{Plan}
 use Rattle.model.specs.Task.{Task, kindOf, kOf, iOf, jOf}
-use Rattle.model.specs.Links.{task, mark, taken}
-use Rattle.model.specs.Calls.{Lent, marksOf, recordOf, worker}
+use Rattle.model.specs.Links.{task, mark, taken, done, failed}
+use Rattle.model.specs.Calls.{Lent, marksOf, tiesOf, recordOf, worker}
 use Rattle.worker.specs.Holding.{idle}
-use Rattle.model.specs.Refusal.{holds, badRecord, badHold, badWorker, entryLimit, badEntry, damaged}
+use Rattle.model.specs.Refusal.{holds, nextColumn, badRecord, badHold, tieLimit, badTies, badWorker, entryLimit, badEntry, damaged}
 use Rattle.laws.proofs.Tests.{and-left, and-right, or-false-left, or-false-right, fails-below, and-true-not}
 use Rattle.laws.proofs.Blocks.{in-block, row-of, column-of}
 use Rattle.laws.proofs.Every.{getD-any}
+use Rattle.laws.proofs.Counts.{one-kept}
 
 -- the record r is task a's, and its mark is one of the five
 pub record Due (a : Task) (r : TaskRecord) : Type 0 where
@@ -60,6 +61,11 @@ due-of a r e =
       mark-most = leb-true (r .mark) 4 (and-right (eqb (r .kind) (kindOf a) && eqb (r .k) (kOf a) && eqb (r .i) (iOf a) && eqb (r .j) (jOf a)) (leb (r .mark) 4) e₅);
     }
 
+-- the next column of a task that worker w alone holds
+pub next-of : (s : Lent) (p w : ℕ) → w < length (s .workers) → holds p (worker s w) ≡ true → length (keep (holds p) (s .workers)) ≡ 1 → nextColumn s p ≡ worker s w .column
+unfolding nextColumn total worker
+next-of s p w h e l = ap (λ (ws : List Worker). total (map (λ v. v .column) ws)) (one-kept (holds p) idle (s .workers) w h e l) ∙ omega arith
+
 module _ (z : Plan) (s : Lent) (fine : damaged z s ≡ false) where
   abbrev bad-records : Bool
   bad-records = some (badRecord z s) (below (length (z .tasks)))
@@ -67,18 +73,24 @@ module _ (z : Plan) (s : Lent) (fine : damaged z s ≡ false) where
   abbrev bad-holds : Bool
   bad-holds = some (badHold z s) (below (length (z .tasks)))
 
+  abbrev bad-ties : Bool
+  bad-ties = some (badTies z s) (below (length (z .tasks)))
+
   abbrev bad-workers : Bool
   bad-workers = some (badWorker z s) (s .workers)
 
   abbrev bad-entries : Bool
   bad-entries = some (badEntry z s) (below (z .N * z .N * z .t))
 
-  three : (bad-records || bad-holds || bad-workers) ≡ false
+  four : (bad-records || bad-holds || bad-ties || bad-workers) ≡ false
   unfolding damaged
-  three = or-false-left (bad-records || bad-holds || bad-workers) bad-entries fine
+  four = or-false-left (bad-records || bad-holds || bad-ties || bad-workers) bad-entries fine
+
+  three : (bad-records || bad-holds || bad-ties) ≡ false
+  three = or-false-left (bad-records || bad-holds || bad-ties) bad-workers four
 
   two : (bad-records || bad-holds) ≡ false
-  two = or-false-left (bad-records || bad-holds) bad-workers three
+  two = or-false-left (bad-records || bad-holds) bad-ties three
 
   -- ---- records
 
@@ -118,7 +130,24 @@ module _ (z : Plan) (s : Lent) (fine : damaged z s ≡ false) where
 
   pub held : (w : ℕ) → w < length (s .workers) → worker s w .busy ≡ true → Held z s (worker s w)
   unfolding worker
-  held w h b = held-of (getD (s .workers) w idle) b (none-at (badWorker z s) (s .workers) idle w (or-false-right (bad-records || bad-holds) bad-workers three) h)
+  held w h b = held-of (getD (s .workers) w idle) b (none-at (badWorker z s) (s .workers) idle w (or-false-right (bad-records || bad-holds || bad-ties) bad-workers four) h)
+
+  -- ---- tie sums
+
+  pub sum-fits : (p : ℕ) → p < length (z .tasks) → getD (tiesOf s) p 0 ≤ tieLimit z s p
+  unfolding badTies
+  sum-fits p h = ltb-false (tieLimit z s p) (getD (tiesOf s) p 0) (fails-below (badTies z s) (length (z .tasks)) p (or-false-right (bad-records || bad-holds) bad-ties three) h)
+
+  -- the task that a busy worker holds
+  pub sum-held : (w : ℕ) → w < length (s .workers) → worker s w .busy ≡ true → getD (tiesOf s) (worker s w .task) 0 ≤ z .t * worker s w .column
+  unfolding tieLimit holds
+  sum-held w h b =
+      let v = worker s w in
+      let e = held w h b in
+      let next = next-of s (v .task) w h (unfold holds in rw b (eq-eqb (v .task) (v .task) refl)) (eqb-true _ 1 (one-holder (v .task) (e .exists) (e .is-taken))) in
+      let limit : tieLimit z s (v .task) ≡ z .t * v .column = unfold tieLimit in
+      (ap (λ (m : ℕ). cond (eqb m done || eqb m failed) (z .t * z .t) (cond (eqb m taken) (z .t * nextColumn s (v .task)) 0)) (e .is-taken) ∙ ap (λ (c : ℕ). z .t * c) next) in
+      omega (arith, sum-fits (v .task) (e .exists), limit)
 
   -- ---- list entries
 
@@ -127,6 +156,6 @@ module _ (z : Plan) (s : Lent) (fine : damaged z s ≡ false) where
   unfolding damaged badEntry
   entry-fits i j x hi hj hx =
       let at : (i * z .N + j) * z .t + x < z .N * z .N * z .t = in-block (z .N * z .N) (z .t) (i * z .N + j) x (in-block (z .N) (z .N) i j hi hj) hx in
-      let e = fails-below (badEntry z s) (z .N * z .N * z .t) ((i * z .N + j) * z .t + x) (or-false-right (bad-records || bad-holds || bad-workers) bad-entries fine) at in
+      let e = fails-below (badEntry z s) (z .N * z .N * z .t) ((i * z .N + j) * z .t + x) (or-false-right (bad-records || bad-holds || bad-ties || bad-workers) bad-entries fine) at in
       let f = ltb-false (entryLimit z (((i * z .N + j) * z .t + x) / z .t / z .N) (((i * z .N + j) * z .t + x) / z .t % z .N)) (getD (s .buffers .lists) ((i * z .N + j) * z .t + x) 0) e in
       rw (row-of (z .t) (i * z .N + j) x hx, row-of (z .N) i j hj, column-of (z .N) i j hj) at f

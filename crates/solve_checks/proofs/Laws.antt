@@ -20,10 +20,10 @@ use Rattle.model.specs.Tile.{allFinite}
 use Rattle.model.specs.Plan.{plan, planOf, order}
 use Rattle.model.specs.Links.{mark, finished}
 use Rattle.model.specs.Loops.{outcome}
-use Rattle.model.specs.Calls.{Lent, marksOf, stateOf}
+use Rattle.model.specs.Calls.{Lent, marksOf, tiesOf, stateOf}
 use Rattle.model.specs.Refusal.{refuse, badSizes, badLengths, damaged, firstNotFinite, unfinished}
 use Rattle.model.specs.Solve.{unlessGood, solveAnswer}
-use Rattle.records.specs.Records.{marksFrom, lent}
+use Rattle.records.specs.Records.{marksFrom, tiesFrom, lent}
 use Rattle.checks.specs.Checks.{Sized}
 use Rattle.finite_numbers.specs.declared.Lowest.{Lowest}
 use Rattle.finite_numbers.specs.declared.Lowest.the-variants.{None, At}
@@ -80,9 +80,9 @@ module _ (z : Sizes) (m : List Float) (l : List ℕ) (r : List (List ℕ)) (ws :
         let (some, first) = some-first (unfinished (planOf z) s) g p found-is q in
         sym (refuses 8 _ (not (eqb (length (unfinished (planOf z) s)) 0)) _ (ap not some) ∙ ap (λ (k : ℕ). Refused 8 k) first)
 
-    module _ (q : g ≡ None) (o : Outcome) (is : o ≡ outcome (planOf z) (record { buffers = record { matrix = m; lists = l }; marks = marksFrom r })) where
+    module _ (q : g ≡ None) (o : Outcome) (is : o ≡ outcome (planOf z) (record { buffers = record { matrix = m; lists = l }; marks = marksFrom r; ties = tiesFrom r })) where
       rest-then : unlessGood o (refuse 3 (firstNotFinite y) (not (allFinite y)) Accepted) ≡ restAnswer z s y
-      unfolding restAnswer stateOf marksOf lent marksFrom
+      unfolding restAnswer stateOf marksOf tiesOf lent marksFrom tiesFrom
       rest-then =
           rw is (sym (passes 8 (firstOr (unfinished (planOf z) s) (λ p. p) 0) (not (eqb (length (unfinished (planOf z) s)) 0)) _ (ap not (none-first (unfinished (planOf z) s) g found-is q))))
 

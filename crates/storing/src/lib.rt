@@ -1,4 +1,4 @@
-// Copies task records from a slice of five bytes each back to a lent slice of structs.
+// Copies task records from a slice of RECORD bytes each back to a lent slice of structs.
 ghost use mathlib.Core.Path.{_≡_};
 ghost use Prim.Native.Nat.{_-_, _≤_};
 ghost use lib.ListN.{length};

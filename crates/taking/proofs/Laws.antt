@@ -10,7 +10,7 @@ use Rattle.model.specs.declared.Sizes.{Sizes}
 use Rattle.worker.specs.declared.Worker.{Worker}
 use Rattle.model.specs.declared.Answer.{Answer}
 use Rattle.model.specs.Plan.{planOf}
-use Rattle.model.specs.Calls.{Lent, marked, took}
+use Rattle.model.specs.Calls.{Lent, withMark, changed, took}
 use Rattle.worker.specs.Holding.{holding}
 use Rattle.model.specs.Refusal.{Reply, replied, takeAnswer, takeCall}
 use Rattle.records.specs.Records.{recordsFrom, crew, lent}
@@ -32,7 +32,7 @@ module _ (z : Sizes) (m : List Float) (l : List ℕ) (r : List (List ℕ)) (ws :
       pub accepts-then : Accepting z m l r ws count w p
       accepts-then = accepting z m l r ws count w p (sym e ∙ is-accepted a b f q)
 
-      pub taken-by : length ws ≡ 32 → (r' : List (List ℕ)) (h : Worker) → recordsFrom r' ≡ marked p 1 (recordsFrom r) → h ≡ holding p 0
+      pub taken-by : length ws ≡ 32 → (r' : List (List ℕ)) (h : Worker) → recordsFrom r' ≡ changed p (withMark 1) (recordsFrom r) → h ≡ holding p 0
           → _≡_ {A = Reply} (record { answer = a; left = lent m l r' (set ws w h) count }) (takeCall z w p old)
       unfolding takeCall replied lent took
       taken-by long r' h g i =

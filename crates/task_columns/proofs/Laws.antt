@@ -6,18 +6,16 @@ use mathlib.Core.List.{List}
 use lib.Dec.{eqb}
 use lib.Ieee.{Float}
 use Rattle.model.specs.declared.Sizes.{Sizes}
+use Rattle.model.specs.declared.ColumnEnd.the-variants.{Spoiled}
 use Rattle.model.specs.declared.TaskRecord.{TaskRecord}
 use Rattle.worker.specs.declared.Worker.{Worker}
 use Rattle.model.specs.Task.{tasks}
 use Rattle.model.specs.Plan.{plan, planOf}
 use Rattle.model.specs.Links.{task, spoils}
-use Rattle.model.specs.Buffer.{Buffers, Ended, filled, columnEnds}
+use Rattle.model.specs.Buffer.{Buffers, Ended, endedWith, filled, columnEnds}
 use Rattle.model.specs.Calls.{Lent, marksOf, columnOf}
 use Rattle.records.specs.Records.{marksFrom, lent}
 use Rattle.checks.specs.Checks.{taskFrom}
-
-pub with-mark : (x : Buffers) (k j : ℕ) (e : Ended) → k ≡ j → record { left = x; mark = j } ≡ e → record { left = x; mark = k } ≡ e
-with-mark x k j e q g = (λ i. record { left = x; mark = q i }) ∙ g
 
 module _ (z : Sizes) (m : List Float) (l : List ℕ) (r : List (List ℕ)) (ws : List Worker) (p c : ℕ) where
   abbrev s : Lent
@@ -27,10 +25,10 @@ module _ (z : Sizes) (m : List Float) (l : List ℕ) (r : List (List ℕ)) (ws :
   buffers = record { matrix = m; lists = l }
 
   module _ (a : TaskRecord) (named : taskFrom a ≡ task (tasks (z .tiles)) p) (b : Bool) (e : b ≡ (eqb c 0 && spoils (tasks (z .tiles)) (marksFrom r) p)) where
-    pub task-spoiled : b ≡ true → (left : Buffers) → left ≡ filled (planOf z) (taskFrom a) buffers → _≡_ {A = Ended} (record { left = left; mark = 4 }) (columnOf (planOf z) s p c)
+    pub task-spoiled : b ≡ true → (left : Buffers) → left ≡ filled (planOf z) (taskFrom a) buffers → endedWith Spoiled left ≡ columnOf (planOf z) s p c
     unfolding columnOf marksOf lent marksFrom plan
     task-spoiled q left g =
-        rw (sym e ∙ q, columnOf) (λ x. record { left = (g ∙ ap (λ y. filled (planOf z) y buffers) named) x; mark = 4 })
+        rw (sym e ∙ q, columnOf) (λ x. endedWith Spoiled ((g ∙ ap (λ y. filled (planOf z) y buffers) named) x))
 
     pub task-worked : b ≡ false → (end : Ended) → end ≡ columnEnds (planOf z) (taskFrom a) c buffers → end ≡ columnOf (planOf z) s p c
     unfolding columnOf marksOf lent marksFrom plan

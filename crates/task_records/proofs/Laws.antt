@@ -114,7 +114,7 @@ module _ (n : ℕ) (rs xs : List TaskRecord) where
     pub copied-one : copied count p rs xs ≡ copied n 0 rs xs
     copied-one = ⊎-elim within beyond (lt-or-le p n)
 
--- ---- copies as five bytes each
+-- ---- copies as bytes
 
 module _ {A B : Type 0} (f : A → B) where
   map-take : (n : ℕ) (l : List A) → map f (take n l) ≡ take n (map f l)

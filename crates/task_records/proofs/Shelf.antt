@@ -53,10 +53,17 @@ module _ {M : Type 1} (𝓤 : URA M) (H : Heap 𝓤) (A : Atoms 𝓤) where
   pub typed : Given 𝓤 H A → (e : TaskRecord) → P e (vals e) → Typed (val e)
   typed W e g = LL.lawful T₀.the-type T′.the-laws 𝓤 H A W .typed e _ g .0
 
--- record p lies 5 · p bytes on
-pub place-5 : (o p : ℕ) → place 5 o p ≡ p * 5 + o
-place-5 o p = place-is 5 o p
+-- the bytes of a copy, `records::RECORD`
+abbrev pub bytes : ℕ
+bytes = 7
 
--- and that offset is a usize
-pub offset-fits : {n p : ℕ} → Room R n → p < n → Fits w64 (p * 5)
+-- the bytes from a record to the next in a slice of structs
+abbrev pub width : ℕ
+width = 8
+
+pub place-at : (o p : ℕ) → place width o p ≡ p * width + o
+place-at o p = place-is width o p
+
+-- and where record p lies is a usize
+pub offset-fits : {n p : ℕ} → Room R n → p < n → Fits w64 (p * width)
 offset-fits {n} {p} room l = record { fits = omega (arith, room .1, l) }

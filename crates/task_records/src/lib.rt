@@ -1,4 +1,4 @@
-// Task records as a lent slice of structs, of which the calls work on copies in a slice of five bytes each. Only the functions of
+// Task records as a lent slice of structs, of which the calls work on copies in a slice of RECORD bytes each. Only the functions of
 // loading and storing look inside the structs.
 ghost use mathlib.Core.Path.{_≡_};
 ghost use mathlib.Core.Bool.{cond};

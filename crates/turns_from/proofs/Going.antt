@@ -16,11 +16,11 @@ use Rattle.model.specs.declared.Answer.the-variants.{Accepted}
 use Rattle.model.specs.declared.RunAnswer.{RunAnswer}
 use Rattle.model.specs.declared.RunAnswer.the-variants.{Finished, Spent}
 use Rattle.model.specs.Lists.{every}
-use Rattle.model.specs.Task.{tasks}
+use Rattle.model.specs.Task.{T-1, tasks}
 use Rattle.model.specs.Plan.{plan, planOf}
 use Rattle.model.specs.Links.{task, mark, finished, ready}
-use Rattle.model.specs.Buffer.{Ended, finiteTiles}
-use Rattle.model.specs.Calls.{Lent, RunEnd, marksOf, withMark, marked, worker, took, advanced, allFinished, runFrom}
+use Rattle.model.specs.Buffer.{Ended, markAfter, tiesAfter, finiteTiles}
+use Rattle.model.specs.Calls.{Lent, RunEnd, marksOf, recordOf, withMark, withColumn, changed, worker, took, advanced, allFinished, runFrom}
 use Rattle.worker.specs.Holding.{idle, holding}
 use Rattle.model.specs.Refusal.{badSizes, badLengths, damaged, badTiles, runAnswer}
 use Rattle.laws.proofs.Refusals.{passed}
@@ -75,13 +75,17 @@ module _ (z : Sizes) (m : List Float) (l : List ℕ) (r : List (List ℕ)) (ws :
 
 -- ---- the marks after one has changed
 
-marks-after : (r r' : List (List ℕ)) (p v : ℕ) → recordsFrom r' ≡ marked p v (recordsFrom r) → marksFrom r' ≡ set (marksFrom r) p v
-unfolding marksFrom marked withMark
-marks-after r r' p v e = ap (map (λ (x : TaskRecord). x .mark)) e ∙ map-set (λ (x : TaskRecord). x .mark) (recordsFrom r) p _
+-- f gives every record the mark v
+marks-after : (r r' : List (List ℕ)) (p v : ℕ) (f : TaskRecord → TaskRecord) → ((x : TaskRecord) → f x .mark ≡ v) → recordsFrom r' ≡ changed p f (recordsFrom r)
+    → marksFrom r' ≡ set (marksFrom r) p v
+unfolding marksFrom changed
+marks-after r r' p v f g e =
+    ap (map (λ (x : TaskRecord). x .mark)) e ∙ map-set (λ (x : TaskRecord). x .mark) (recordsFrom r) p _
+    ∙ ap (set (map (λ (x : TaskRecord). x .mark) (recordsFrom r)) p) (g (getD (recordsFrom r) p (recordOf (T-1 0))))
 
-none-in : (z : Sizes) (r r' : List (List ℕ)) (p v from : ℕ) → recordsFrom r' ≡ marked p v (recordsFrom r)
+none-in : (z : Sizes) (r r' : List (List ℕ)) (p v from : ℕ) (f : TaskRecord → TaskRecord) → ((x : TaskRecord) → f x .mark ≡ v) → recordsFrom r' ≡ changed p f (recordsFrom r)
     → NoneReady (tasks (z .tiles)) (set (marksFrom r) p v) from → NoneReady (tasks (z .tiles)) (marksFrom r') from
-none-in z r r' p v from e none = subst (λ (ms : List ℕ). NoneReady (tasks (z .tiles)) ms from) (sym (marks-after r r' p v e)) none
+none-in z r r' p v from f g e none = subst (λ (ms : List ℕ). NoneReady (tasks (z .tiles)) ms from) (sym (marks-after r r' p v f g e)) none
 
 -- a column leaves a mark that is taken, or finished
 still-taken : (v : ℕ) → 1 ≤ v → v ≤ 4 → finished v ≡ false → v ≡ 1
@@ -150,9 +154,9 @@ module _ {z : Sizes} {budget : ℕ} {all : RunEnd} {ws₀ : List Worker} {m : Li
     none-now : NoneReady (tasks (z .tiles)) (marksOf s) p
     none-now = subst (λ (ms : List ℕ). NoneReady (tasks (z .tiles)) ms p) (sym (marks-lent m l r ws W)) (low .none)
 
-    pub take-goes : p < length r → n < budget → (h : Worker) → h ≡ holding p 0 → (r' : List (List ℕ)) → recordsFrom r' ≡ marked p 1 (recordsFrom r)
+    pub take-goes : p < length r → n < budget → (h : Worker) → h ≡ holding p 0 → (r' : List (List ℕ)) → recordsFrom r' ≡ changed p (withMark 1) (recordsFrom r)
         → length r' ≡ length r → (u : ℕ) → u ≡ suc w % W → Going z budget all ws₀ m l r' (set ws w h) (n + 1) u (p + 1)
-    unfolding lent took
+    unfolding lent took withMark
     take-goes hp hn h e r' q k u f =
         let c : p < count z = subst (λ (x : ℕ). p < x) (records-long z m l r ws (g .whole)) hp in
         let rd : ready (tasks (z .tiles)) (marksOf s) p ≡ true = ap (λ (ms : List ℕ). ready (tasks (z .tiles)) ms p) (marks-lent m l r ws W) ∙ low .found hp in
@@ -161,7 +165,7 @@ module _ {z : Sizes} {budget : ℕ} {all : RunEnd} {ws₀ : List Worker} {m : Li
         let o : suc p ≡ p + 1 = omega arith in
         record {
           whole = subst (Whole z) (sym t) (took-whole z s (g .whole) w p (g .turn-of) idle-now c rd);
-          none = none-in z r r' p 1 (p + 1) q (subst (NoneReady (tasks (z .tiles)) (set (marksFrom r) p 1)) o
+          none = none-in z r r' p 1 (p + 1) (withMark 1) (λ x. refl) q (subst (NoneReady (tasks (z .tiles)) (set (marksFrom r) p 1)) o
               (none-after-take (tasks (z .tiles)) (marksFrom r) p (subst (λ (x : ℕ). p < x) (sym (length-marks r)) hp) (low .none)));
           reached = omega arith;
           slots = length-set ws w h ∙ g .slots;
@@ -238,17 +242,20 @@ module _ {z : Sizes} {budget : ℕ} {all : RunEnd} {ws₀ : List Worker} {m : Li
     })
 
     module _ {m' : List Float} {l' : List ℕ} {r' : List (List ℕ)} {k : Worker} (o : Advanced z h m l r m' l' r' k) where
-      mark-bounds : (1 ≤ o .mark) × (o .mark ≤ 4)
+      abbrev left-mark : ℕ
+      left-mark = markAfter (o .end)
+
+      mark-bounds : (1 ≤ left-mark) × (left-mark ≤ 4)
       mark-bounds =
           let q = ap (λ (x : Ended). x .mark) (o .ends ws) in
           let e = column-ends z s (g .whole .stated) (h .task) (h .column) task-fits in
           (subst (λ (x : ℕ). 1 ≤ x) (sym q) (e .begun), subst (λ (x : ℕ). x ≤ 4) (sym q) (e .most))
 
       advanced-is : lent m' l' r' (set ws w k) W ≡ advanced (planOf z) w s
-      advanced-is = state-after z m l r ws w long (g .turn-of) h refl m' l' r' (o .mark) k (o .ends ws) (o .records) (o .worker)
+      advanced-is = state-after z m l r ws w long (g .turn-of) h refl m' l' r' (o .end) k (o .ends ws) (o .records) (o .worker)
 
       none-then : (f : ℕ) → f ≡ cond (k .busy) from (min from (suc (h .task))) → (f ≤ from) × NoneReady (tasks (z .tiles)) (marksFrom r') f
-      none-then f e = go (finished (o .mark)) refl (o .worker)
+      none-then f e = go (finished left-mark) refl (o .worker)
         where
           p : h .task < length (marksFrom r)
           p = subst (λ (x : ℕ). h .task < x) (sym (length-marks r ∙ records-long z m l r ws (g .whole))) task-fits
@@ -256,20 +263,20 @@ module _ {z : Sizes} {budget : ℕ} {all : RunEnd} {ws₀ : List Worker} {m : Li
           from-is : (x : Worker) → k ≡ x → f ≡ cond (x .busy) from (min from (suc (h .task)))
           from-is x q = e ∙ ap (λ (y : Worker). cond (y .busy) from (min from (suc (h .task)))) q
 
-          go : (b : Bool) → finished (o .mark) ≡ b → k ≡ cond b idle (holding (h .task) (suc (h .column))) → (f ≤ from) × NoneReady (tasks (z .tiles)) (marksFrom r') f
+          go : (b : Bool) → finished left-mark ≡ b → k ≡ cond b idle (holding (h .task) (suc (h .column))) → (f ≤ from) × NoneReady (tasks (z .tiles)) (marksFrom r') f
           go true a q =
               let j : f ≡ min from (suc (h .task)) = from-is idle q in (
                 subst (λ (x : ℕ). x ≤ from) (sym j) (min-le-left from (suc (h .task))),
                 subst (NoneReady (tasks (z .tiles)) (marksFrom r')) (sym j)
-                    (none-in z r r' (h .task) (o .mark) (min from (suc (h .task))) (o .records)
-                    (none-after (tasks (z .tiles)) (marksFrom r) (h .task) (o .mark) from p (λ d. omega (arith, mark-bounds .0)) (g .none))),
+                    (none-in z r r' (h .task) left-mark (min from (suc (h .task))) (withColumn left-mark (tiesAfter (o .end))) (λ x. unfold withColumn in refl) (o .records)
+                    (none-after (tasks (z .tiles)) (marksFrom r) (h .task) left-mark from p (λ d. omega (arith, mark-bounds .0)) (g .none))),
               )
           go false a q =
               let j : f ≡ from = from-is (holding (h .task) (suc (h .column))) q in (
                 omega arith,
                 subst (NoneReady (tasks (z .tiles)) (marksFrom r')) (sym j)
-                    (none-in z r r' (h .task) (o .mark) from (o .records)
-                    (subst (λ (x : ℕ). NoneReady (tasks (z .tiles)) (set (marksFrom r) (h .task) x) from) (sym (still-taken (o .mark) (mark-bounds .0) (mark-bounds .1) a))
+                    (none-in z r r' (h .task) left-mark from (withColumn left-mark (tiesAfter (o .end))) (λ x. unfold withColumn in refl) (o .records)
+                    (subst (λ (x : ℕ). NoneReady (tasks (z .tiles)) (set (marksFrom r) (h .task) x) from) (sym (still-taken left-mark (mark-bounds .0) (mark-bounds .1) a))
                     (none-kept (tasks (z .tiles)) (marksFrom r) (h .task) p from (g .none)))),
               )
 

@@ -17,6 +17,7 @@ pub fn record_of(a: Triple) -> TaskRecord
                 i: 0,
                 j: 0,
                 mark: 0,
+                ties: 0,
             };
         }
         return TaskRecord {
@@ -25,6 +26,7 @@ pub fn record_of(a: Triple) -> TaskRecord
             i: 0,
             j: a.j,
             mark: 0,
+            ties: 0,
         };
     }
     if a.j == a.k {
@@ -34,6 +36,7 @@ pub fn record_of(a: Triple) -> TaskRecord
             i: a.i,
             j: 0,
             mark: 0,
+            ties: 0,
         };
     }
     TaskRecord {
@@ -42,5 +45,6 @@ pub fn record_of(a: Triple) -> TaskRecord
         i: a.i,
         j: a.j,
         mark: 0,
+        ties: 0,
     }
 }

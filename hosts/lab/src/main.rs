@@ -1,4 +1,4 @@
-//! The laboratory's command: factors systems on threads, solves them, checks archived results and shows files. `lab --help` tells how.
+//! The laboratory's command: factors systems on threads, solves them, checks archived results, lists tasks and shows files. `lab --help` tells how.
 
 mod arguments;
 mod closed;
@@ -57,6 +57,11 @@ fn run(command: Command) -> Result<u8, Failure> {
             let line = difference.as_deref().unwrap_or("equal");
             output::write(None, format!("{line}\n").as_bytes())?;
             return Ok(difference.is_some() as u8);
+        }
+        Command::Tasks { system, workers, output } => {
+            let system = files::system(&system)?;
+            let done = work::factor(&system, workers)?;
+            output::write(output.as_deref(), words::task_lines(system.tiles, &done.records).as_bytes())?;
         }
         Command::Show { file, exact } => {
             let form = if exact { decimals::exact } else { decimals::short };

@@ -1,13 +1,13 @@
-//! What the command says: its help, outcomes, refusals' lines and answers.
+//! What the command says: its help, outcomes, tasks, refusals' lines and answers.
 
 use std::fmt::Write;
 
-use solumivaf::{Outcome, Refusal};
+use solumivaf::{Outcome, Record, Refusal};
 
 use crate::decimals::short;
 
 pub const HELP: &str = "\
-lab: factors systems on threads, solves them, checks archived results and shows files
+lab: factors systems on threads, solves them, checks archived results, lists tasks and shows files
 
   lab factor SYSTEM --workers W [--output FILE]
       prints the result file of a system file, or writes it to FILE
@@ -15,12 +15,15 @@ lab: factors systems on threads, solves them, checks archived results and shows 
       prints the answers, a line for each row: the row from 0 on, the 16 digits of the answer's bits, and the shortest decimal for them
   lab verify SYSTEM RESULT --workers W
       works a system again and compares every bit with its archived result: prints 'equal', or the first difference
+  lab tasks SYSTEM [--workers W] [--output FILE]
+      prints a line for each task of a system: its number from 0 on, its name, done, failed or spoiled, and the sum of its ties
   lab show FILE [--exact]
       prints a system, a result or a refusal's line as a table, with the fewest digits that stand for the same bits, or with exact decimals
   lab --help
       prints this
 
-W, from 1 to 32, is the number of workers, each a thread of its own; solve has 1 where none is told. No number of workers changes a bit.
+W, from 1 to 32, is the number of workers, each a thread of its own; solve and tasks have 1 where none is told. No number of workers changes a bit.
+Ties show where a pivot could have come from another row: every other candidate of its magnitude is one, and a pivot of zero has none.
 RIGHT-SIDE has a number for each row, parted by blanks, commas or line ends; from # to the end of its line is comment. A number is a decimal
 such as 0.25 or -1e-3, or with --bits the 16 hexadecimal digits of its bits. 16 digits without --bits and without a point are refused.
 A file named - is standard input. With --output the file named is replaced once the new one is whole. Progress goes to standard error.
@@ -67,6 +70,21 @@ pub fn outcome(tiles: usize, outcome: Outcome) -> String {
             format!("singular at row {row}: its number on the final diagonal is zero")
         }
     }
+}
+
+/// A line for each task of a finished system: its number, its name, how it ended, and the sum of its ties.
+pub fn task_lines(tiles: usize, records: &[Record]) -> String {
+    let mut text = String::new();
+    for (number, record) in records.iter().enumerate() {
+        let name = task_name(tiles, number).unwrap_or_default();
+        let ended = match record.mark {
+            2 => "done",
+            3 => "failed",
+            _ => "spoiled",
+        };
+        let _ = writeln!(text, "{number} {name} {ended} {}", record.ties());
+    }
+    text
 }
 
 /// A line 05 in words, as tools/table says it: the program's refusal 1 has one reason more than the library's.

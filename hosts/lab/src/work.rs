@@ -5,7 +5,7 @@ use std::sync::{Condvar, Mutex, MutexGuard};
 use std::thread;
 use std::time::Duration;
 
-use solumivaf::{Ending, Error, Lent, Outcome, Refusal, Sizes};
+use solumivaf::{Ending, Error, Lent, Outcome, Record, Refusal, Sizes};
 
 use crate::failure::Failure;
 use crate::files::System;
@@ -20,6 +20,7 @@ const PAUSE: Duration = Duration::from_millis(100);
 pub struct Factored {
     pub matrix: Vec<f64>,
     pub lists: Vec<u8>,
+    pub records: Vec<Record>,
     pub outcome: Outcome,
 }
 
@@ -171,7 +172,7 @@ pub fn factor(system: &System, workers: usize) -> Result<Factored, Failure> {
                 let _ =
                     writeln!(io::stderr(), "lab: the outcome is {}", words::outcome(system.tiles, outcome));
             }
-            Ok(Factored { matrix: lent.matrix, lists: lent.lists, outcome })
+            Ok(Factored { matrix: lent.matrix, lists: lent.lists, records: lent.records, outcome })
         }
         Ending::Unfinished(task) => Err(Failure::of(Refusal { number: 8, place: task })),
     }

@@ -12,8 +12,8 @@ fn help() {
     let help = lab(&["--help"]);
     assert_eq!((help.status, help.err.as_str()), (0, ""));
     for word in [
-        "factor", "solve", "verify", "show", "--workers", "--output", "--bits", "--exact", "Status: 0",
-        "RIGHT-SIDE",
+        "factor", "solve", "verify", "tasks", "show", "--workers", "--output", "--bits", "--exact",
+        "Status: 0", "RIGHT-SIDE", "ties",
     ] {
         assert!(help.out.contains(word), "{word}");
     }
@@ -42,6 +42,9 @@ fn wrong_uses() {
         (&["solve", &system], "solve takes SYSTEM and RIGHT-SIDE; files told: 1"),
         (&["verify", &system, &result], "verify needs --workers W"),
         (&["verify", &system, "--workers", "1"], "verify takes SYSTEM and RESULT; files told: 1"),
+        (&["tasks"], "tasks takes SYSTEM; files told: 0"),
+        (&["tasks", &system, "--workers", "0"], "--workers is 1 to 32, not '0'"),
+        (&["tasks", &system, "--exact"], "tasks has no option '--exact'"),
         (&["show"], "show takes FILE; files told: 0"),
         (&["show", &system, "--hex"], "show has no option '--hex'"),
         (&["--show", &system], "there is no command '--show'"),
@@ -69,12 +72,13 @@ fn unreadable_files() {
 }
 
 /// Each command, with words to which it has an answer.
-fn answering() -> [Vec<String>; 5] {
+fn answering() -> [Vec<String>; 6] {
     let (system, right, result) = ("small.system", "small.right", "small.result");
     [
         vec!["factor".into(), example("reel.system"), "--workers".into(), "2".into()],
         vec!["solve".into(), example(system), example(right)],
         vec!["verify".into(), example(system), example(result), "--workers".into(), "1".into()],
+        vec!["tasks".into(), example(system)],
         vec!["show".into(), example(system)],
         vec!["--help".into()],
     ]
@@ -152,6 +156,7 @@ fn floating_point_mode() {
             &["factor", &example("small.system"), "--workers", "2"][..],
             &["solve", &example("small.system"), &example("small.right")],
             &["verify", &example("small.system"), &example("small.result"), "--workers", "1"],
+            &["tasks", &example("small.system")],
             &["show", &example("small.system")],
         ] {
             let ended = ended(command(words).env("LD_PRELOAD", &library).output().unwrap());

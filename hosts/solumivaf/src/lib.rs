@@ -37,13 +37,15 @@ mod lengths;
 mod raw;
 mod refusal;
 
+use std::fmt;
+
 pub use arithmetic::arithmetic_is_default;
 pub use files::{read_result, read_sizes, read_system, write_result, write_system};
 pub use lengths::{lists_length, matrix_length, records_length, result_length, system_length};
 pub use refusal::{Error, Refusal};
 
 /// The version of the interface, as hosts/solumivaf.h has it.
-pub const VERSION: u32 = 3;
+pub const VERSION: u32 = 4;
 
 /// The number of worker slots, and the most workers.
 pub const SLOTS: usize = 32;
@@ -59,9 +61,9 @@ pub struct Sizes {
     pub workers: usize,
 }
 
-/// A task: its kind, its k, i and j (0 where the kind has none), and its mark.
+/// A task: its kind, its k, i and j (0 where the kind has none), its mark, and the sum of its [`ties`](Record::ties).
 #[repr(C)]
-#[derive(Clone, Copy, Debug, Default, PartialEq, Eq)]
+#[derive(Clone, Copy, Default, PartialEq, Eq)]
 pub struct Record {
     /// 1 to 4 for T-1 to T-4.
     pub kind: u8,
@@ -73,6 +75,47 @@ pub struct Record {
     pub j: u8,
     /// 0 while it waits, 1 once taken, 2 when done, 3 when failed, 4 when spoiled.
     pub mark: u8,
+    /// The sum as it crosses, the low byte first.
+    ties: [u8; 2],
+}
+
+impl Record {
+    /// The sum of its ties: in each column that a T-1 or T-3 has completed, the other candidates of the pivot's magnitude. A pivot of zero has
+    /// none. T-2, T-4 and spoiled tasks have 0.
+    ///
+    /// ```
+    /// use solumivaf::{Lent, Sizes};
+    ///
+    /// // The rows 2 2 and -2 1 as one tile: in column 0 the second row ties with the first.
+    /// let sizes = Sizes { tiles: 1, side: 2, workers: 1 };
+    /// let mut lent = Lent::of(sizes, vec![2.0, 2.0, -2.0, 1.0]);
+    /// lent.open(sizes)?;
+    /// lent.run(sizes, u64::MAX)?;
+    /// assert_eq!(lent.records[0].ties(), 1);
+    /// # Ok::<(), solumivaf::Error>(())
+    /// ```
+    pub fn ties(&self) -> u16 {
+        u16::from_le_bytes(self.ties)
+    }
+
+    /// Sets that sum, in a record that a host has stored and brings back.
+    pub fn set_ties(&mut self, sum: u16) {
+        self.ties = sum.to_le_bytes();
+    }
+}
+
+/// The tie sum is shown as a number.
+impl fmt::Debug for Record {
+    fn fmt(&self, out: &mut fmt::Formatter) -> fmt::Result {
+        out.debug_struct("Record")
+            .field("kind", &self.kind)
+            .field("k", &self.k)
+            .field("i", &self.i)
+            .field("j", &self.j)
+            .field("mark", &self.mark)
+            .field("ties", &self.ties())
+            .finish()
+    }
 }
 
 /// The worker slots: slot v is idle, or holds a task and its next column. The first `count` are the workers that are lent, and a call told another W
@@ -239,7 +282,7 @@ impl Lent {
         }
     }
 
-    /// Starts the work on the matrix: lists of 0, every task waiting, every worker idle. Tests the version of the library too.
+    /// Starts the work on the matrix: lists of 0, every task waiting and without ties, every worker idle. Tests the version of the library too.
     pub fn open(&mut self, sizes: Sizes) -> Result<(), Error> {
         version()?;
         arithmetic()?;
@@ -253,7 +296,7 @@ impl Lent {
         Ok(accepted(told.number, told.place)?)
     }
 
-    /// A busy worker does the next column of its task. The task's mark tells how it goes on.
+    /// A busy worker does the next column of its task. The task's mark tells how it goes on; the ties of a completed column join its sum.
     pub fn column(&mut self, sizes: Sizes, worker: usize) -> Result<(), Error> {
         arithmetic()?;
         let told = call!(solumivaf_column, sizes, self, as_mut_ptr, as_mut_ptr, as_mut_ptr, worker);

@@ -15,7 +15,7 @@ fn same_answers_and_states() {
     let mut calls = 0;
     let mut seed = 1;
     while calls < 20_000 {
-        calls += compare::calls_of(seed, 4000);
+        calls += compare::calls_of(seed, 4600);
         seed += 1;
     }
 }
@@ -83,6 +83,8 @@ fn couple_before_apply() {
         assert_eq!(lent.lists, last.lists);
         let marks: Vec<u8> = lent.records.iter().map(|record| record.mark).collect();
         assert_eq!(marks, last.marks);
+        let sums: Vec<u16> = lent.records.iter().map(Record::ties).collect();
+        assert_eq!(sums, last.tie_sums);
         assert_eq!(lent.outcome(sizes), Ok(Ending::Ended(compare::outcome_of(last.outcome))));
     }
 }

@@ -10,7 +10,6 @@ use reference::script::{Player, COLUMN, LEND, OPENING, OUTCOME, RUN, SOLVE, TAKE
 use reference::solve::{Ending, Outcome};
 use reference::vectors::script;
 use reference::writer::Options;
-use solumivaf::Record;
 
 /// N, t and W, as C has them.
 #[repr(C)]
@@ -20,17 +19,29 @@ struct Sizes {
     workers: usize,
 }
 
+/// A task's record, as C has it.
+#[repr(C)]
+#[derive(Debug, PartialEq)]
+struct TaskRecord {
+    kind: u8,
+    k: u8,
+    i: u8,
+    j: u8,
+    ties: u16,
+    mark: u8,
+}
+
 // A slice is its start and its length. To be safe a call needs starts and lengths that belong together, of buffers that do not overlap and that
 // no one else writes: each is that of a Vec of its own, borrowed for the call. The functions require nothing else.
 #[rustfmt::skip]
 #[link(name = "bench_structs", kind = "static")]
 extern "C" {
-    fn bench_open(z: Sizes, matrix: *const f64, matrix_length: usize, lists: *mut u8, lists_length: usize, records: *mut Record, records_length: usize) -> u8;
-    fn bench_take(z: Sizes, matrix: *const f64, matrix_length: usize, lists: *const u8, lists_length: usize, records: *mut Record, records_length: usize, w: usize, p: usize) -> u8;
-    fn bench_column(z: Sizes, matrix: *mut f64, matrix_length: usize, lists: *mut u8, lists_length: usize, records: *mut Record, records_length: usize, w: usize, p: u16, c: u8) -> u8;
-    fn bench_run(z: Sizes, matrix: *mut f64, matrix_length: usize, lists: *mut u8, lists_length: usize, records: *mut Record, records_length: usize, budget: u64) -> u64;
-    fn bench_outcome(z: Sizes, matrix: *const f64, matrix_length: usize, lists: *const u8, lists_length: usize, records: *const Record, records_length: usize) -> u8;
-    fn bench_solve(z: Sizes, matrix: *const f64, matrix_length: usize, lists: *const u8, lists_length: usize, records: *const Record, records_length: usize, right: *const f64, right_length: usize, answers: *mut f64, answers_length: usize) -> u8;
+    fn bench_open(z: Sizes, matrix: *const f64, matrix_length: usize, lists: *mut u8, lists_length: usize, records: *mut TaskRecord, records_length: usize) -> u8;
+    fn bench_take(z: Sizes, matrix: *const f64, matrix_length: usize, lists: *const u8, lists_length: usize, records: *mut TaskRecord, records_length: usize, w: usize, p: usize) -> u8;
+    fn bench_column(z: Sizes, matrix: *mut f64, matrix_length: usize, lists: *mut u8, lists_length: usize, records: *mut TaskRecord, records_length: usize, w: usize, p: u16, c: u8) -> u8;
+    fn bench_run(z: Sizes, matrix: *mut f64, matrix_length: usize, lists: *mut u8, lists_length: usize, records: *mut TaskRecord, records_length: usize, budget: u64) -> u64;
+    fn bench_outcome(z: Sizes, matrix: *const f64, matrix_length: usize, lists: *const u8, lists_length: usize, records: *const TaskRecord, records_length: usize) -> u8;
+    fn bench_solve(z: Sizes, matrix: *const f64, matrix_length: usize, lists: *const u8, lists_length: usize, records: *const TaskRecord, records_length: usize, right: *const f64, right_length: usize, answers: *mut f64, answers_length: usize) -> u8;
 }
 
 /// A call's own numbers.
@@ -80,8 +91,15 @@ fn with_workers(lent: &Lent, workers: u64, held: Option<Worker>, no_other: bool)
     copy
 }
 
-fn records_of(lent: &Lent) -> Vec<Record> {
-    let of = |r: &reference::lent::Record| Record { kind: r.kind, k: r.k, i: r.i, j: r.j, mark: r.mark };
+fn records_of(lent: &Lent) -> Vec<TaskRecord> {
+    let of = |r: &reference::lent::Record| TaskRecord {
+        kind: r.kind,
+        k: r.k,
+        i: r.i,
+        j: r.j,
+        mark: r.mark,
+        ties: r.tie_sum,
+    };
     lent.records.iter().map(of).collect()
 }
 
@@ -117,7 +135,7 @@ fn theirs(told: &Told, lent: &mut Lent, answers: &mut [f64]) -> u64 {
 }
 
 /// The library's call on buffers of its own, which it leaves: the same number.
-fn ours(told: &Told, held: Worker, lent: &mut Lent, records: &mut [Record], answers: &mut [f64]) -> u64 {
+fn ours(told: &Told, held: Worker, lent: &mut Lent, records: &mut [TaskRecord], answers: &mut [f64]) -> u64 {
     let z = Sizes {
         tiles: told.sizes.tiles as usize,
         side: told.sizes.side as usize,
@@ -161,7 +179,7 @@ fn same_calls_over_structs() {
     let mut met = std::collections::BTreeMap::new();
     for seed in 1..=3 {
         let mut player = Player::new();
-        for line in script(Options { seed, calls: 3200, max_bytes: 1_770_000 }).lines() {
+        for line in script(Options { seed, calls: 4300, max_bytes: 2_048_000 }).lines() {
             if !line.starts_with(&format!("{LEND:X}")) {
                 let mut told = told(line);
                 let held = player.lent.workers.get(told.first as usize).copied().unwrap_or(IDLE);

@@ -10,7 +10,7 @@ use reference::loops::old_loops;
 use reference::numbers::bits;
 use reference::rng::Rng;
 use reference::tile::Shape;
-use solumivaf::{Lent, Sizes};
+use solumivaf::{Lent, Record, Sizes};
 
 const THREADS: usize = 8;
 const IDLE: Duration = Duration::from_micros(200);
@@ -62,6 +62,8 @@ fn any_order_ends_like_the_loops() {
             assert_eq!(lent.lists, last.lists, "lists of {shape:?}, family {family}");
             let marks: Vec<u8> = lent.records.iter().map(|record| record.mark).collect();
             assert_eq!(marks, last.marks, "marks of {shape:?}, family {family}");
+            let sums: Vec<u16> = lent.records.iter().map(Record::ties).collect();
+            assert_eq!(sums, last.tie_sums, "tie sums of {shape:?}, family {family}");
         }
     }
 }

@@ -47,7 +47,7 @@ returns c =
     let z = d .args .z in
     let ws = d .args .workers in
     let k : z .workers ≤ length (ws .slots) = omega (arith, d .pre .0 .sound .sizes .few-workers, length-slots ws _ (d .good .1 .1 .1 .1 .0 .1 .1 .0 .1 .0 .1)) in (
-      recounted z (d .args .w) _ _ _ _ _ _ _ _ _ (d .pre .1) (state-after z _ _ _ (ws .slots) _ k (d .pre .0 .exists) _ refl _ _ _ _ _ (a .ends (ws .slots)) (a .records) (a .worker)),
+      recounted z (d .args .w) _ _ _ _ _ _ _ _ _ (d .pre .1) (state-after z _ _ _ (ws .slots) _ k (d .pre .0 .exists) _ refl _ _ _ (a .end) _ (a .ends (ws .slots)) (a .records) (a .worker)),
       record { same-count = refl; same-slots = drop-set-lt (ws .count) _ (d .args .w) _ (omega (arith, d .pre .0 .exists, d .pre .1)) },
     )
 

@@ -7,15 +7,15 @@ use Rattle.bench_host.proofs.bench_apply_column.Tie as tie
 apply-column-requires : tie.Need-apply-column-requires
 apply-column-requires c κs = search needs
 
-mark-after-requires : tie.Need-mark-after-requires
-mark-after-requires c κs = search needs
+told-requires : tie.Need-told-requires
+told-requires c κs = search needs
 
 same-length : tie.Need-same-length
 same-length c = search needs
 
 returns : tie.Need-returns
-returns c = ends _ _ _ _ (c .mark-after .ensures) (c .before .before .before .apply-column .ensures)
+returns c = ends _ _ (c .before .before .before .apply-column .result) _ (c .told .ensures) (c .before .before .before .apply-column .ensures)
 
 pub bench-apply-column-spec : {M : Type 1} → statement M
 bench-apply-column-spec =
-    tie.close (tie.spec apply-column-requires mark-after-requires same-length returns)
+    tie.close (tie.spec apply-column-requires told-requires same-length returns)

@@ -58,7 +58,7 @@ use Rattle.task_records.specs.Copies.{copied}
 use Rattle.task_records.proofs.Laws.{copied-more, copied-none}
 use Rattle.model.proofs.TaskRecord.Laws as T′
 use Rattle.loading.proofs.Again.{LentAgain, lends-at, back-at}
-use Rattle.task_records.proofs.Shelf.{R, P, vals, tells, sh, mk, cp, typed, place-5, offset-fits}
+use Rattle.task_records.proofs.Shelf.{bytes, R, P, vals, tells, sh, mk, cp, typed, place-at, offset-fits}
 use Rattle.record_changes.proofs.put_record as put
 use Rattle.record_changes.proofs.put_record.Symbol as put-def
 use Rattle.record_changes.proofs.put_record.Symbol.{name as #put}
@@ -69,12 +69,12 @@ use Rattle.loading.proofs.load.Statement as stated
 use Rattle.loading.proofs.load.Code as code
 use Rattle.loading.proofs.load.Code.Mir as text
 
--- five bytes
+-- a copy
 abbrev B : RattleType
-B = Array u8 5
+B = Array u8 bytes
 
 abbrev stayed : Stays (f.ended .signature .params) (f.ended .kept)
-stayed = (stay-none-slice (0 ∷ []) tt (plain (λ _. R)) yes, (stay-slice (1 ∷ []) tt (arrayOf (plain (λ _. u8)) 5), (stay-dropped (plain (λ _. usize)) yes, tt)))
+stayed = (stay-none-slice (0 ∷ []) tt (plain (λ _. R)) yes, (stay-slice (1 ∷ []) tt (arrayOf (plain (λ _. u8)) bytes), (stay-dropped (plain (λ _. usize)) yes, tt)))
 
 -- the types of the locals
 abbrev word : Ty
@@ -84,10 +84,10 @@ abbrev Recs : Ty
 Recs = sliceTy (tyRef (named 0) imm (pointee (R .written)))
 
 abbrev Bytes : Ty
-Bytes = sliceTy (tyRef (named 1) mut (tyArray (tyInt w8) 5))
+Bytes = sliceTy (tyRef (named 1) mut (tyArray (tyInt w8) bytes))
 
 abbrev Part : Ty
-Part = sliceTy (tyRef erased mut (tyArray (tyInt w8) 5))
+Part = sliceTy (tyRef erased mut (tyArray (tyInt w8) bytes))
 
 -- the contract that the proof cites
 abbrev Put : {M : Type 1} (𝓤 : URA M) (H : Heap 𝓤) (A : Atoms 𝓤) (mem : Memory → SProp 𝓤) (run : Routine → Fun 𝓤) → Contract 𝓤
@@ -200,11 +200,11 @@ module _ {M : Type 1} (𝓤 : URA M) (H : Heap 𝓤) (A : Atoms 𝓤) (W : Given
     Λ = 𝓣 .Λ
 
     abbrev En : Env 𝓤 H
-    En = (tyUnit, l₀) ∷ (Recs, l₁) ∷ (Bytes, l₂) ∷ (word, l₃) ∷ (word, l₄) ∷ (T′.mir, l₅) ∷ (tyBool, l₆) ∷ (word, l₇) ∷ (tyPtr, l₈) ∷ (T′.mir, l₉) ∷ (tyUnit, l₁₀) ∷ (tyRef erased mut (tyArray (tyInt w8) 5), l₁₁) ∷ (Part, l₁₂) ∷ []
+    En = (tyUnit, l₀) ∷ (Recs, l₁) ∷ (Bytes, l₂) ∷ (word, l₃) ∷ (word, l₄) ∷ (T′.mir, l₅) ∷ (tyBool, l₆) ∷ (word, l₇) ∷ (tyPtr, l₈) ∷ (T′.mir, l₉) ∷ (tyUnit, l₁₀) ∷ (tyRef erased mut (tyArray (tyInt w8) bytes), l₁₁) ∷ (Part, l₁₂) ∷ []
 
     -- the invariant
     abbrev At : State → List (Item 𝓤)
-    At x = ‵ (row R q″ ys b o) ∷ ‵ (froom Part l₁₂ 0) ∷ ‵ (fdies Part l₁₂) ∷ ‵ (froom (tyRef erased mut (tyArray (tyInt w8) 5)) l₁₁ 0) ∷ ‵ (fdies (tyRef erased mut (tyArray (tyInt w8) 5)) l₁₁) ∷ ‵ (froom tyUnit l₁₀ 0) ∷ ‵ (fdies tyUnit l₁₀) ∷ ‵ (froom T′.mir l₉ 0) ∷ ‵ (fdies T′.mir l₉)
+    At x = ‵ (row R q″ ys b o) ∷ ‵ (froom Part l₁₂ 0) ∷ ‵ (fdies Part l₁₂) ∷ ‵ (froom (tyRef erased mut (tyArray (tyInt w8) bytes)) l₁₁ 0) ∷ ‵ (fdies (tyRef erased mut (tyArray (tyInt w8) bytes)) l₁₁) ∷ ‵ (froom tyUnit l₁₀ 0) ∷ ‵ (fdies tyUnit l₁₀) ∷ ‵ (froom T′.mir l₉ 0) ∷ ‵ (fdies T′.mir l₉)
         ∷ ‵ (froom tyPtr l₈ 0) ∷ ‵ (fdies tyPtr l₈) ∷ ‵ (froom word l₇ 0) ∷ ‵ (fdies word l₇) ∷ ‵ (froom tyBool l₆ 0) ∷ ‵ (fdies tyBool l₆) ∷ ‵ (froom T′.mir l₅ 0) ∷ ‵ (fdies T′.mir l₅)
         ∷ ‵ (fat fullShare word l₄ 0 (vint w64 (x .p))) ∷ ‵ (fdies word l₄) ∷ ‵ (fat fullShare word l₃ 0 (vint w64 n)) ∷ ‵ (fdies word l₃) ∷ ‵ (fat fullShare Bytes l₂ 0 s′) ∷ ‵ (fdies Bytes l₂) ∷ ‵ (fat fullShare Recs l₁ 0 s) ∷ ‵ (fdies Recs l₁) ∷ ‵ (froom tyUnit l₀ 0) ∷ ‵ (fdies tyUnit l₀)
         ∷ ‵ (fobor κ q (arr-parts (shares R) (length ys) .part q″ ys b o)) ∷ ‵ Own ∷ ‵ (Lent (x .zs)) ∷ ‵ (flft κ′ q′) ∷ []
@@ -221,7 +221,7 @@ module _ {M : Type 1} (𝓤 : URA M) (H : Heap 𝓤) (A : Atoms 𝓤) (W : Given
         rewrite ! 13 (λ (t : Bool). ‵ (fat fullShare tyBool l₆ 0 (vbool t))) test refl $ stays ! (load ! (from ! (stop !)) (look ! 13 refl)) $
         assigns ! (bin ! (load ! (from ! (stop !)) (look ! 17 refl)) (lit ! tt) (offset-fits room (in-row x less))) (from ! (stop !)) (init ! 11 refl (tt, offset-fits room (in-row x less))) $
         assigns ! (bin ! (load ! (from ! (fld ! refl (stop !))) (look-in ! 23 (sub ! 0 refl (whole !)))) (load ! (from ! (stop !)) (look ! 11 refl)) tt) (from ! (stop !)) (init ! 9 refl (tt, tt)) $
-        rewrite ! 9 (λ (at : ℕ). ‵ (fat fullShare tyPtr l₈ 0 (vptr b at))) (sym (place-5 o (x .p))) refl $
+        rewrite ! 9 (λ (at : ℕ). ‵ (fat fullShare tyPtr l₈ 0 (vptr b at))) (sym (place-at o (x .p))) refl $
         elem-out ! R P (sh 𝓤 H A) vals tells q″ ys (x .p) blank b o (in-row x less) (λ g.
         -- [records[p]; what it owns; the others; _12; …; _0; …; the open borrow; the records; the bytes; their token]
         assigns ! (of-opd ! (load ! (from ! (hop ! (look ! 11 refl) (stop !))) (look-raw ! 0 refl))) (from ! (stop !)) (init ! 9 refl (typed 𝓤 H A W (e x) g)) $
@@ -290,7 +290,7 @@ module _ {M : Type 1} (𝓤 : URA M) (H : Heap 𝓤) (A : Atoms 𝓤) (W : Given
       walk 𝓤 H A W mem run (κs .0) (κs .1 .0) (qs .0) (qs .1 .0) (a .0 .ptr .0) (a .0 .ptr .1) (a .0 .name) (a .0 .now) (are .0 .0 .1) (a .1 .0 .ptr .0) (a .1 .0 .ptr .1) (a .1 .0 .name) (a .1 .0 .now) (are .1 .0 .0 .1) (a .1 .1 .0) (are .1 .1 .0 .1) asked 𝓣 (fmOf 𝓤 H (W .laws) 𝓣) known))
 
   goes : AllGo 𝓤 H A W 2 (f.signature .params) (f.ended .kept) stayed
-  goes = (goes-none-slice 𝓤 H A W 2 (0 ∷ []) tt (plain (λ _. R)) yes, (goes-slice 𝓤 H A W 2 1 tt (arrayOf (plain (λ _. u8)) 5), (goes-dropped 𝓤 H A W 2 (plain (λ _. usize)) yes (λ κs x f. refl), tt)))
+  goes = (goes-none-slice 𝓤 H A W 2 (0 ∷ []) tt (plain (λ _. R)) yes, (goes-slice 𝓤 H A W 2 1 tt (arrayOf (plain (λ _. u8)) bytes), (goes-dropped 𝓤 H A W 2 (plain (λ _. usize)) yes (λ κs x f. refl), tt)))
 
   meets : Meets 𝓤 H A f.signature (WpFn 𝓤 H (𝓣 .C) (𝓣 .Λ) code.function) (f.spec 𝓤 H A mem run)
   meets = walk-meets 𝓤 H A f.ended stayed W goes (f.clauses 𝓤 H A mem run) (WpFn 𝓤 H (𝓣 .C) (𝓣 .Λ) code.function) (WpFn-mono 𝓤 H (W .laws) 𝓣 code.function) walks

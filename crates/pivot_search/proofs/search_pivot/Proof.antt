@@ -18,7 +18,7 @@ use Rattle.laws.proofs.Blocks.{row-end, length-table, getD-table}
 use Rattle.laws.proofs.Runs.{table-last}
 use Rattle.laws.proofs.Finite.{finite-get, finite-all}
 use Rattle.float_laws.proofs.Finite.{magnitude-twice}
-use Rattle.float_laws.proofs.Search.{best-one, searched}
+use Rattle.float_laws.proofs.Search.{best-one, ties-fewer, searched}
 use Rattle.pivot_search.specs.Candidates.{candidates}
 use Rattle.pivot_search.proofs.search_pivot.Statement.{statement}
 use Rattle.pivot_search.proofs.search_pivot.Tie as tie
@@ -55,7 +55,7 @@ module _ (m : List Float) (first rest stride : ℕ) where
   held : (n : ℕ) → ((k : ℕ) → T (fits binary64 (getD m k nan))) → (j : ℕ) → j < length (candidates m first rest stride n) → T (fits binary64 (getD (candidates m first rest stride n) j nan))
   held n g j h = let (k, e) = stands n j (omega (arith, how-many n)) in rw e (g k)
 
-  begun : (b : Float) → b ≡ magnitude (getD m first nan) → Best (candidates m first rest stride 0) (record { place = 0; magnitude = b })
+  begun : (b : Float) → b ≡ magnitude (getD m first nan) → Best (candidates m first rest stride 0) (record { place = 0; magnitude = b; ties = 0 })
   unfolding candidates table below run
   begun b e = rw e (best-one (getD m first nan))
 
@@ -102,7 +102,11 @@ shared-slice-read-keep-best : tie.Need-shared-slice-read-keep-best Inv-loop μ-l
 shared-slice-read-keep-best c = omega (arith, room (c .before))
 
 keep-best-requires : tie.Need-keep-best-requires Inv-loop μ-loop
-keep-best-requires c κs = plain _ (c .before .before .loop .best) (c .before .before .loop .inv .1)
+keep-best-requires c κs =
+    let a = c .before .before .before .before .before .before .args in
+    let l = c .before .before .loop in
+    let few = ties-fewer (candidates (now (a .m)) (a .first) (a .rest) (a .stride) (l .i)) (l .best) (l .inv .1) in
+    (plain _ (l .best) (l .inv .1), omega (arith, few, how-many (now (a .m)) (a .first) (a .rest) (a .stride) (l .i), l .inv .0, c .before .before .before .before .before .before .pre .0))
 
 add-i : tie.Need-add-i Inv-loop μ-loop
 add-i c = omega arith

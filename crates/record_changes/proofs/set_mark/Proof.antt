@@ -5,7 +5,7 @@ use borrow.Author.Needs.{needs}
 use Rattle.model.specs.Calls.{withMark}
 use Rattle.records.specs.Records.{recordFrom, recordsFrom}
 use Rattle.records.proofs.Laws.{get-record}
-use Rattle.record_changes.proofs.Laws.{set-record, marked-is}
+use Rattle.record_changes.proofs.Laws.{set-record, changed-is}
 use Rattle.record_changes.proofs.set_mark.Statement.{statement}
 use Rattle.record_changes.proofs.set_mark.Tie as tie
 
@@ -27,6 +27,12 @@ array-read-t16 c = search needs
 array-read-t19 : tie.Need-array-read-t19
 array-read-t19 c = search needs
 
+array-read-t22 : tie.Need-array-read-t22
+array-read-t22 c = search needs
+
+array-read-t25 : tie.Need-array-read-t25
+array-read-t25 c = search needs
+
 mul-t5 : tie.Need-mul-t5
 mul-t5 c = search needs
 
@@ -41,7 +47,7 @@ unfolding recordFrom withMark
 returns c = (
   set-record _ _ _
       ∙ ap (λ r. set (recordsFrom (c .before .args .records .now)) (c .before .args .p) (withMark (c .before .args .mark) r)) (sym (get-record (c .before .args .records .now) (c .before .args .p)))
-      ∙ marked-is _ _ _,
+      ∙ changed-is _ _ _,
   simp length-set,
 )
 
@@ -55,6 +61,8 @@ set-mark-spec =
     array-read-t13
     array-read-t16
     array-read-t19
+    array-read-t22
+    array-read-t25
     mul-t5
     slice-set-from-records
     same-length

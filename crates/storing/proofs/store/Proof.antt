@@ -56,7 +56,7 @@ use Rattle.laws.proofs.Tests.{true-or-false}
 use Rattle.task_records.specs.Copies.{copied}
 use Rattle.task_records.proofs.Laws.{copied-more, copied-none}
 use Rattle.model.proofs.TaskRecord.Laws as T′
-use Rattle.task_records.proofs.Shelf.{R, P, Typed, vals, tells, sh, typed, place-5, offset-fits}
+use Rattle.task_records.proofs.Shelf.{bytes, R, P, Typed, vals, tells, sh, typed, place-at, offset-fits}
 use Rattle.records.proofs.record_at as get
 use Rattle.records.proofs.record_at.Symbol as get-def
 use Rattle.records.proofs.record_at.Symbol.{name as #get}
@@ -67,12 +67,12 @@ use Rattle.storing.proofs.store.Statement as stated
 use Rattle.storing.proofs.store.Code as code
 use Rattle.storing.proofs.store.Code.Mir as text
 
--- five bytes
+-- a copy
 abbrev B : RattleType
-B = Array u8 5
+B = Array u8 bytes
 
 abbrev stayed : Stays (f.ended .signature .params) (f.ended .kept)
-stayed = (stay-slice (0 ∷ []) tt (plain (λ _. R)), (stay-none-slice (1 ∷ []) tt (arrayOf (plain (λ _. u8)) 5) yes, (stay-dropped (plain (λ _. usize)) yes, (stay-dropped (plain (λ _. usize)) yes, tt))))
+stayed = (stay-slice (0 ∷ []) tt (plain (λ _. R)), (stay-none-slice (1 ∷ []) tt (arrayOf (plain (λ _. u8)) bytes) yes, (stay-dropped (plain (λ _. usize)) yes, (stay-dropped (plain (λ _. usize)) yes, tt))))
 
 -- the types of the locals
 abbrev word : Ty
@@ -82,7 +82,7 @@ abbrev Recs : Ty
 Recs = sliceTy (tyRef (named 0) mut (pointee (R .written)))
 
 abbrev Bytes : Ty
-Bytes = sliceTy (tyRef (named 1) imm (tyArray (tyInt w8) 5))
+Bytes = sliceTy (tyRef (named 1) imm (tyArray (tyInt w8) bytes))
 
 -- the contract that the proof cites
 abbrev Get : {M : Type 1} (𝓤 : URA M) (H : Heap 𝓤) (A : Atoms 𝓤) (mem : Memory → SProp 𝓤) (run : Routine → Fun 𝓤) → Contract 𝓤
@@ -221,7 +221,7 @@ module _ {M : Type 1} (𝓤 : URA M) (H : Heap 𝓤) (A : Atoms 𝓤) (W : Given
         rewrite ! 10 (λ (v : Val). ‵ (fat fullShare T′.mir l₆ 0 v)) (ap only (tells (found x) (w ∷ []) is)) refl $
         assigns ! (bin ! (load ! (from ! (stop !)) (look ! 12 refl)) (lit ! tt) (offset-fits room (in-records x less))) (from ! (stop !)) (init ! 6 refl (tt, offset-fits room (in-records x less))) $
         assigns ! (bin ! (load ! (from ! (fld ! refl (stop !))) (look-in ! 20 (sub ! 0 refl (whole !)))) (load ! (from ! (stop !)) (look ! 6 refl)) tt) (from ! (stop !)) (init ! 4 refl (tt, tt)) $
-        rewrite ! 4 (λ (at : ℕ). ‵ (fat fullShare tyPtr l₉ 0 (vptr b at))) (sym (place-5 o (x .p))) refl $
+        rewrite ! 4 (λ (at : ℕ). ‵ (fat fullShare tyPtr l₉ 0 (vptr b at))) (sym (place-at o (x .p))) refl $
         move ! (3 ∷ []) $ elem-out ! R P (sh 𝓤 H A) vals tells fullShare (x .zs) (x .p) blank b o (in-row x less) (λ _.
         assigns ! (of-opd ! (load ! (from ! (stop !)) (look ! 12 refl))) (from ! (hop ! (look ! 6 refl) (stop !))) (store-raw ! 0 refl (typed 𝓤 H A W (found x) good)) $
         -- the record's own goes into the row
@@ -282,7 +282,7 @@ module _ {M : Type 1} (𝓤 : URA M) (H : Heap 𝓤) (A : Atoms 𝓤) (W : Given
       walk 𝓤 H A W mem run (κs .0) (κs .1 .0) (qs .0) (qs .1 .0) (a .0 .ptr .0) (a .0 .ptr .1) (a .0 .name) (a .0 .now) (are .0 .0 .1) (a .1 .0 .ptr .0) (a .1 .0 .ptr .1) (a .1 .0 .name) (a .1 .0 .now) (are .1 .0 .0 .1) (a .1 .1 .0) (are .1 .1 .0 .1) (a .1 .1 .1 .0) (are .1 .1 .1 .0 .1) asked 𝓣 (fmOf 𝓤 H (W .laws) 𝓣) known))
 
   goes : AllGo 𝓤 H A W 2 (f.signature .params) (f.ended .kept) stayed
-  goes = (goes-slice 𝓤 H A W 2 0 tt (plain (λ _. R)), (goes-none-slice 𝓤 H A W 2 (1 ∷ []) tt (arrayOf (plain (λ _. u8)) 5) yes, (goes-dropped 𝓤 H A W 2 (plain (λ _. usize)) yes (λ κs x f. refl), (goes-dropped 𝓤 H A W 2 (plain (λ _. usize)) yes (λ κs x f. refl), tt))))
+  goes = (goes-slice 𝓤 H A W 2 0 tt (plain (λ _. R)), (goes-none-slice 𝓤 H A W 2 (1 ∷ []) tt (arrayOf (plain (λ _. u8)) bytes) yes, (goes-dropped 𝓤 H A W 2 (plain (λ _. usize)) yes (λ κs x f. refl), (goes-dropped 𝓤 H A W 2 (plain (λ _. usize)) yes (λ κs x f. refl), tt))))
 
   meets : Meets 𝓤 H A f.signature (WpFn 𝓤 H (𝓣 .C) (𝓣 .Λ) code.function) (f.spec 𝓤 H A mem run)
   meets = walk-meets 𝓤 H A f.ended stayed W goes (f.clauses 𝓤 H A mem run) (WpFn 𝓤 H (𝓣 .C) (𝓣 .Λ) code.function) (WpFn-mono 𝓤 H (W .laws) 𝓣 code.function) walks

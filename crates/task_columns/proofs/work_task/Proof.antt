@@ -5,7 +5,7 @@ use Rattle.model.specs.declared.TaskRecord.{TaskRecord}
 use Rattle.model.specs.Task.{Task}
 use Rattle.column_laws.specs.Workable.{Workable}
 use Rattle.checks.specs.Checks.{Inside, taskFrom}
-use Rattle.task_columns.proofs.Laws.{task-spoiled, task-worked, with-mark}
+use Rattle.task_columns.proofs.Laws.{task-spoiled, task-worked}
 use Rattle.task_columns.proofs.work_task.Statement.{statement}
 use Rattle.task_columns.proofs.work_task.Tie as tie
 
@@ -32,9 +32,6 @@ returns c = λ slots. task-spoiled (c .before .before .before .before .before .b
 work-column-requires : tie.Need-work-column-requires
 work-column-requires c κs = subst (λ (t : Task). Workable (c .before .before .before .before .before .before .before .args .z) t (c .before .before .before .before .before .before .before .args .c) (c .before .before .before .before .before .before .before .args .matrix .now) (c .before .before .before .before .before .before .before .args .lists .now)) (sym (ap taskFrom (c .before .before .before .before .record-at .ensures) ∙ c .before .before .before .before .before .before .before .pre .named)) (c .before .before .before .before .before .before .before .pre .workable)
 
-mark-after-requires : tie.Need-mark-after-requires
-mark-after-requires c κs = search needs
-
 same-length-3 : tie.Need-same-length-3
 same-length-3 c = search needs
 
@@ -42,8 +39,7 @@ same-length-4 : tie.Need-same-length-4
 same-length-4 c = search needs
 
 returns-2 : tie.Need-returns-2
-returns-2 c = λ slots. task-worked (c .before .before .before .before .before .before .before .before .before .before .before .before .before .args .z) _ _ _ slots _ _ _ (ap taskFrom (c .before .before .before .before .before .before .before .before .before .before .record-at .ensures) ∙ c .before .before .before .before .before .before .before .before .before .before .before .before .before .pre .named) _ (c .before .before .before .before .before .before .before .before .before .spoiled-at .ensures) (c .before .before .before .before .before .before .before .before .if1 .left) _
-    (with-mark _ _ _ _ (c .mark-after .ensures) (c .before .before .before .before .before .work-column .ensures))
+returns-2 c = λ slots. task-worked (c .before .before .before .before .before .before .before .before .before .before .before .before .args .z) _ _ _ slots _ _ _ (ap taskFrom (c .before .before .before .before .before .before .before .before .before .record-at .ensures) ∙ c .before .before .before .before .before .before .before .before .before .before .before .before .pre .named) _ (c .before .before .before .before .before .before .before .before .spoiled-at .ensures) (c .before .before .before .before .before .before .before .if1 .left) _ (c .before .before .before .before .work-column .ensures)
 
 pub work-task-spec : {M : Type 1} → statement M
 work-task-spec =
@@ -56,7 +52,6 @@ work-task-spec =
     same-length-2
     returns
     work-column-requires
-    mark-after-requires
     same-length-3
     same-length-4
     returns-2)

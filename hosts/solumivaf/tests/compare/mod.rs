@@ -12,18 +12,18 @@ use reference::writer::Options;
 use reference::writings::{all_writings, Writing};
 use solumivaf::{Ending, Error, Lent, Outcome, Record, Refusal, Run, Sizes, SLOTS};
 
+fn record_of(theirs: &reference::lent::Record) -> Record {
+    let mut ours = Record::default();
+    (ours.kind, ours.k, ours.i, ours.j) = (theirs.kind, theirs.k, theirs.i, theirs.j);
+    ours.mark = theirs.mark;
+    ours.set_ties(theirs.tie_sum);
+    ours
+}
+
 /// What the reference has lent, in the library's buffers.
 pub fn lent_of(theirs: &reference::lent::Lent) -> Lent {
     let mut ours = Lent { matrix: theirs.matrix.clone(), lists: theirs.lists.clone(), ..Lent::default() };
-    for record in &theirs.records {
-        ours.records.push(Record {
-            kind: record.kind,
-            k: record.k,
-            i: record.i,
-            j: record.j,
-            mark: record.mark,
-        });
-    }
+    ours.records = theirs.records.iter().map(record_of).collect();
     ours.workers.count = theirs.count as usize;
     for slot in 0..SLOTS {
         ours.workers.busy[slot] = theirs.workers[slot].busy as u8;
