@@ -36,8 +36,8 @@ fn differs(found: TaskRecord, due: TaskRecord) -> bool
     !(same_task & (found.mark <= 4))
 }
 
-// Whether a record's task differs from the numbering, a mark exceeds 4, a task with mark 1 has no worker or several, or a tie sum is above its limit. At
-// most one more task with mark 1 has its workers counted than there are workers.
+// Whether some record is not that of its place or has no known mark, a taken task is held by none or by several, or a tie sum is above its limit. At most
+// one more taken task has its workers counted than there are workers.
 fn bad_records(z: Sizes, records: &[Record], workers: Slots) -> bool
     requires { ⌜ Sized z × RecordsFit z (now records) ⌝ }
     ensures { λ r. ⌜ r ≡ (some (badRecord (planOf z) (held (now (records .entry)) workers (z .workers))) (below (length (tasks (z .tiles))))
