@@ -11,6 +11,8 @@
  *   busy, task, column   SOLUMIVAF_SLOTS each: slot v says whether worker v is busy, its task and its next column. The first `count` are the
  *             workers lent, and W is their number; the others are not looked at and stay as they are. A byte of `busy` is 0 for an idle
  *             worker, and any other byte is busy. A call leaves 0 for an idle worker, and for a busy one the byte that it had, or 1 where that was 0
+ *   number    the run's number, which goes with the workers: how many takes and columns were accepted since the opening, those inside a run among
+ *             them. So each of these calls has a number of its own, from 1 on. One number, lent by its address where a call may write it
  *   right, answers       N * t numbers each
  *   text      of a system to write: 7 + N^2 * (7 + 16 * t^2) bytes or more. Of a result: that, N * (N + 1) / 2 * (7 + 2 * t) and 9 more
  * A pointer and the length after it are one slice. A length that differs from the one stated, or a count that differs from W, is refusal 2. The
@@ -30,8 +32,10 @@
  *    2  a length, or the count of the workers lent, is not the one that the sizes call for
  *    3  a number isn't finite: in the matrix at an opening, or on the right side of a solve; its offset. In a file: its line
  *    4  what was lent is damaged: a record is not its task's or has no known mark; tasks and workers do not hold each other; a tie sum is above
- *       what the task's state allows (t * t for a done or failed task, t times its next column for a taken one, 0 otherwise); an entry of a list
- *       is too large; or a number that the call needs isn't finite
+ *       what the task's state allows (t * t for a done or failed task, t times its next column for a taken one, 0 otherwise); the run's number is
+ *       above what all tasks allow (t + 1 for each finished one, 1 and its next column for each taken one), or below the number of a call in a
+ *       record; the worker in a record is not below W; an entry of a list is too large; or a number that the call needs isn't finite. Worker and
+ *       calls are looked at in every record, that of an unfinished task too
  *    5  the worker named does not exist, is busy and cannot take, or is idle and has no column to do; the worker
  *    6  the task named does not exist
  *    7  the task named is not ready; the task
@@ -56,7 +60,7 @@ extern "C" {
 #endif
 
 /* The version of this interface: another one where a function or a struct that crosses has changed. */
-#define SOLUMIVAF_VERSION 4
+#define SOLUMIVAF_VERSION 5
 
 /* Limits: the most tiles a side, numbers a side of a tile, and tasks; the most workers, which is the number of worker slots. */
 #define SOLUMIVAF_MOST_TILES 16
@@ -113,21 +117,42 @@ enum {
     SOLUMIVAF_OUTCOME_UNFINISHED = 3
 };
 
-/* A task: its kind (1 to 4 for T-1 to T-4), k, i and j, 0 where the kind has none, its mark: 0 waits, 1 is taken, 2 done, 3 failed, 4 spoiled; and
- * the sum of its ties in two bytes, the low one first: solumivaf_ties tells the number. Seven bytes, without padding. */
+/* A task: its kind (1 to 4 for T-1 to T-4), k, i and j, 0 where the kind has none, its mark: 0 waits, 1 is taken, 2 done, 3 failed, 4 spoiled; the
+ * worker that ended it; the sum of its ties; and the numbers of the calls that took and ended it. Worker and calls are 0 until then. They tell the
+ * order of work: two runs of a system may differ in them, and in nothing else. A number of more than one byte has its low byte first, and a function
+ * below tells it. Sixteen bytes, without padding. */
 typedef struct {
     uint8_t kind;
     uint8_t k;
     uint8_t i;
     uint8_t j;
     uint8_t mark;
+    uint8_t worker;
     uint8_t ties[2];
+    uint8_t took[4];
+    uint8_t ended[4];
 } solumivaf_record;
 
 /* The sum of a task's ties. A column of T-1 or T-3 searches for its pivot: every other candidate of the pivot's magnitude is a tie, and a pivot of
  * zero has none. The columns that the task has completed count, a failing one does not. T-2, T-4 and spoiled tasks have 0. */
 static inline uint16_t solumivaf_ties(solumivaf_record record) {
     return (uint16_t)(record.ties[0] | record.ties[1] << 8);
+}
+
+/* The number that four bytes have, the low one first. */
+static inline uint32_t solumivaf_number(const uint8_t *bytes) {
+    return (uint32_t)bytes[0] | (uint32_t)bytes[1] << 8 | (uint32_t)bytes[2] << 16 | (uint32_t)bytes[3] << 24;
+}
+
+/* The number of the take that gave the task to a worker, 0 while it waits. */
+static inline uint32_t solumivaf_took(solumivaf_record record) {
+    return solumivaf_number(record.took);
+}
+
+/* The number of the column call that ended the task, done, failed or spoiled, 0 before that. In a run from its opening no two takes or ends share a
+ * number, and a task that had to wait for another one has a took above the other's ended. */
+static inline uint32_t solumivaf_ended(solumivaf_record record) {
+    return solumivaf_number(record.ended);
 }
 
 /* What a call tells: a refusal's number and its place, with number 0 where nothing is refused. Then
@@ -181,38 +206,39 @@ static inline int solumivaf_arithmetic(void) {
 size_t solumivaf_version(void);
 
 /* Starts the work on a matrix, which it reads and leaves as it is. Sets the lists to 0, the records to the tasks in order, all waiting and with no
- * ties, and the workers to idle; what these held before does not matter. */
+ * ties, worker or calls, the workers to idle and the run's number to 0; what these held before does not matter. */
 solumivaf_told solumivaf_open(size_t tiles, size_t side, size_t workers, const double *matrix, size_t matrix_length, uint8_t *lists,
                               size_t lists_length, solumivaf_record *records, size_t records_length, uint8_t *busy, uint16_t *task,
-                              uint8_t *column, size_t count);
+                              uint8_t *column, size_t count, uint32_t *number);
 
-/* Worker w takes task p. Writes the task's mark and the worker's slot. */
+/* Worker w takes task p. Adds 1 to the run's number, and writes it into the task's record with the mark; writes the worker's slot. */
 solumivaf_told solumivaf_take(size_t tiles, size_t side, size_t workers, const double *matrix, size_t matrix_length, const uint8_t *lists,
                               size_t lists_length, solumivaf_record *records, size_t records_length, uint8_t *busy, uint16_t *task,
-                              uint8_t *column, size_t count, size_t w, size_t p);
+                              uint8_t *column, size_t count, uint32_t *number, size_t w, size_t p);
 
-/* Worker w does the next column of its task. Writes tiles and a list of that task and the worker's slot; where the column is completed, adds the ties
- * of its pivot search to the task's sum; and where the task ends, writes its mark. */
+/* Worker w does the next column of its task. Adds 1 to the run's number; writes tiles and a list of that task and the worker's slot; where the column
+ * is completed, adds the ties of its pivot search to the task's sum; and where the task ends, writes its mark, the worker and the run's number into
+ * its record. */
 solumivaf_told solumivaf_column(size_t tiles, size_t side, size_t workers, double *matrix, size_t matrix_length, uint8_t *lists,
                                 size_t lists_length, solumivaf_record *records, size_t records_length, uint8_t *busy, uint16_t *task,
-                                uint8_t *column, size_t count, size_t w);
+                                uint8_t *column, size_t count, uint32_t *number, size_t w);
 
 /* Takes and columns, worker after worker from 0 on, until all tasks are finished or `budget` calls are made. Any budget is allowed: UINT64_MAX
  * runs to the end. Writes what these calls write. */
 solumivaf_told solumivaf_run(size_t tiles, size_t side, size_t workers, double *matrix, size_t matrix_length, uint8_t *lists,
                              size_t lists_length, solumivaf_record *records, size_t records_length, uint8_t *busy, uint16_t *task,
-                             uint8_t *column, size_t count, uint64_t budget);
+                             uint8_t *column, size_t count, uint32_t *number, uint64_t budget);
 
-/* The outcome by the marks and the diagonal, or the lowest unfinished task. Writes nothing. */
+/* The outcome by the marks and the diagonal, or the lowest unfinished task. Writes nothing, and tests nothing but sizes and lengths. */
 solumivaf_told solumivaf_outcome(size_t tiles, size_t side, size_t workers, const double *matrix, size_t matrix_length,
                                  const uint8_t *lists, size_t lists_length, const solumivaf_record *records, size_t records_length,
-                                 const uint8_t *busy, const uint16_t *task, const uint8_t *column, size_t count);
+                                 const uint8_t *busy, const uint16_t *task, const uint8_t *column, size_t count, uint32_t number);
 
 /* Solves a factored system for one right side. Writes only the answers, and these only where nothing is refused. */
 solumivaf_told solumivaf_solve(size_t tiles, size_t side, size_t workers, const double *matrix, size_t matrix_length, const uint8_t *lists,
                                size_t lists_length, const solumivaf_record *records, size_t records_length, const uint8_t *busy,
-                               const uint16_t *task, const uint8_t *column, size_t count, const double *right, size_t right_length,
-                               double *answers, size_t answers_length);
+                               const uint16_t *task, const uint8_t *column, size_t count, uint32_t number, const double *right,
+                               size_t right_length, double *answers, size_t answers_length);
 
 /* Tells N and t by line 1 of a text, of a system or of a result alike, so that a host knows what to lend to a reading. Looks at nothing after line 1
  * and writes nothing. Refusals are those that a reading has for line 1. */

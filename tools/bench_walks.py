@@ -8,7 +8,7 @@ Such a function makes the workers, hands everything lent on to crates/CALL_call,
 from call_walks import ROOT, SLICE, Walk, answers, callee, exit_steps, lists, matrix, nested, nth, number, product, records, right, save, seps, sizes, sub, theorem, uses_of
 
 CRATE = "bench_structs"
-WIDTH = {"usize": "w64", "u64": "w64", "u16": "w16", "u8": "w8"}
+WIDTH = {"usize": "w64", "u64": "w64", "u32": "w32", "u16": "w16", "u8": "w8"}
 WORKERS = "Wk.the-row"
 SIZES = "LL.vals Sz.the-type Sz′.the-laws"
 
@@ -385,8 +385,8 @@ def write(call, folder=ROOT):
     save(folder, CRATE, "bench_" + call["name"], Call(call).text())
 
 
-MORE_USES = """use mir.Syntax.{w16}
-use denote.Builtin.{u16}
+MORE_USES = """use mir.Syntax.{w16, w32}
+use denote.Builtin.{u16, u32}
 use denote.Enum.Laws as EL
 use Rattle.model.specs.declared.REPLY.{REPLY}
 use Rattle.model.proofs.REPLY as Rp
@@ -400,7 +400,7 @@ use Rattle.bench_structs.proofs.Laws.{replies, ran, solves, outcome-tol
 """
 
 
-def changes(call, m, l, law="replies", slots="idles (z .workers)", number="answerNumber"):
+def changes(call, m, l, law="replies", slots="idles (z .workers) number", number="answerNumber"):
     """What a call's reply says, what the function's contract says, and how the one follows from the other. A take leaves matrix and lists."""
     left = "%s (whole ms ls ys (%s))" % (call, slots)
     fact = ["(r ≡ %s (%s .answer))" % (number, left), "(zs ≡ %s .left .records)" % left]
@@ -414,27 +414,28 @@ def changes(call, m, l, law="replies", slots="idles (z .workers)", number="answe
 
 
 W, P, TASK, COLUMN, BUDGET = number("w", "usize"), number("p", "usize"), number("p", "u16"), number("c", "u8"), number("budget", "u64")
+NUMBER = number("number", "u32")
 RIGHT, ANSWERS = right(), answers()
-IDLE = ("idle_workers", [sizes()])
+IDLE = ("idle_workers", [sizes(), NUMBER])
 OUTCOME = "outcomeCall z (whole ms ls ys %s)"
 SOLVED = "solveCall z (whole ms ls ys %s) bs us"
 CALLS = [
-    dict(name="open", params=[sizes(), matrix(False), lists(True), records(True)], passes=[], made=IDLE, reply="CallReply", result="u8", tell="number_in",
-         locals=dict(top=10, reply=5, lists=6, records=8, slots=10), **changes("openCall z", "ms", "ls′")),
-    dict(name="take", params=[sizes(), matrix(False), lists(False), records(True), W, P], passes=[W, P], made=IDLE, reply="CallReply", result="u8", tell="number_in",
-         locals=dict(top=10, reply=7, records=8, slots=10), **changes("takeCall z w p", "ms", "ls")),
-    dict(name="column", params=[sizes(), matrix(True), lists(True), records(True), W, TASK, COLUMN], passes=[W], made=("one_holding", [sizes(), TASK, COLUMN]), reply="CallReply", result="u8", tell="number_in",
-         locals=dict(top=15, reply=8, matrix=9, lists=11, records=13, slots=15), **changes("columnCall z w", "ms′", "ls′", slots="oneHolding (z .workers) p c")),
-    dict(name="run", params=[sizes(), matrix(True), lists(True), records(True), BUDGET], passes=[BUDGET], made=IDLE, reply="RunReply", result="u64", tell="calls_in",
-         locals=dict(top=13, reply=6, matrix=7, lists=9, records=11, slots=13), **changes("runCall z budget", "ms′", "ls′", law="ran", number="callsOf")),
-    dict(name="outcome", params=[sizes(), matrix(False), lists(False), records(False)], passes=[], made=IDLE, reply="OutcomeAnswer", result="u8", tell="outcome_number",
-         locals=dict(top=6, reply=5, slots=6), slots="idles (z .workers)", number="outcomeTells %s",
-         fact="r ≡ outcomeTells (%s)" % (OUTCOME % "(idles (z .workers))"), told="r ≡ " + OUTCOME % "t",
-         law="outcome-told ms ls ys t₀ (idles (z .workers)) e₀ t₂ (outcomeCall z) t₁ e₁ e₂"),
-    dict(name="solve", params=[sizes(), matrix(False), lists(False), records(False), RIGHT, ANSWERS], passes=[RIGHT, ANSWERS], made=IDLE, reply="Answer", result="u8", tell="number_of",
-         locals=dict(top=10, reply=7, slots=8, answers=9), slots="idles (z .workers)", number="answerNumber %s",
-         fact="(r ≡ answerNumber (%s .answer)) × (us′ ≡ %s .left)" % ((SOLVED % "(idles (z .workers))",) * 2), told="record { answer = r; left = us′ } ≡ " + SOLVED % "t",
-         law="solves ms ls ys t₀ (idles (z .workers)) e₀ t₂ (λ (s : Lent). solveCall z s bs us) t₁ (%s) e₁ e₂" % nth("ws₁", 6)),
+    dict(name="open", params=[sizes(), matrix(False), lists(True), records(True), NUMBER], passes=[], made=IDLE, reply="CallReply", result="u8", tell="number_in",
+         locals=dict(top=11, reply=6, lists=7, records=9, slots=11), **changes("openCall z", "ms", "ls′")),
+    dict(name="take", params=[sizes(), matrix(False), lists(False), records(True), NUMBER, W, P], passes=[W, P], made=IDLE, reply="CallReply", result="u8", tell="number_in",
+         locals=dict(top=11, reply=8, records=9, slots=11), **changes("takeCall z w p", "ms", "ls")),
+    dict(name="column", params=[sizes(), matrix(True), lists(True), records(True), NUMBER, W, TASK, COLUMN], passes=[W], made=("one_holding", [sizes(), NUMBER, TASK, COLUMN]), reply="CallReply", result="u8", tell="number_in",
+         locals=dict(top=16, reply=9, matrix=10, lists=12, records=14, slots=16), **changes("columnCall z w", "ms′", "ls′", slots="oneHolding (z .workers) number p c")),
+    dict(name="run", params=[sizes(), matrix(True), lists(True), records(True), NUMBER, BUDGET], passes=[BUDGET], made=IDLE, reply="RunReply", result="u64", tell="calls_in",
+         locals=dict(top=14, reply=7, matrix=8, lists=10, records=12, slots=14), **changes("runCall z budget", "ms′", "ls′", law="ran", number="callsOf")),
+    dict(name="outcome", params=[sizes(), matrix(False), lists(False), records(False), NUMBER], passes=[], made=IDLE, reply="OutcomeAnswer", result="u8", tell="outcome_number",
+         locals=dict(top=7, reply=6, slots=7), slots="idles (z .workers) number", number="outcomeTells %s",
+         fact="r ≡ outcomeTells (%s)" % (OUTCOME % "(idles (z .workers) number)"), told="r ≡ " + OUTCOME % "t",
+         law="outcome-told ms ls ys t₀ (idles (z .workers) number) e₀ t₂ (outcomeCall z) t₁ e₁ e₂"),
+    dict(name="solve", params=[sizes(), matrix(False), lists(False), records(False), NUMBER, RIGHT, ANSWERS], passes=[RIGHT, ANSWERS], made=IDLE, reply="Answer", result="u8", tell="number_of",
+         locals=dict(top=11, reply=8, slots=9, answers=10), slots="idles (z .workers) number", number="answerNumber %s",
+         fact="(r ≡ answerNumber (%s .answer)) × (us′ ≡ %s .left)" % ((SOLVED % "(idles (z .workers) number)",) * 2), told="record { answer = r; left = us′ } ≡ " + SOLVED % "t",
+         law="solves ms ls ys t₀ (idles (z .workers) number) e₀ t₂ (λ (s : Lent). solveCall z s bs us) t₁ (%s) e₁ e₂" % nth("ws₁", 6)),
 ]
 
 if __name__ == "__main__":

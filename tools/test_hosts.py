@@ -5,9 +5,10 @@ import unittest
 
 from loading import text_of
 
-C = {"size_t": "usize", "double": "f64", "uint8_t": "u8", "uint16_t": "u16", "uint64_t": "u64", "solumivaf_record": "Record", "solumivaf_told": "Told",
-     "solumivaf_read": "Read"}
+C = {"size_t": "usize", "double": "f64", "uint8_t": "u8", "uint16_t": "u16", "uint32_t": "u32", "uint64_t": "u64", "solumivaf_record": "Record",
+     "solumivaf_told": "Told", "solumivaf_read": "Read"}
 RATTLE = {"ReadTold": "Read"}
+BYTES = {"u8": 1, "u16": 2, "u32": 4}
 
 
 def parameters(text):
@@ -15,14 +16,14 @@ def parameters(text):
 
 
 def exported(crate):
-    """The functions of a crate as a linker has them: a slice is a pointer and a length, an array a pointer."""
+    """The functions of a crate as a linker has them: a slice is a pointer and a length, an array or a single number that is lent a pointer."""
     for name, listed, told in re.findall(r'pub extern "C" fn (\w+)\(([^)]*)\) -> (\w+)', text_of("crates", crate, "src", "lib.rt")):
         passed = []
         for own, kind in (part.split(": ", 1) for part in parameters(listed)):
-            lent = re.fullmatch(r"&(mut )?\[(.+?)(; SLOTS)?\]", kind)
-            element = RATTLE.get(lent.group(2), lent.group(2)) if lent else kind
+            lent = re.fullmatch(r"&(mut )?(\[)?(\w+)(; \w+)?\]?", kind)
+            element = RATTLE.get(lent.group(3), lent.group(3)) if lent else kind
             passed.append((own, "*%s %s" % ("mut" if lent.group(1) else "const", element) if lent else element))
-            if lent and not lent.group(3):
+            if lent and lent.group(2) and not lent.group(4):
                 passed.append((own + "_length", "usize"))
         yield name, passed, RATTLE.get(told, told)
 
@@ -50,8 +51,8 @@ def fields_in_c(name, text):
 
 
 def in_bytes(fields):
-    """A struct's fields as they are lent in bytes: a u16 in two."""
-    return [(own, {"u8": "u8", "u16": "[u8; 2]"}[kind]) for own, kind in fields]
+    """A struct's fields as they are lent in bytes: a u16 in two, a u32 in four."""
+    return [(own, "u8" if kind == "u8" else "[u8; %d]" % BYTES[kind]) for own, kind in fields]
 
 
 def exports(*crates):
@@ -80,12 +81,13 @@ class Hosts(unittest.TestCase):
             self.assertEqual(fields_of(name, wrapper), fields)
 
     def test_records(self):
-        """The library is lent a record's fields in bytes, in an order of their own, as many as crates/records says; bench_structs is lent the struct itself."""
+        """The library is lent a record's fields in bytes, in the struct's order, as many as crates/records says; bench_structs is lent the struct."""
         fields = fields_of("TaskRecord", text_of("crates", "model", "src", "lib.rt"))
-        length = sum({"u8": 1, "u16": 2}[kind] for _, kind in fields)
+        length = sum(BYTES[kind] for _, kind in fields)
+        self.assertEqual(length, 16)
         self.assertIn("pub const RECORD: usize = %d;" % length, text_of("crates", "records", "src", "lib.rt"))
         in_c = fields_in_c("solumivaf_record", text_of("hosts", "solumivaf.h"))
-        self.assertEqual(sorted(in_c), sorted(in_bytes(fields)))
+        self.assertEqual(in_c, in_bytes(fields))
         self.assertEqual(fields_of("Record", text_of("hosts", "solumivaf", "src", "lib.rs")), in_c)
         for path in (("bench", "src", "structs.rs"), ("hosts", "solumivaf", "tests", "structs.rs")):
             self.assertEqual(fields_of("TaskRecord", text_of(*path)), fields)

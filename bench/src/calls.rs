@@ -1,5 +1,5 @@
 //! A take and a column call in Rust, with the checks of refusals 1, 2, 4, 5, 6 and 7. Each answers the refusal's number, or 0.
-use crate::loops::{column, fill, put, spoiled, task_count, ties, triple, Record, DONE, FAILED, SPOILED, TAKEN};
+use crate::loops::{column, ended, fill, put_column, put_take, spoiled, task_count, ties, took, triple, Record, DONE, FAILED, SPOILED, TAKEN};
 use crate::plain::{Shape, Version};
 
 #[derive(Clone, Copy)]
@@ -21,14 +21,21 @@ fn bad_ties(t: usize, r: &Record) -> bool {
     ties(r) > most
 }
 
-fn bad_records<V: Version>(s: &Shape, records: &[Record]) -> bool {
+/// A record tells of a call above the run's number, or of a worker that there is not.
+fn bad_calls(workers: usize, number: u32, r: &Record) -> bool {
+    (took(r) > number) | (ended(r) > number) | (r[5] as usize >= workers)
+}
+
+fn bad_records<V: Version>(s: &Shape, records: &[Record], workers: &[Worker], number: u32) -> bool {
     let n = s.tiles;
+    let mut finished = 0;
     let mut rest = records;
     for k in 0..n as u8 {
         for i in k..n as u8 {
             let (row, after) = rest.split_at(n - k as usize);
             rest = after;
             let bad = |(x, r): (usize, &Record)| {
+                finished += (r[4] >= DONE) as usize;
                 let j = k + x as u8;
                 let due = match (i == k, j == k) {
                     (true, true) => [1, k, 0, 0],
@@ -36,14 +43,17 @@ fn bad_records<V: Version>(s: &Shape, records: &[Record]) -> bool {
                     (false, true) => [3, k, i, 0],
                     (false, false) => [4, k, i, j],
                 };
-                (r[0] != due[0]) | (r[1] != due[1]) | (r[2] != due[2]) | (r[3] != due[3]) | (r[4] > 4) | bad_ties(s.side, r)
+                let other = (r[0] != due[0]) | (r[1] != due[1]) | (r[2] != due[2]) | (r[3] != due[3]);
+                other | (r[4] > 4) | bad_ties(s.side, r) | bad_calls(workers.len(), number, r)
             };
             if V::some(row.iter().enumerate().map(bad)) {
                 return true;
             }
         }
     }
-    false
+    // the most calls that they can have had
+    let begun: usize = workers.iter().filter(|h| h.busy).map(|h| 1 + h.column as usize).sum();
+    number as usize > finished * (s.side + 1) + begun
 }
 
 fn bad_holds(records: &[Record], workers: &[Worker]) -> bool {
@@ -96,14 +106,17 @@ pub fn bad_sizes(s: &Shape, matrix: &[f64], lists: &[u8], records: &[Record], wo
 }
 
 /// Refusal 4 but for elements.
-pub fn damaged<V: Version>(s: &Shape, lists: &[u8], records: &[Record], workers: &[Worker]) -> bool {
-    bad_records::<V>(s, records) || bad_holds(records, workers) || bad_workers(s.side, records, workers) || bad_entries::<V>(s, lists)
+pub fn damaged<V: Version>(s: &Shape, lists: &[u8], records: &[Record], workers: &[Worker], number: u32) -> bool {
+    bad_records::<V>(s, records, workers, number)
+        || bad_holds(records, workers)
+        || bad_workers(s.side, records, workers)
+        || bad_entries::<V>(s, lists)
 }
 
 /// Refusals 1, 2 and 4 but for elements.
-fn state<V: Version>(s: &Shape, matrix: &[f64], lists: &[u8], records: &[Record], workers: &[Worker]) -> u8 {
+fn state<V: Version>(s: &Shape, matrix: &[f64], lists: &[u8], records: &[Record], workers: &[Worker], number: u32) -> u8 {
     let refusal = bad_sizes(s, matrix, lists, records, workers);
-    if refusal == 0 && damaged::<V>(s, lists, records, workers) {
+    if refusal == 0 && damaged::<V>(s, lists, records, workers, number) {
         return 4;
     }
     refusal
@@ -120,8 +133,8 @@ fn ready(n: usize, records: &[Record], p: usize) -> bool {
     (k == 0 || finished(p + 1 + i - (n + m * m))) && (i == k || finished(p - m)) && (j == k || finished(p - (j - k)))
 }
 
-pub fn take<V: Version>(s: &Shape, matrix: &[f64], lists: &[u8], records: &mut [Record], workers: &mut [Worker], w: usize, p: usize) -> u8 {
-    let refusal = state::<V>(s, matrix, lists, records, workers);
+pub fn take<V: Version>(s: &Shape, matrix: &[f64], lists: &[u8], records: &mut [Record], workers: &mut [Worker], number: &mut u32, w: usize, p: usize) -> u8 {
+    let refusal = state::<V>(s, matrix, lists, records, workers, *number);
     if refusal != 0 {
         return refusal;
     }
@@ -134,7 +147,8 @@ pub fn take<V: Version>(s: &Shape, matrix: &[f64], lists: &[u8], records: &mut [
     if !ready(s.tiles, records, p) {
         return 7;
     }
-    records[p][4] = TAKEN;
+    *number += 1;
+    put_take(&mut records[p], *number);
     workers[w] = Worker { busy: true, task: p as u16, column: 0 };
     0
 }
@@ -154,8 +168,8 @@ fn finite_tiles<V: Version>(s: &Shape, matrix: &[f64], r: Record) -> bool {
     }
 }
 
-pub fn work<V: Version>(s: &Shape, matrix: &mut [f64], lists: &mut [u8], records: &mut [Record], workers: &mut [Worker], w: usize) -> u8 {
-    let refusal = state::<V>(s, matrix, lists, records, workers);
+pub fn work<V: Version>(s: &Shape, matrix: &mut [f64], lists: &mut [u8], records: &mut [Record], workers: &mut [Worker], number: &mut u32, w: usize) -> u8 {
+    let refusal = state::<V>(s, matrix, lists, records, workers, *number);
     if refusal != 0 {
         return refusal;
     }
@@ -182,7 +196,8 @@ pub fn work<V: Version>(s: &Shape, matrix: &mut [f64], lists: &mut [u8], records
     if mark > DONE {
         fill(s, matrix, lists, r);
     }
-    put(&mut records[p], mark, more);
+    *number += 1;
+    put_column(&mut records[p], mark, more, w, *number);
     workers[w] = if mark == TAKEN { Worker { busy: true, task: h.task, column: h.column + 1 } } else { IDLE };
     0
 }

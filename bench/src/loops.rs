@@ -1,8 +1,9 @@
 //! Tasks as bytes, what a failed or spoiled one leaves, and the published loops.
 use crate::plain::{self, Shape, Version};
 
-/// Kind, k, i, j, mark, and the tie sum in two bytes, the low one first.
-pub type Record = [u8; 7];
+/// Kind, k, i, j, mark, the worker that ended the task, the tie sum in two bytes, the low one first, and the numbers of the calls that took and that
+/// ended it, in four each.
+pub type Record = [u8; 16];
 
 pub const TAKEN: u8 = 1;
 pub const DONE: u8 = 2;
@@ -15,13 +16,33 @@ pub fn task_count(n: usize) -> usize {
 
 /// The sum of a task's ties.
 pub fn ties(r: &Record) -> u16 {
-    u16::from_le_bytes([r[5], r[6]])
+    u16::from_le_bytes([r[6], r[7]])
 }
 
-/// What a task's column leaves in its record: the mark, and its ties added to the sum.
-pub fn put(r: &mut Record, mark: u8, more: u16) {
-    let [low, high] = (ties(r) + more).to_le_bytes();
-    (r[4], r[5], r[6]) = (mark, low, high);
+/// The number of the call that took a task.
+pub fn took(r: &Record) -> u32 {
+    u32::from_le_bytes([r[8], r[9], r[10], r[11]])
+}
+
+/// The number of the call that ended it.
+pub fn ended(r: &Record) -> u32 {
+    u32::from_le_bytes([r[12], r[13], r[14], r[15]])
+}
+
+/// What the take by call `number` leaves in a task's record.
+pub fn put_take(r: &mut Record, number: u32) {
+    r[4] = TAKEN;
+    r[8..12].copy_from_slice(&number.to_le_bytes());
+}
+
+/// What a task's column leaves in its record: its ties added to the sum, and where the task ends, its mark, worker w and call `number`.
+pub fn put_column(r: &mut Record, mark: u8, more: u16, w: usize, number: u32) {
+    let sum = ties(r) + more;
+    r[6..8].copy_from_slice(&sum.to_le_bytes());
+    if mark != TAKEN {
+        (r[4], r[5]) = (mark, w as u8);
+        r[12..].copy_from_slice(&number.to_le_bytes());
+    }
 }
 
 /// The number of T-1(k) as (k,k,k), T-2(k,j) as (k,k,j), T-3(k,i) as (k,i,k), T-4(k,i,j) as itself.
@@ -29,18 +50,23 @@ pub fn number(n: usize, k: usize, i: usize, j: usize) -> usize {
     task_count(n) - task_count(n - k) + (i - k) * (n - k) + (j - k)
 }
 
+/// The waiting record of a task.
+fn waiting(kind: u8, k: usize, i: usize, j: usize) -> Record {
+    [kind, k as u8, i as u8, j as u8, 0, 0, 0, 0, 0, 0, 0, 0, 0, 0, 0, 0]
+}
+
 /// The waiting records in number order.
 pub fn numbering(n: usize) -> Vec<Record> {
     let mut out = Vec::new();
     for k in 0..n {
-        out.push([1, k as u8, 0, 0, 0, 0, 0]);
+        out.push(waiting(1, k, 0, 0));
         for j in k + 1..n {
-            out.push([2, k as u8, 0, j as u8, 0, 0, 0]);
+            out.push(waiting(2, k, 0, j));
         }
         for i in k + 1..n {
-            out.push([3, k as u8, i as u8, 0, 0, 0, 0]);
+            out.push(waiting(3, k, i, 0));
             for j in k + 1..n {
-                out.push([4, k as u8, i as u8, j as u8, 0, 0, 0]);
+                out.push(waiting(4, k, i, j));
             }
         }
     }
@@ -98,18 +124,24 @@ pub fn fill(s: &Shape, m: &mut [f64], l: &mut [u8], r: Record) {
     }
 }
 
-/// The published loops: the tasks in number order, each spoiled, failed or done.
-pub fn loops<V: Version>(s: &Shape, m: &mut [f64], l: &mut [u8], records: &mut [Record]) {
+/// The published loops: the tasks in number order, each spoiled, failed or done. Takes and columns are counted as those of a run with one worker: the
+/// run's number.
+pub fn loops<V: Version>(s: &Shape, m: &mut [f64], l: &mut [u8], records: &mut [Record]) -> u32 {
     let n = s.tiles;
+    let mut number = 0;
     l.fill(0);
     for p in 0..records.len() {
         let r = records[p];
         let (k, i, j) = triple(r);
         let (mut mark, mut sum) = (DONE, 0);
+        number += 1;
+        put_take(&mut records[p], number);
         if spoiled(n, records, k, i, j) {
             mark = SPOILED;
+            number += 1;
         } else {
             for c in 0..s.side {
+                number += 1;
                 let Some(more) = column::<V>(s, m, l, r, c) else {
                     mark = FAILED;
                     break;
@@ -120,6 +152,7 @@ pub fn loops<V: Version>(s: &Shape, m: &mut [f64], l: &mut [u8], records: &mut [
         if mark != DONE {
             fill(s, m, l, r);
         }
-        put(&mut records[p], mark, sum);
+        put_column(&mut records[p], mark, sum, 0, number);
     }
+    number
 }

@@ -47,10 +47,11 @@ fn thread_time() -> f64 {
 // ---- what is timed
 
 /// What both sides are lent; answers and text are empty where a call has none, and so are the records as structs where no call is over structs. The
-/// workers are Rattle's: the Rust calls have their own.
+/// workers but for the run's number are Rattle's: the Rust calls have their own. In any order of work the records may tell other workers and calls.
 #[derive(Clone)]
 struct Lent {
     to: solumivaf::Lent,
+    any_order: bool,
     structs: Vec<TaskRecord>,
     answers: Vec<f64>,
     text: Vec<u8>,
@@ -86,7 +87,14 @@ impl Lent {
     fn same(&self, other: &Lent) -> bool {
         let bits = |a: &[f64], b: &[f64]| a.iter().zip(b).all(|(a, b)| a.to_bits() == b.to_bits());
         let (x, y) = (&self.to, &other.to);
-        x.lists == y.lists && x.records == y.records && self.text == other.text && bits(&x.matrix, &y.matrix) && bits(&self.answers, &other.answers)
+        let work = |r: &solumivaf::Record| (r.kind, r.k, r.i, r.j, r.mark, r.ties());
+        x.lists == y.lists
+            && x.records.iter().map(work).eq(y.records.iter().map(work))
+            && (self.any_order || x.records == y.records)
+            && x.workers.number == y.workers.number
+            && self.text == other.text
+            && bits(&x.matrix, &y.matrix)
+            && bits(&self.answers, &other.answers)
     }
 }
 
@@ -105,12 +113,12 @@ fn fresh(s: &Shape, seed: u64) -> Lent {
     let n = s.tiles * s.side;
     let mut to = solumivaf::Lent::of(sizes(s, 1), numbers(seed, n * n));
     bytes(&mut to.records).copy_from_slice(&loops::numbering(s.tiles));
-    Lent { to, structs: Vec::new(), answers: Vec::new(), text: Vec::new() }
+    Lent { to, any_order: false, structs: Vec::new(), answers: Vec::new(), text: Vec::new() }
 }
 
-/// The records as the Rust side has them, seven bytes each.
+/// The records as the Rust side has them, 16 bytes each.
 fn bytes(records: &mut [solumivaf::Record]) -> &mut [Record] {
-    // SAFETY: a `solumivaf::Record` is seven `u8` in C's layout, so it has the size and alignment of seven bytes; the borrow passes on.
+    // SAFETY: a `solumivaf::Record` is 16 `u8` in C's layout, so it has the size and alignment of 16 bytes; the borrow passes on.
     unsafe { std::slice::from_raw_parts_mut(records.as_mut_ptr().cast(), records.len()) }
 }
 
@@ -320,17 +328,19 @@ fn factorize(s: &Shape, workers: usize, budget: u64, x: &mut Lent) -> u64 {
 }
 
 fn plain_run<V: Version>(s: &Shape, x: &mut Lent) {
-    loops::loops::<V>(s, &mut x.to.matrix, &mut x.to.lists, bytes(&mut x.to.records));
+    x.to.workers.number = loops::loops::<V>(s, &mut x.to.matrix, &mut x.to.lists, bytes(&mut x.to.records));
 }
 
 fn runs(table: &mut Table, tiles: usize, t: usize, rounds: usize) {
     let s = black_box(Shape { tiles, side: t });
-    let start = fresh(&s, 11);
+    let mut start = fresh(&s, 11);
     let calls = (loops::task_count(tiles) * (t + 1)) as u64;
     for workers in [1, 8, 32] {
+        start.any_order = workers > 1;
         let times = compare(rounds, 1, &start, versions!(plain_run, |x| &s, x), |x| assert_eq!(factorize(&s, workers, u64::MAX, x), calls));
         table.row(format!("opening and whole run, N = {tiles}, t = {t}, W = {workers}"), times);
     }
+    start.any_order = false;
     let start = start.with_structs();
     let over_structs = |x: &mut Lent| assert_eq!(structs::factorize(&s, 1, u64::MAX, &mut x.to, &mut x.structs), calls);
     let times = compare(rounds, 1, &start, versions!(plain_run, |x| &s, x), over_structs);
@@ -342,7 +352,8 @@ fn runs(table: &mut Table, tiles: usize, t: usize, rounds: usize) {
 #[inline(never)]
 fn plain_take<V: Version>(s: &Shape, workers: usize, p: usize, x: &mut Lent) {
     let mut slots = [IDLE; 32];
-    assert_eq!(calls::take::<V>(s, &x.to.matrix, &x.to.lists, bytes(&mut x.to.records), &mut slots[..workers], 0, p), 0);
+    let number = &mut x.to.workers.number;
+    assert_eq!(calls::take::<V>(s, &x.to.matrix, &x.to.lists, bytes(&mut x.to.records), &mut slots[..workers], number, 0, p), 0);
 }
 
 #[inline(never)]
@@ -355,7 +366,8 @@ fn rattle_take(s: &Shape, workers: usize, p: usize, x: &mut Lent) {
 fn plain_column<V: Version>(s: &Shape, workers: usize, p: usize, c: usize, x: &mut Lent) {
     let mut slots = [IDLE; 32];
     slots[0] = Worker { busy: true, task: p as u16, column: c as u8 };
-    assert_eq!(calls::work::<V>(s, &mut x.to.matrix, &mut x.to.lists, bytes(&mut x.to.records), &mut slots[..workers], 0), 0);
+    let number = &mut x.to.workers.number;
+    assert_eq!(calls::work::<V>(s, &mut x.to.matrix, &mut x.to.lists, bytes(&mut x.to.records), &mut slots[..workers], number, 0), 0);
 }
 
 #[inline(never)]
@@ -386,9 +398,7 @@ fn single_calls(table: &mut Table, tiles: usize, t: usize, rounds: usize) {
     let mut start = fresh(&s, 13);
     factorize(&s, 1, (p * (t + 1)) as u64, &mut start);
     let mut taken = start.clone();
-    taken.to.records[p].mark = loops::TAKEN;
-    taken.to.workers.busy[0] = 1;
-    taken.to.workers.task[0] = p as u16;
+    rattle_take(&s, 1, p, &mut taken);
     for workers in [1, 32] {
         let times = compare(rounds, 1, &start, versions!(plain_take, |x| &s, workers, p, x), |x| rattle_take(&s, workers, p, x));
         table.row(format!("a take, N = {tiles}, t = {t}, W = {workers}"), times);
@@ -406,7 +416,7 @@ fn single_calls(table: &mut Table, tiles: usize, t: usize, rounds: usize) {
 
 #[inline(never)]
 fn plain_solve<V: Version>(s: &Shape, right: &[f64], x: &mut Lent) {
-    assert_eq!(solving::solve::<V>(s, &x.to.matrix, &x.to.lists, bytes(&mut x.to.records), &[IDLE], right, &mut x.answers), 0);
+    assert_eq!(solving::solve::<V>(s, &x.to.matrix, &x.to.lists, bytes(&mut x.to.records), &[IDLE], x.to.workers.number, right, &mut x.answers), 0);
 }
 
 #[inline(never)]

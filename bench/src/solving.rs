@@ -73,7 +73,7 @@ fn back_rows(s: &Shape, matrix: &[f64], y: &mut [f64]) -> bool {
     true
 }
 
-pub fn solve<V: Version>(s: &Shape, matrix: &[f64], lists: &[u8], records: &[Record], workers: &[Worker], right: &[f64], answers: &mut [f64]) -> u8 {
+pub fn solve<V: Version>(s: &Shape, matrix: &[f64], lists: &[u8], records: &[Record], workers: &[Worker], number: u32, right: &[f64], answers: &mut [f64]) -> u8 {
     let n = s.tiles * s.side;
     let refusal = bad_sizes(s, matrix, lists, records, workers);
     if refusal != 0 {
@@ -82,7 +82,7 @@ pub fn solve<V: Version>(s: &Shape, matrix: &[f64], lists: &[u8], records: &[Rec
     if right.len() != n || answers.len() != n {
         return 2;
     }
-    if damaged::<V>(s, lists, records, workers) || !V::all_finite(matrix) {
+    if damaged::<V>(s, lists, records, workers, number) || !V::all_finite(matrix) {
         return 4;
     }
     if V::some(records.iter().map(|r| r[4] < DONE)) {

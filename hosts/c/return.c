@@ -20,10 +20,11 @@ static size_t tiles, side;
 static double *matrix, *right, *answers;
 static uint8_t *lists, busy[SOLUMIVAF_SLOTS], column[SOLUMIVAF_SLOTS];
 static uint16_t task[SOLUMIVAF_SLOTS];
+static uint32_t calls;
 static solumivaf_record *records;
 static char text[SOLUMIVAF_SYSTEM_LENGTH(SOLUMIVAF_MOST_TILES, SOLUMIVAF_MOST_SIDE) + 2];
 
-/* What all calls on these buffers are told first. */
+/* What all calls on these buffers are told first. The run's number follows: by its address where a call may write it. */
 #define LENT \
     tiles, side, WORKERS, matrix, SOLUMIVAF_MATRIX_LENGTH(tiles, side), lists, SOLUMIVAF_LISTS_LENGTH(tiles, side), records, TASKS, busy, task, \
         column, WORKERS
@@ -111,12 +112,12 @@ static void work(void) {
     size_t finished = 0;
     for (size_t w = 0; finished < TASKS; w = (w + 1) % WORKERS) {
         for (size_t p = finished; p < TASKS && !busy[w]; p++) {
-            solumivaf_told told = solumivaf_take(LENT, w, p);
+            solumivaf_told told = solumivaf_take(LENT, &calls, w, p);
             if (told.number != SOLUMIVAF_REFUSED_NOT_READY)
                 check("take", told.number, told.place);
         }
         if (busy[w]) {
-            solumivaf_told told = solumivaf_column(LENT, w);
+            solumivaf_told told = solumivaf_column(LENT, &calls, w);
             check("column", told.number, told.place);
         }
         while (finished < TASKS && records[finished].mark >= SOLUMIVAF_MARK_DONE)
@@ -146,14 +147,14 @@ int main(int count, char **words) {
         fail("memory", "there is too little; free some and start again");
     read_system(words[1]);
     read_right(words[2]);
-    solumivaf_told told = solumivaf_open(LENT);
+    solumivaf_told told = solumivaf_open(LENT, &calls);
     check("open", told.number, told.place);
     work();
-    told = solumivaf_outcome(LENT);
+    told = solumivaf_outcome(LENT, calls);
     check("outcome", told.number, told.place);
     if (told.kind != SOLUMIVAF_OUTCOME_GOOD)
         check(words[1], told.kind == SOLUMIVAF_OUTCOME_OVERFLOW ? SOLUMIVAF_REFUSED_OVERFLOW : SOLUMIVAF_REFUSED_SINGULAR, told.place);
-    told = solumivaf_solve(LENT, right, ROWS, answers, ROWS);
+    told = solumivaf_solve(LENT, calls, right, ROWS, answers, ROWS);
     check("solve", told.number, told.place);
     print_answers();
     return EXIT_SUCCESS;

@@ -21,7 +21,7 @@ import os
 import struct
 from typing import Iterable, List, NamedTuple, Sequence, Tuple
 
-VERSION = 4
+VERSION = 5
 MOST_TILES, MOST_SIDE, MOST_TASKS, SLOTS = 16, 16, 1496, 32
 TO_THE_END = 2 ** 64 - 1
 
@@ -30,7 +30,7 @@ REFUSALS = {
     1: ("tiles or side is outside 1 to 16, or workers outside 1 to 32", None, "Give sizes in range."),
     2: ("a length, or the count of the workers lent, is not the one that the sizes call for", None, "Compare each length with the sizes."),
     3: ("a number isn't finite", "offset", "Replace the infinity or NaN there."),
-    4: ("what was lent is damaged: a record, a worker's slot, an entry of a row list or a number is not as the calls leave it", None,
+    4: ("what was lent is damaged: a record, a worker's slot, the run's number, an entry of a list or a number is not as the calls leave it", None,
         "Go back to a copy from before the damage, or open the system again."),
     5: ("the worker does not exist, is busy and cannot take, or is idle and has no column to do", "worker",
         "Name a worker below W, an idle one to take and a busy one for a column."),
@@ -125,9 +125,11 @@ class Mark(enum.IntEnum):
 
 
 class Record(ctypes.Structure):
-    """A task: its kind, 1 to 4 for T-1 to T-4, k, i and j, 0 where the kind has none, its mark, and the sum of its ties, which crosses as two bytes,
-    the low one first."""
-    _fields_ = [(name, ctypes.c_uint8) for name in ("kind", "k", "i", "j", "mark")] + [("_ties", ctypes.c_uint8 * 2)]
+    """A task: its kind, 1 to 4 for T-1 to T-4, k, i and j, 0 where the kind has none, its mark, the worker that ended it, the sum of its ties, and
+    the numbers of the calls that took and ended it. Worker and calls are 0 until then. They tell the order of work: two runs of a system may differ
+    in them, and in nothing else. A number of more than one byte crosses as its bytes, the low one first."""
+    _fields_ = [(name, ctypes.c_uint8) for name in ("kind", "k", "i", "j", "mark", "worker")] + [
+        ("_ties", ctypes.c_uint8 * 2), ("_took", ctypes.c_uint8 * 4), ("_ended", ctypes.c_uint8 * 4)]
 
     @property
     def ties(self) -> int:
@@ -139,10 +141,41 @@ class Record(ctypes.Structure):
     def ties(self, value: int) -> None:
         self._ties[:] = _whole(value, 2 ** 16 - 1).to_bytes(2, "little")
 
+    @property
+    def took(self) -> int:
+        """The number of the take that gave the task to a worker, 0 while it waits."""
+        return int.from_bytes(self._took, "little")
+
+    @took.setter
+    def took(self, value: int) -> None:
+        self._took[:] = _whole(value, 2 ** 32 - 1).to_bytes(4, "little")
+
+    @property
+    def ended(self) -> int:
+        """The number of the column that ended the task, done, failed or spoiled, 0 before that. A task that had to wait for this one was taken
+        later."""
+        return int.from_bytes(self._ended, "little")
+
+    @ended.setter
+    def ended(self, value: int) -> None:
+        self._ended[:] = _whole(value, 2 ** 32 - 1).to_bytes(4, "little")
+
 
 class Workers(ctypes.Structure):
-    """The worker slots: slot v has whether worker v is busy (any byte but 0), its task and its next column. The first `count` are lent."""
-    _fields_ = [("count", ctypes.c_size_t), ("busy", ctypes.c_uint8 * SLOTS), ("task", ctypes.c_uint16 * SLOTS), ("column", ctypes.c_uint8 * SLOTS)]
+    """The worker slots: slot v has whether worker v is busy (any byte but 0), its task and its next column. The first `count` are lent. With them
+    goes the run's number, which crosses by its address where a call may write it."""
+    _fields_ = [("count", ctypes.c_size_t), ("busy", ctypes.c_uint8 * SLOTS), ("task", ctypes.c_uint16 * SLOTS), ("column", ctypes.c_uint8 * SLOTS),
+                ("_number", ctypes.c_uint32 * 1)]
+
+    @property
+    def number(self) -> int:
+        """The run's number: how many takes and columns were accepted since the opening, those inside a run among them. Each has the next one as its
+        own, from 1 on."""
+        return self._number[0]
+
+    @number.setter
+    def number(self, value: int) -> None:
+        self._number[0] = _whole(value, 2 ** 32 - 1)
 
 
 class Run(NamedTuple):
@@ -182,13 +215,14 @@ _BYTES = [ctypes.POINTER(ctypes.c_uint8), _SIZE]
 _TEXT = [ctypes.c_char_p, _SIZE]
 _SLOTS = [ctypes.POINTER(kind * SLOTS) for kind in (ctypes.c_uint8, ctypes.c_uint16, ctypes.c_uint8)]
 _LENT = [_SIZE] * 3 + _NUMBERS + _BYTES + [ctypes.POINTER(Record), _SIZE] + _SLOTS + [_SIZE]
+_WRITTEN, _READ = _LENT + [ctypes.POINTER(ctypes.c_uint32)], _LENT + [ctypes.c_uint32]
 _FUNCTIONS = {
-    "solumivaf_open": (_Told, _LENT),
-    "solumivaf_take": (_Told, _LENT + [_SIZE, _SIZE]),
-    "solumivaf_column": (_Told, _LENT + [_SIZE]),
-    "solumivaf_run": (_Told, _LENT + [ctypes.c_uint64]),
-    "solumivaf_outcome": (_Told, _LENT),
-    "solumivaf_solve": (_Told, _LENT + _NUMBERS + _NUMBERS),
+    "solumivaf_open": (_Told, _WRITTEN),
+    "solumivaf_take": (_Told, _WRITTEN + [_SIZE, _SIZE]),
+    "solumivaf_column": (_Told, _WRITTEN + [_SIZE]),
+    "solumivaf_run": (_Told, _WRITTEN + [ctypes.c_uint64]),
+    "solumivaf_outcome": (_Told, _READ),
+    "solumivaf_solve": (_Told, _READ + _NUMBERS + _NUMBERS),
     "solumivaf_read_sizes": (_Read, _TEXT),
     "solumivaf_read_system": (_Read, _TEXT + _NUMBERS),
     "solumivaf_read_result": (_Read, _TEXT + _NUMBERS + _BYTES),
@@ -283,7 +317,8 @@ class Lent:
     """Everything lent to a call, around a copy of the matrix, whose numbers stand tile after tile and each tile row by row.
 
     The attributes are ctypes arrays: `matrix[:]` and `lists[:]` are lists, `records[p].mark` is a task's mark and `records[p].ties` the sum of its
-    ties, `workers.busy[w]` a worker's byte. For sizes out of range, lists and records are empty, so that opening is refused."""
+    ties, `records[p].worker`, `.took` and `.ended` tell who did it and when, `workers.busy[w]` is a worker's byte and `workers.number` the run's
+    number. For sizes out of range, lists and records are empty, so that opening is refused."""
 
     def __init__(self, sizes: Tuple[int, int, int], matrix: Sequence[float]) -> None:
         self.sizes = Sizes(*(_whole(size) for size in sizes))
@@ -303,29 +338,31 @@ class Lent:
         return told
 
     def open(self) -> None:
-        """Starts the work on the matrix: row lists of 0, every task waiting and without ties, every worker idle."""
+        """Starts the work on the matrix: row lists of 0, every task waiting and without ties, worker and calls, every worker idle, the run's number
+        0."""
         _test_arithmetic()
-        self._call("solumivaf_open")
+        self._call("solumivaf_open", self.workers._number)
 
     def take(self, worker: int, task: int) -> None:
-        """A worker takes a task that is ready."""
-        self._call("solumivaf_take", _whole(worker), _whole(task))
+        """A worker takes a task that is ready. The run's number grows by 1, and the task's record gets it."""
+        self._call("solumivaf_take", self.workers._number, _whole(worker), _whole(task))
 
     def column(self, worker: int) -> None:
-        """A busy worker does the next column of its task. The ties of a completed column join the task's sum."""
+        """A busy worker does the next column of its task. The ties of a completed column join the task's sum. The run's number grows by 1, and where
+        the task ends, its record gets it and the worker."""
         _test_arithmetic()
-        self._call("solumivaf_column", _whole(worker))
+        self._call("solumivaf_column", self.workers._number, _whole(worker))
 
     def run(self, budget: int = TO_THE_END) -> Run:
         """The workers take turns from 0 on until all tasks are finished, or as many calls are made as the budget allows."""
         _test_arithmetic()
-        told = self._call("solumivaf_run", _whole(budget))
+        told = self._call("solumivaf_run", self.workers._number, _whole(budget))
         return Run(told.kind == 1, told.count)
 
     def outcome(self) -> Outcome:
         """The outcome by the marks and the diagonal, or the lowest unfinished task."""
         _test_arithmetic()
-        told = self._call("solumivaf_outcome")
+        told = self._call("solumivaf_outcome", self.workers.number)
         return Outcome(Ending(told.kind), told.place)
 
     def solve(self, right: Sequence[float]) -> List[float]:
@@ -333,7 +370,7 @@ class Lent:
         _test_arithmetic()
         tiles, side, _ = self.sizes
         lent, answers = _numbers(right), (ctypes.c_double * (right_length(tiles, side) if _in_range(tiles, side) else 0))()
-        self._call("solumivaf_solve", lent, len(lent), answers, len(answers))
+        self._call("solumivaf_solve", self.workers.number, lent, len(lent), answers, len(answers))
         return answers[:]
 
 

@@ -30,7 +30,7 @@ REFUSALS = {"SIZES": (1, "out of range"), "LENGTH": (2, "a length"), "NOT_FINITE
             "WORKER": (5, "the worker named"), "NO_TASK": (6, "the task named does not exist"), "NOT_READY": (7, "not ready"),
             "TOO_EARLY": (8, "too early"), "OVERFLOW": (9, "overflow"), "SINGULAR": (10, "singular"), "SOLVING": (11, "a solve meets"),
             "MALFORMED": (12, "malformed"), "OUT_OF_ORDER": (13, "out of order"), "END": (14, "ends too early"), "SHORT_TEXT": (15, "too short")}
-OTHERS = {"VERSION": 4, "MOST_TILES": 16, "MOST_SIDE": 16, "MOST_TASKS": 1496, "SLOTS": 32, "TASK_FACTOR": 1, "TASK_APPLY": 2, "TASK_COUPLE": 3,
+OTHERS = {"VERSION": 5, "MOST_TILES": 16, "MOST_SIDE": 16, "MOST_TASKS": 1496, "SLOTS": 32, "TASK_FACTOR": 1, "TASK_APPLY": 2, "TASK_COUPLE": 3,
           "TASK_PAIR": 4, "MARK_WAITING": 0, "MARK_TAKEN": 1, "MARK_DONE": 2, "MARK_FAILED": 3, "MARK_SPOILED": 4, "RUN_FINISHED": 1, "RUN_SPENT": 2,
           "OUTCOME_GOOD": 0, "OUTCOME_OVERFLOW": 1, "OUTCOME_SINGULAR": 2, "OUTCOME_UNFINISHED": 3}
 
@@ -49,13 +49,14 @@ int main(int count, char **words) {
     uint64_t bits = UINT64_C(0x0000123456789ABC);
     uint8_t lists[2], busy[SOLUMIVAF_SLOTS], column[SOLUMIVAF_SLOTS];
     uint16_t task[SOLUMIVAF_SLOTS];
+    uint32_t number;
     solumivaf_record records[1];
     memcpy(&matrix[2], &bits, sizeof bits);
     if (count == 3 && words[1][0] == 'r' && fesetround((int)strtol(words[2], NULL, 16)) != 0) return 1;
     if (count == 3 && words[1][0] == 'm') _mm_setcsr(_mm_getcsr() | (unsigned)strtoul(words[2], NULL, 16));
     int arithmetic = solumivaf_arithmetic() != 0;
-    if (solumivaf_open(1, 2, 1, matrix, 4, lists, 2, records, 1, busy, task, column, 1).number != 0) return 1;
-    if (solumivaf_run(1, 2, 1, matrix, 4, lists, 2, records, 1, busy, task, column, 1, UINT64_MAX).number != 0) return 1;
+    if (solumivaf_open(1, 2, 1, matrix, 4, lists, 2, records, 1, busy, task, column, 1, &number).number != 0) return 1;
+    if (solumivaf_run(1, 2, 1, matrix, 4, lists, 2, records, 1, busy, task, column, 1, &number, UINT64_MAX).number != 0) return 1;
     memcpy(&bits, &matrix[2], sizeof bits);
     printf("%d %016" PRIX64, arithmetic, bits);
     return 0;
@@ -74,16 +75,92 @@ static int sums(size_t tiles, size_t side) {
     double matrix[4] = {2, 2, -2, 1}, right[2] = {1, 1}, answers[2] = {5, 7};
     uint8_t lists[4], busy[SOLUMIVAF_SLOTS], column[SOLUMIVAF_SLOTS];
     uint16_t task[SOLUMIVAF_SLOTS];
+    uint32_t number;
     solumivaf_record records[5], damaged[5];
-    if (solumivaf_open(LENT).number != 0 || solumivaf_run(LENT, UINT64_MAX).number != 0) return 0;
+    if (solumivaf_open(LENT, &number).number != 0 || solumivaf_run(LENT, &number, UINT64_MAX).number != 0) return 0;
     for (size_t p = 0; p < TASKS; p++) printf("%u ", solumivaf_ties(records[p]));
     records[0].ties[1] = 1;
     memcpy(damaged, records, TASKS * sizeof *records);
-    return solumivaf_solve(LENT, right, 2, answers, 2).number == SOLUMIVAF_REFUSED_DAMAGED && answers[0] == 5 && answers[1] == 7
+    return solumivaf_solve(LENT, number, right, 2, answers, 2).number == SOLUMIVAF_REFUSED_DAMAGED && answers[0] == 5 && answers[1] == 7
         && memcmp(damaged, records, TASKS * sizeof *records) == 0;
 }
 
 int main(void) { return sums(1, 2) && sums(2, 1) ? 0 : 1; }
+"""
+
+# Prints worker, take and end of each task of a system, which three workers do by single calls with a refused one after each, and the run's number.
+# Then number and records are damaged, one by one: each bound is accepted, and what is one beyond it refused and left.
+HISTORY = r"""
+#include <stdio.h>
+#include "solumivaf.h"
+
+#define LENT 2, 1, 3, matrix, 4, lists, 4, records, 5, busy, task, column, 3
+
+static double matrix[4] = {0.25, -0.125, -0.5, 1}, right[2] = {0.25, 4}, answers[2] = {5, 7};
+static uint8_t lists[4], busy[SOLUMIVAF_SLOTS], column[SOLUMIVAF_SLOTS];
+static uint16_t task[SOLUMIVAF_SLOTS];
+static uint32_t number = UINT32_MAX;
+static solumivaf_record records[5];
+
+/* Whether a run without budget says that refusal, and leaves number and records. */
+static int answers_with(uint8_t refusal) {
+    uint32_t kept_number = number;
+    solumivaf_record kept[5];
+    memcpy(kept, records, sizeof kept);
+    return solumivaf_run(LENT, &number, 0).number == refusal && number == kept_number && memcmp(kept, records, sizeof kept) == 0;
+}
+
+static int with_number(uint32_t other, uint8_t refusal) {
+    uint32_t kept = number;
+    number = other;
+    int good = answers_with(refusal);
+    number = kept;
+    return good;
+}
+
+static int with_byte(uint8_t *byte, uint8_t other, uint8_t refusal) {
+    uint8_t kept = *byte;
+    *byte = other;
+    int good = answers_with(refusal);
+    *byte = kept;
+    return good;
+}
+
+/* Worker and calls of each task, while the number is the highest of these calls and all that the marks allow. */
+static int bounds(void) {
+    const uint8_t damaged = SOLUMIVAF_REFUSED_DAMAGED;
+    if (!with_number(number + 1, damaged) || !with_number(number - 1, damaged) || !with_number(UINT32_MAX, damaged)) return 0;
+    for (int p = 0; p < 5; p++) {
+        solumivaf_record *record = &records[p];
+        if (!with_byte(&record->worker, 2, 0) || !with_byte(&record->worker, 3, damaged) || !with_byte(&record->worker, 255, damaged)) return 0;
+        if (!with_byte(record->took, (uint8_t)number, 0) || !with_byte(record->ended, (uint8_t)number, 0)) return 0;
+        if (!with_byte(record->took, (uint8_t)(number + 1), damaged) || !with_byte(record->ended, (uint8_t)(number + 1), damaged)) return 0;
+        for (int at = 1; at < 4; at++)
+            if (!with_byte(&record->took[at], 1, damaged) || !with_byte(&record->ended[at], 255, damaged)) return 0;
+    }
+    return 1;
+}
+
+int main(void) {
+    const size_t order[5] = {0, 2, 1, 3, 4};
+    memset(records, 255, sizeof records);
+    if (solumivaf_open(LENT, &number).number != 0 || number != 0) return 1;
+    for (size_t at = 0; at < 5; at++) {
+        if (solumivaf_take(LENT, &number, at % 3, order[at]).number != 0 || number != 2 * at + 1) return 1;
+        if (solumivaf_take(LENT, &number, at % 3, 0).number != SOLUMIVAF_REFUSED_WORKER || number != 2 * at + 1) return 1;
+        if (!bounds()) return 1;
+        if (solumivaf_column(LENT, &number, at % 3).number != 0 || number != 2 * at + 2) return 1;
+        if (solumivaf_column(LENT, &number, at % 3).number != SOLUMIVAF_REFUSED_WORKER || number != 2 * at + 2) return 1;
+        if (!bounds()) return 1;
+    }
+    for (int p = 0; p < 5; p++) printf("%d %u %u, ", records[p].worker, solumivaf_took(records[p]), solumivaf_ended(records[p]));
+    printf("%u", number);
+    if (solumivaf_outcome(LENT, number).kind != SOLUMIVAF_OUTCOME_GOOD || solumivaf_outcome(LENT, UINT32_MAX).number != 0) return 1;
+    if (solumivaf_solve(LENT, number + 1, right, 2, answers, 2).number != SOLUMIVAF_REFUSED_DAMAGED) return 1;
+    if (solumivaf_solve(LENT, number - 1, right, 2, answers, 2).number != SOLUMIVAF_REFUSED_DAMAGED) return 1;
+    if (answers[0] != 5 || answers[1] != 7) return 1;
+    return solumivaf_solve(LENT, number, right, 2, answers, 2).number == 0 && answers[0] == 4 && answers[1] == 6 ? 0 : 1;
+}
 """
 
 # Counts what is allocated and freed, lets the allocation named in FAILING fail, and ends with a signal where something is kept.
@@ -189,22 +266,31 @@ int main(void) {
 int main(void) {
     solumivaf_record records[2];
     uint8_t bytes[sizeof records];
-    for (unsigned at = 0; at < sizeof bytes; at++) bytes[at] = (uint8_t)(0xF0 + at);
+    for (unsigned at = 0; at < sizeof bytes; at++) bytes[at] = (uint8_t)(0xE0 + at);
     memcpy(records, bytes, sizeof bytes);
-    for (int at = 0; at < 2; at++)
-        printf("%d %d %d %d %d %u\n", records[at].kind, records[at].k, records[at].i, records[at].j, records[at].mark, solumivaf_ties(records[at]));
-    return sizeof(solumivaf_record) == 7 && (const char *)&records[1] - (const char *)&records[0] == 7 ? 0 : 1;
+    for (int at = 0; at < 2; at++) {
+        solumivaf_record record = records[at];
+        printf("%d %d %d %d %d %d ", record.kind, record.k, record.i, record.j, record.mark, record.worker);
+        printf("%X %X %X\n", (unsigned)solumivaf_ties(record), (unsigned)solumivaf_took(record), (unsigned)solumivaf_ended(record));
+    }
+    return sizeof(solumivaf_record) == 16 && (const char *)&records[1] - (const char *)&records[0] == 16 ? 0 : 1;
 }
 """)
         for command in (C11, ["g++", "-std=c++11", "-x", "c++"] + WARNINGS):
             lines = self.printed(self.compiled(command, "-O2", source)).splitlines()
-            self.assertEqual(lines, ["240 241 242 243 244 %d" % 0xF6F5, "247 248 249 250 251 %d" % 0xFDFC])
+            self.assertEqual(lines, ["224 225 226 227 228 229 E7E6 EBEAE9E8 EFEEEDEC", "240 241 242 243 244 245 F7F6 FBFAF9F8 FFFEFDFC"])
 
     def test_ties(self):
         source = self.source("ties.c", TIES)
         for command in (C11, ["g++", "-std=c++11", "-x", "c++"] + WARNINGS):
             program = self.compiled(command, "-O2", source, "-x", "none", ARCHIVE)
             self.assertEqual(self.printed(program), "1 0 0 1 0 0 ")
+
+    def test_history(self):
+        source = self.source("history.c", HISTORY)
+        for command in (C11, ["g++", "-std=c++11", "-x", "c++"] + WARNINGS):
+            program = self.compiled(command, "-O2", source, "-x", "none", ARCHIVE)
+            self.assertEqual(self.printed(program), "0 1 2, 2 5 6, 1 3 4, 0 7 8, 1 9 10, 10")
 
     def test_readme(self):
         blocks = re.findall(r"(?ms)^```c\n(.*?)^```$", text_of(os.path.join(ROOT, "hosts", "README.md")))
@@ -325,7 +411,7 @@ class Example(Compiling):
     def test_mode_and_version(self):
         words = self.example("small", ".system"), self.example("small", ".right")
         self.fails("arithmetic: ", *words, program=self.compiled(C11, "-Ofast", RETURN, ARCHIVE))
-        other = self.source("version.c", "#include <stddef.h>\nsize_t __wrap_solumivaf_version(void) { return 5; }\n")
+        other = self.source("version.c", "#include <stddef.h>\nsize_t __wrap_solumivaf_version(void) { return 6; }\n")
         self.fails("library: ", *words, program=self.compiled(["gcc", "-I", os.path.dirname(HEADER)], RETURN, other, ARCHIVE,
                                                               "-Wl,--wrap=solumivaf_version"))
 

@@ -51,8 +51,8 @@ def opened(tiles, side, workers, matrix):
     return lent
 
 
-def finished(tiles, side, matrix):
-    lent = opened(tiles, side, 1, matrix)
+def finished(tiles, side, matrix, workers=1):
+    lent = opened(tiles, side, workers, matrix)
     lent.run()
     return lent
 
@@ -197,6 +197,33 @@ class Refusals(unittest.TestCase):
                 lent.records[task].ties = kept
             lent.run()
 
+    def test_damaged_history(self):
+        """Worker, calls and the run's number, each at its bounds and one beyond, in records of unfinished tasks too."""
+        begun = opened(2, 1, 3, [1, 2, 3, 4])
+        begun.take(2, 0)
+        for lent, number in ((opened(2, 1, 3, [1, 2, 3, 4]), 0), (begun, 1), (finished(2, 1, [1, 2, 3, 4], 3), 10)):
+            calls = ((lent.take, 0, 0), (lent.column, 0), (lent.run,), (lent.run, 0), (lent.solve, [1.0, 2.0]))
+            self.assertEqual(lent.workers.number, number)
+            below = (number - 1,) if number else ()
+            damages = [(lent.workers, "number", (number,), (number + 1, number + 256, number + 65536, 2 ** 32 - 1) + below)]
+            for record in lent.records:
+                damages.append((record, "worker", (0, 2), (3, 32, 255)))
+                for name in ("took", "ended"):
+                    damages.append((record, name, (0, number), (number + 1, number + 256, number + 65536, 2 ** 32 - 1)))
+            for thing, name, good, bad in damages:
+                kept = getattr(thing, name)
+                for value in good:
+                    setattr(thing, name, value)
+                    before = contents(lent)
+                    lent.run(0)
+                    self.assertEqual(contents(lent), before)
+                for value in bad:
+                    setattr(thing, name, value)
+                    for call, *words in calls:
+                        self.refused(4, 0, call, *words, lent=lent)
+                    lent.outcome()
+                setattr(thing, name, kept)
+
     def test_workers_and_tasks(self):
         lent = opened(2, 1, 2, [1, 2, 3, 4])
         self.refused(5, 2, lent.take, 2, 0, lent=lent)
@@ -271,6 +298,7 @@ class Arguments(unittest.TestCase):
 
         class Short:
             count, busy, task, column = 1, (ctypes.c_uint8 * 1)(), (ctypes.c_uint16 * 1)(), (ctypes.c_uint8 * 1)()
+            number, _number = 0, (ctypes.c_uint32 * 1)()
 
         lent.workers = Short
         self.assertRaises(ctypes.ArgumentError, lent.run)
@@ -309,11 +337,102 @@ class Ties(unittest.TestCase):
         record = solumivaf.Record()
         for value in (0, 1, 255, 256, 0x1234, 65535):
             record.ties = value
-            self.assertEqual((record.ties, bytes(record)), (value, b"\0\0\0\0\0" + struct.pack("<H", value)))
+            self.assertEqual((record.ties, bytes(record)), (value, struct.pack("<6xH8x", value)))
         for value, error in ((-1, ValueError), (65536, ValueError), (1.0, TypeError)):
             with self.assertRaises(error):
                 record.ties = value
         self.assertEqual(record.ties, 65535)
+
+
+class History(unittest.TestCase):
+    def told(self, lent):
+        return [(record.worker, record.took, record.ended) for record in lent.records]
+
+    def told_in_order(self, lent, workers):
+        """What holds in every run from an opening: each take and each end has a call of its own, the first task of a stage ends before the others of
+        its stage are taken, and a T-4 before the T-1 of its tile."""
+        calls = sorted(call for record in lent.records for call in (record.took, record.ended))
+        self.assertEqual(len(set(calls)), 2 * len(lent.records))
+        self.assertEqual((calls[0], calls[-1]), (1, lent.workers.number))
+        for record in lent.records:
+            self.assertLess(record.took, record.ended)
+            self.assertLess(record.worker, workers)
+            for other in lent.records:
+                if record.kind == 1 and other.k == record.k and other.kind != 1:
+                    self.assertLess(record.ended, other.took)
+                if record.kind == 4 and other.kind == 1 and record.i == record.j == other.k:
+                    self.assertLess(record.ended, other.took)
+
+    def test_by_hand(self):
+        self.assertEqual(self.told(finished(2, 1, [0.25, -0.125, -0.5, 1])), [(0, 1, 2), (0, 3, 4), (0, 5, 6), (0, 7, 8), (0, 9, 10)])
+        self.assertEqual(self.told(finished(2, 1, [0.25, -0.125, -0.5, 1], 2)), [(0, 1, 2), (1, 3, 5), (0, 4, 6), (1, 7, 8), (0, 9, 10)])
+        self.assertEqual(self.told(finished(1, 3, [1, 2, 3, 4, 5, 6, 7, 8, 10])), [(0, 1, 4)])
+        self.assertEqual(self.told(finished(2, 1, [1, 1e308, -1, 1e308], 2))[3:], [(1, 7, 8), (0, 9, 10)])
+
+    def test_call_by_call(self):
+        lent = opened(1, 2, 3, [1, 2, 3, 4])
+        self.assertEqual((self.told(lent), lent.workers.number), ([(0, 0, 0)], 0))
+        for call, told, number in ((lambda: lent.take(2, 0), (0, 1, 0), 1), (lambda: lent.column(2), (0, 1, 0), 2),
+                                   (lambda: lent.column(2), (2, 1, 3), 3), (lent.run, (2, 1, 3), 3)):
+            call()
+            self.assertEqual((self.told(lent), lent.workers.number), ([told], number))
+            before = contents(lent)
+            self.assertRaises(Refused, lent.column, 1)
+            self.assertRaises(Refused, lent.take, 0, 0)
+            self.assertEqual(contents(lent), before)
+
+    def test_opening(self):
+        lent, new = Lent(Sizes(2, 1, 2), [1, 2, 3, 4]), opened(2, 1, 2, [1, 2, 3, 4])
+        ctypes.memset(lent.records, 255, ctypes.sizeof(lent.records))
+        lent.workers.number = 2 ** 32 - 1
+        before = contents(lent)
+        lent.matrix[0] = math.nan
+        self.assertRaises(Refused, lent.open)
+        lent.matrix[0] = 1
+        self.assertEqual(contents(lent), before)
+        lent.open()
+        self.assertEqual(contents(lent), contents(new))
+        self.assertEqual((self.told(lent), lent.workers.number), ([(0, 0, 0)] * 5, 0))
+
+    def test_any_order(self):
+        """By single calls, whose numbers are kept here too, and by runs. In all but worker and calls the ends are the same."""
+        rng = random.Random(9)
+        for tiles, side in ((1, 5), (2, 2), (3, 2), (4, 1)):
+            matrix = [rng.choice((1.0, -1.0)) for _ in range(solumivaf.matrix_length(tiles, side))]
+            alone = finished(tiles, side, matrix)
+            for workers in (1, 3, 32):
+                lent, number, due = opened(tiles, side, workers, matrix), 0, {}
+                while not all_finished(lent):
+                    worker = rng.randrange(workers)
+                    task = lent.workers.task[worker]
+                    if lent.workers.busy[worker]:
+                        lent.column(worker)
+                        number += 1
+                        if not lent.workers.busy[worker]:
+                            due[task] = (worker, due[task], number)
+                    elif try_some(lent, worker, rng.randrange(len(lent.records))):
+                        number += 1
+                        due[lent.workers.task[worker]] = number
+                    self.assertEqual(lent.workers.number, number)
+                self.assertEqual(self.told(lent), [due[task] for task in range(len(due))])
+                for other in (lent, finished(tiles, side, matrix, workers)):
+                    self.told_in_order(other, workers)
+                    self.assertEqual((contents(other)[:2], other.workers.number), (contents(alone)[:2], alone.workers.number))
+                    self.assertEqual([(record.mark, record.ties) for record in other.records],
+                                     [(record.mark, record.ties) for record in alone.records])
+
+    def test_numbers(self):
+        record, workers = solumivaf.Record(), solumivaf.Workers()
+        for value in (0, 1, 255, 256, 65536, 0x12345678, 2 ** 32 - 1):
+            record.took, record.ended, workers.number = value, 2 ** 32 - 1 - value, value
+            self.assertEqual((record.took, record.ended, workers.number), (value, 2 ** 32 - 1 - value, value))
+            self.assertEqual(bytes(record), struct.pack("<8xII", value, 2 ** 32 - 1 - value))
+        for thing, name in ((record, "took"), (record, "ended"), (workers, "number")):
+            kept = getattr(thing, name)
+            for value, error in ((-1, ValueError), (2 ** 32, ValueError), (1.0, TypeError)):
+                with self.assertRaises(error):
+                    setattr(thing, name, value)
+            self.assertEqual(getattr(thing, name), kept)
 
 
 class Busy(unittest.TestCase):
@@ -336,6 +455,7 @@ class Busy(unittest.TestCase):
             self.assertEqual(lent.workers.busy[:], [0, byte] + list(beyond))
             lent.run()
             self.assertEqual(lent.workers.busy[:], [0, 0] + list(beyond))
+            twin.take(1, 0)
             twin.run()
             self.assertEqual(contents(lent)[:3], contents(twin)[:3])
 
@@ -360,6 +480,7 @@ class Threads(unittest.TestCase):
             for thread in threads:
                 thread.join()
             self.assertEqual(result_of(lent), file_of("examples", name + ".result"))
+            History.told_in_order(self, lent, 8)
 
 
 class Arithmetic(unittest.TestCase):
@@ -429,9 +550,9 @@ class Loading(unittest.TestCase):
     def test_messages(self):
         for make, words in ((lambda path: None, "libsolumivaf.so is missing: run hosts/build, or name its folder in SOLUMIVAF_LIB"),
                             (lambda path: open(path, "wb").close(), "cannot be loaded: run hosts/build"),
-                            (self.compiled("int solumivaf_open;"), "is older than version 4, which this module is for: run hosts/build"),
-                            (self.compiled("long solumivaf_version(void) { return 5; }"),
-                             "has version 5, and this module is for version 4: run hosts/build")):
+                            (self.compiled("int solumivaf_open;"), "is older than version 5, which this module is for: run hosts/build"),
+                            (self.compiled("long solumivaf_version(void) { return 6; }"),
+                             "has version 6, and this module is for version 5: run hosts/build")):
             message = self.message(make)
             self.assertTrue(message.startswith("ImportError: "), message)
             self.assertIn(words, message)
@@ -443,8 +564,9 @@ class Loading(unittest.TestCase):
 class Declared(unittest.TestCase):
     """Every function has the parameters that the header declares, in their order: ctypes tests nothing of that."""
 
-    KINDS = {"size_t": ctypes.c_size_t, "uint64_t": ctypes.c_uint64, "uint16_t": ctypes.c_uint16, "uint8_t": ctypes.c_uint8,
-             "double *": ctypes.POINTER(ctypes.c_double), "uint8_t *": ctypes.POINTER(ctypes.c_uint8),
+    KINDS = {"size_t": ctypes.c_size_t, "uint64_t": ctypes.c_uint64, "uint32_t": ctypes.c_uint32, "uint16_t": ctypes.c_uint16,
+             "uint8_t": ctypes.c_uint8, "double *": ctypes.POINTER(ctypes.c_double), "uint8_t *": ctypes.POINTER(ctypes.c_uint8),
+             "uint32_t *": ctypes.POINTER(ctypes.c_uint32),
              "solumivaf_record *": ctypes.POINTER(solumivaf.Record)}
     SLOTS = {"busy": ctypes.c_uint8, "task": ctypes.c_uint16, "column": ctypes.c_uint8}
 
@@ -466,7 +588,7 @@ class Declared(unittest.TestCase):
         listed = re.search(r"typedef struct \{([^}]*)\} solumivaf_record;", file_of("hosts", "solumivaf.h").decode()).group(1)
         declared = [(name, int(count or 1)) for name, count in re.findall(r"uint8_t (\w+)(?:\[(\d+)\])?;", listed)]
         self.assertEqual([(name.lstrip("_"), ctypes.sizeof(kind)) for name, kind in solumivaf.Record._fields_], declared)
-        self.assertEqual((ctypes.sizeof(solumivaf.Record), ctypes.alignment(solumivaf.Record)), (7, 1))
+        self.assertEqual((ctypes.sizeof(solumivaf.Record), ctypes.alignment(solumivaf.Record)), (16, 1))
 
 
 class Readme(unittest.TestCase):

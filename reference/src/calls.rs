@@ -7,7 +7,7 @@ use crate::numbers::first_not_finite;
 use crate::tasks::table;
 use crate::tile::{fill, work_column, Shape};
 
-/// Checks sizes, lengths and elements, then makes lists, records and workers new.
+/// Checks sizes, lengths and elements, then makes lists, records and workers new and sets the run's number to 0.
 pub fn opening(sizes: Sizes, lent: &mut Lent) -> Result<(), Refusal> {
     let (shape, workers) = accept_sizes(sizes)?;
     accept_lengths(shape, workers, lent)?;
@@ -27,11 +27,15 @@ pub fn opening(sizes: Sizes, lent: &mut Lent) -> Result<(), Refusal> {
             j: task.j as u8,
             mark: WAITING,
             tie_sum: 0,
+            worker: 0,
+            took: 0,
+            ended: 0,
         };
     }
     for worker in 0..workers {
         lent.workers[worker] = IDLE;
     }
+    lent.run_number = 0;
     Ok(())
 }
 
@@ -71,8 +75,11 @@ pub fn take(sizes: Sizes, lent: &mut Lent, worker: u64, task: u64) -> Result<(),
     Ok(())
 }
 
+/// An accepted take, counted.
 fn make_take(lent: &mut Lent, worker: usize, task: usize) {
+    lent.run_number += 1;
     lent.records[task].mark = TAKEN;
+    lent.records[task].took = lent.run_number;
     lent.workers[worker] = Worker { busy: true, task: task as u16, column: 0 };
 }
 
@@ -93,7 +100,9 @@ pub fn column(sizes: Sizes, lent: &mut Lent, worker: u64) -> Result<(), Refusal>
     Ok(())
 }
 
+/// An accepted column, counted.
 fn make_column(shape: Shape, lent: &mut Lent, worker: usize) {
+    lent.run_number += 1;
     let held = lent.workers[worker];
     let number = held.task as usize;
     let c = held.column as usize;
@@ -115,6 +124,8 @@ fn make_column(shape: Shape, lent: &mut Lent, worker: usize) {
         fill(shape, &mut lent.matrix, &mut lent.lists, task);
     }
     lent.records[number].mark = mark;
+    lent.records[number].worker = worker as u8;
+    lent.records[number].ended = lent.run_number;
     lent.workers[worker] = IDLE;
 }
 

@@ -6,20 +6,21 @@ use std::collections::HashSet;
 use crate::families::{numbers, FAMILIES};
 use crate::lent::{Lent, Record, Worker, DONE, IDLE, SLOTS, TAKEN, WAITING};
 use crate::numbers::{LARGEST as M, SMALLEST as S};
-use crate::oddities::record_of;
+use crate::oddities::{record_of, set_numbers};
 use crate::rng::Rng;
 use crate::script::{call_line, lend_line, COLUMN};
 use crate::tasks::table;
 use crate::tile::Shape;
 
 /// Two tiles a side; the task is T-1(0), T-2(0,1), T-3(0,1) or T-4(0,1,1), by its kind, and stands at a
-/// column, with a tie sum so far.
+/// column, with a tie sum so far. The place among the cases chooses W and the call numbers.
 #[derive(Clone)]
 pub struct Case {
     pub kind: u8,
     pub side: usize,
     pub column: usize,
     pub tie_sum: usize,
+    pub place: usize,
     pub matrix: Vec<f64>,
     pub lists: Vec<u8>,
 }
@@ -28,6 +29,11 @@ impl Case {
     /// The number of the case's task.
     pub fn task(&self) -> usize {
         self.kind as usize - 1
+    }
+
+    /// One worker; two in a third of the cases, so that a record may name one that didn't do the column.
+    fn workers(&self) -> usize {
+        1 + (self.place % 3) / 2
     }
 
     /// Worker 0 holds the task and stands at the column; earlier tasks are done and later ones wait, so
@@ -44,11 +50,29 @@ impl Case {
         let mut records: Vec<Record> =
             (0..table(2).tasks.len()).map(|number| record_of(shape, number, mark(number))).collect();
         records[self.task()].tie_sum = self.tie_sum as u16;
-        Lent { matrix: self.matrix.clone(), lists: self.lists.clone(), records, count: 1, workers }
+        let (matrix, lists, count) = (self.matrix.clone(), self.lists.clone(), self.workers() as u64);
+        let mut lent = Lent { matrix, lists, records, count, run_number: 0, workers };
+        match self.place % 3 {
+            0 => self.set_counted(&mut lent),
+            _ => set_numbers(&mut Rng::new(self.place as u64), shape, self.workers(), &mut lent),
+        }
+        lent
+    }
+
+    /// The call numbers that one worker leaves who does the tasks in number order.
+    fn set_counted(&self, lent: &mut Lent) {
+        let calls = self.side + 1;
+        for number in 0..=self.task() {
+            lent.records[number].took = (number * calls + 1) as u32;
+        }
+        for number in 0..self.task() {
+            lent.records[number].ended = ((number + 1) * calls) as u32;
+        }
+        lent.run_number = (self.task() * calls + 1 + self.column) as u32;
     }
 
     pub fn script(&self) -> String {
-        let call = call_line(COLUMN, &[2, self.side as u64, 1, 0]);
+        let call = call_line(COLUMN, &[2, self.side as u64, self.workers() as u64, 0]);
         format!("{}\n{}\n", lend_line(&self.lent()), call)
     }
 }
@@ -60,7 +84,7 @@ fn crafted(kind: u8, side: usize, column: usize, tiles: [&[f64]; 4]) -> Case {
         assert_eq!(tile.len(), side * side);
         matrix.extend_from_slice(tile);
     }
-    Case { kind, side, column, tie_sum: 0, matrix, lists: vec![0; 4 * side] }
+    Case { kind, side, column, tie_sum: 0, place: 0, matrix, lists: vec![0; 4 * side] }
 }
 
 fn crafted_singles() -> Vec<Case> {
@@ -228,7 +252,7 @@ fn random_case(rng: &mut Rng, kind: u8, side: usize, family: usize) -> Case {
     }
     let lists = random_lists(rng, Shape { tiles: 2, side });
     let tie_sum = rng.below(side * column + 1);
-    Case { kind, side, column, tie_sum, matrix, lists }
+    Case { kind, side, column, tie_sum, place: 0, matrix, lists }
 }
 
 /// Random choices through one column of tiles (0,0) and (1,0): zeros stop the pivot search of T-1 and
@@ -294,6 +318,9 @@ pub fn all_cases(seed: u64) -> Vec<Case> {
         for family in [0, 2] {
             cases.push(random_case(&mut rng, kind, 16, family));
         }
+    }
+    for (place, case) in cases.iter_mut().enumerate() {
+        case.place = place;
     }
     cases
 }

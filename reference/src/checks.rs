@@ -38,12 +38,12 @@ pub fn accept_lengths(shape: Shape, workers: usize, lent: &Lent) -> Result<(), R
     Ok(())
 }
 
-/// Refusal 4 but for the elements: records, marks, tie sums, workers and list entries.
+/// Refusal 4 but for the elements: records, marks, tie sums, call numbers, workers and list entries.
 pub fn accept_state(shape: Shape, workers: usize, lent: &Lent) -> Result<(), Refusal> {
     if !records_fit(shape, lent) || !holders_fit(workers, lent) || !sums_fit(shape, workers, lent) {
         return refuse(4, 0);
     }
-    if !workers_fit(shape, workers, lent) || !entries_fit(shape, lent) {
+    if !workers_fit(shape, workers, lent) || !entries_fit(shape, lent) || !numbers_fit(shape, workers, lent) {
         return refuse(4, 0);
     }
     Ok(())
@@ -84,6 +84,11 @@ fn holders(workers: usize, lent: &Lent, number: usize) -> Vec<Worker> {
     holders
 }
 
+/// The column at which the worker that holds a taken task stands.
+fn next_column(workers: usize, lent: &Lent, number: usize) -> usize {
+    holders(workers, lent, number).iter().map(|held| held.column as usize).sum()
+}
+
 /// No tie sum is above the most that it may be.
 fn sums_fit(shape: Shape, workers: usize, lent: &Lent) -> bool {
     for number in 0..lent.records.len() {
@@ -96,12 +101,38 @@ fn sums_fit(shape: Shape, workers: usize, lent: &Lent) -> bool {
 
 /// The most that a task's tie sum may be: t for each column where it is done or failed, t for each before the next one where it is taken, else 0.
 pub fn largest_sum(shape: Shape, workers: usize, lent: &Lent, number: usize) -> usize {
-    let columns: usize = match lent.records[number].mark {
+    let columns = match lent.records[number].mark {
         DONE | FAILED => shape.side,
-        TAKEN => holders(workers, lent, number).iter().map(|held| held.column as usize).sum(),
+        TAKEN => next_column(workers, lent, number),
         _ => 0,
     };
     shape.side * columns
+}
+
+/// The run's number is not above its most nor below a call number in a record, and every record names a worker below W.
+fn numbers_fit(shape: Shape, workers: usize, lent: &Lent) -> bool {
+    for record in &lent.records {
+        if record.took > lent.run_number || record.ended > lent.run_number {
+            return false;
+        }
+        if record.worker as usize >= workers {
+            return false;
+        }
+    }
+    lent.run_number as u64 <= largest_number(shape, workers, lent)
+}
+
+/// The most that the run's number may be: a finished task had t + 1 calls at most, a taken one its take and the columns before the next.
+pub fn largest_number(shape: Shape, workers: usize, lent: &Lent) -> u64 {
+    let mut most = 0;
+    for number in 0..lent.records.len() {
+        most += match lent.records[number].mark {
+            DONE | FAILED | SPOILED => 1 + shape.side as u64,
+            TAKEN => 1 + next_column(workers, lent, number) as u64,
+            _ => 0,
+        };
+    }
+    most
 }
 
 /// Every busy worker holds an existing task with mark 1 and stands at a column below t.

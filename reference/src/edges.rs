@@ -3,9 +3,9 @@
 
 use std::cmp::Ordering;
 
-use crate::checks::largest_sum;
+use crate::checks::{largest_number, largest_sum};
 use crate::families::{not_finite, number, numbers};
-use crate::lent::{Lent, Sizes, Worker, DONE, FAILED, SPOILED, TAKEN, WAITING};
+use crate::lent::{Lent, Record, Sizes, Worker, DONE, FAILED, SPOILED, TAKEN, WAITING};
 use crate::numbers::{LARGEST, SMALLEST};
 use crate::oddities::before_opening;
 use crate::script::{lend_line, solve_line, COLUMN, OPENING, OUTCOME, RUN, SOLVE, TAKE};
@@ -21,6 +21,9 @@ const ELEMENT: u8 = 0;
 /// A tie sum above its most, which is refusal 4 wherever it is looked for.
 const SUM: u8 = 0xFF;
 
+/// The run's number above its most, a call number above the run's, or a worker that is W: refusal 4 wherever it is looked for.
+const NUMBER: u8 = 0xFE;
+
 /// Counts of workers lent, each with a W that differs from it.
 const OTHER_COUNTS: [(u64, u64); 5] = [(3, 2), (3, 4), (0, 1), (33, 32), (u32::MAX as u64, 32)];
 
@@ -28,10 +31,10 @@ const OTHER_COUNTS: [(u64, u64); 5] = [(3, 2), (3, 4), (0, 1), (33, 32), (u32::M
 fn faults(command: u64) -> &'static [u8] {
     match command {
         OPENING => &[1, 2, 3],
-        TAKE => &[1, 2, 4, SUM, 5, 6, 7],
-        COLUMN => &[1, 2, 4, SUM, 5, ELEMENT],
-        RUN => &[1, 2, 4, SUM, ELEMENT],
-        SOLVE => &[1, 2, 4, SUM, ELEMENT, 8, 9, 10, 3, 11],
+        TAKE => &[1, 2, 4, SUM, NUMBER, 5, 6, 7],
+        COLUMN => &[1, 2, 4, SUM, NUMBER, 5, ELEMENT],
+        RUN => &[1, 2, 4, SUM, NUMBER, ELEMENT],
+        SOLVE => &[1, 2, 4, SUM, NUMBER, ELEMENT, 8, 9, 10, 3, 11],
         _ => &[1, 2],
     }
 }
@@ -56,6 +59,7 @@ impl Writer {
         self.other_counts();
         self.told_other_workers();
         self.limits();
+        self.other_sizes();
         self.wide_numbers();
         self.wide_budgets();
         self.exact_budgets();
@@ -80,18 +84,18 @@ impl Writer {
 
     // ---- two refusals at once
 
-    /// Each call with each fault and with each two, these in two ways where they are few.
+    /// Each call with each fault, and with each two of them, these in two ways where they are few.
     fn two_faults(&mut self) {
         for command in CALLS {
             let faults = faults(command);
             let good = [self.accepted_call(command, 1), self.accepted_call(command, 2)];
             for first in 0..faults.len() {
                 for second in first..faults.len() {
-                    for way in 0..if first == second || faults.len() > 6 { 1 } else { 2 } {
+                    for way in 0..if first == second || faults.len() > 7 { 1 } else { 2 } {
                         let turn = first + second + way;
                         let mut call = good[usize::from(turn % 3 == 2)].clone();
                         call.budget = [0, 3][turn % 2];
-                        self.add_fault(&mut call, faults[second], way);
+                        self.add_fault(&mut call, faults[second], first + way);
                         if second != first {
                             self.add_fault(&mut call, faults[first], turn);
                         }
@@ -185,6 +189,12 @@ impl Writer {
                 let most = largest_sum(shape, self.workers, lent, task) as u16;
                 lent.records[task].tie_sum = most + 1;
             }
+            NUMBER => match way % 4 {
+                0 => lent.run_number = largest_number(shape, self.workers, lent) as u32 + 1,
+                1 => lent.records[4].took = lent.run_number + 1,
+                2 => lent.records[0].ended = lent.run_number + 1,
+                _ => lent.records[1].worker = self.workers as u8,
+            },
             1 => match way % 3 {
                 0 => call.told.workers = 33,
                 1 => call.told.tiles = 17,
@@ -244,9 +254,36 @@ impl Writer {
                 self.column(0);
             }
         }
+        // An idle worker and a slot beyond W that have a task, with an element of its tiles that is not finite.
+        let mut lent = self.marked(|task| [DONE, TAKEN, WAITING, WAITING, WAITING][task]);
+        lent.workers[2] = Worker { busy: false, ..lent.workers[0] };
+        lent.workers[3] = lent.workers[0];
+        lent.matrix[shape.element(0, 1, 0, 0)] = not_finite(&mut self.rng);
+        self.lend(&lent);
+        self.column(2);
+        self.column(3);
+        self.take(4, 2);
+        self.column(0);
     }
 
-    // ---- numbers of many bits
+    // ---- sizes beyond their range, and numbers of many bits
+
+    /// Each call told that one of its sizes is 0, or just above its most.
+    fn other_sizes(&mut self) {
+        for wrong in [Sizes { tiles: 0, side: 0, workers: 0 }, Sizes { tiles: 17, side: 17, workers: 33 }] {
+            for field in 0..3 {
+                for command in CALLS {
+                    let mut call = self.accepted_call(command, 2);
+                    match field {
+                        0 => call.told.tiles = wrong.tiles,
+                        1 => call.told.side = wrong.side,
+                        _ => call.told.workers = wrong.workers,
+                    }
+                    self.say_call(&call);
+                }
+            }
+        }
+    }
 
     /// Sizes, workers and tasks that are those of the state but for a bit above the lowest 8, 16 or 32.
     fn wide_numbers(&mut self) {
@@ -405,6 +442,8 @@ impl Writer {
             lent.lists.fill(255);
             lent.records[1].kind = 9;
             lent.records[3].tie_sum = 65535;
+            lent.records[2] = Record { worker: 255, took: u32::MAX, ended: u32::MAX, ..lent.records[2] };
+            lent.run_number = 9;
             lent.workers[0] = Worker { busy: true, task: 65535, column: 255 };
             self.lend(&lent);
             self.outcome();

@@ -37,6 +37,12 @@ pub struct Record {
     pub j: u8,
     pub mark: u8,
     pub tie_sum: u16,
+    /// The worker that ended the task.
+    pub worker: u8,
+    /// The number of the call that took it.
+    pub took: u32,
+    /// The number of the call that ended it.
+    pub ended: u32,
 }
 
 #[derive(Clone, Copy, Debug, PartialEq, Eq)]
@@ -48,19 +54,22 @@ pub struct Worker {
 
 pub const IDLE: Worker = Worker { busy: false, task: 0, column: 0 };
 
-/// What is lent; of the worker slots as many as the count says, which is a length like the others.
+/// What is lent; of the worker slots as many as the count says, which is a length like the others. The run's number counts the accepted
+/// takes and columns.
 #[derive(Clone)]
 pub struct Lent {
     pub matrix: Vec<f64>,
     pub lists: Vec<u8>,
     pub records: Vec<Record>,
     pub count: u64,
+    pub run_number: u32,
     pub workers: [Worker; SLOTS],
 }
 
 impl Lent {
     pub fn nothing() -> Lent {
-        Lent { matrix: Vec::new(), lists: Vec::new(), records: Vec::new(), count: 0, workers: [IDLE; SLOTS] }
+        let (matrix, lists, records) = (Vec::new(), Vec::new(), Vec::new());
+        Lent { matrix, lists, records, count: 0, run_number: 0, workers: [IDLE; SLOTS] }
     }
 
     /// Appends everything lent in the digits of a lend line, without its command.
@@ -73,8 +82,12 @@ impl Lent {
         for record in &self.records {
             put_bytes(out, &[record.kind, record.k, record.i, record.j, record.mark]);
             put(out, record.tie_sum as u64, 4);
+            put(out, record.worker as u64, 2);
+            put(out, record.took as u64, 8);
+            put(out, record.ended as u64, 8);
         }
         put(out, self.count, 8);
+        put(out, self.run_number as u64, 8);
         for worker in &self.workers {
             put(out, worker.busy as u64, 2);
             put(out, worker.task as u64, 4);
@@ -91,9 +104,14 @@ impl Lent {
         for _ in 0..tasks {
             let b = fields.bytes(5);
             let tie_sum = fields.take(4) as u16;
-            records.push(Record { kind: b[0], k: b[1], i: b[2], j: b[3], mark: b[4], tie_sum });
+            let worker = fields.take(2) as u8;
+            let took = fields.take(8) as u32;
+            let ended = fields.take(8) as u32;
+            let [kind, k, i, j, mark] = [b[0], b[1], b[2], b[3], b[4]];
+            records.push(Record { kind, k, i, j, mark, tie_sum, worker, took, ended });
         }
         let count = fields.take(8);
+        let run_number = fields.take(8) as u32;
         let mut workers = [IDLE; SLOTS];
         for slot in 0..SLOTS {
             let busy = fields.take(2) != 0;
@@ -101,7 +119,7 @@ impl Lent {
             let column = fields.take(2) as u8;
             workers[slot] = Worker { busy, task, column };
         }
-        Lent { matrix, lists, records, count, workers }
+        Lent { matrix, lists, records, count, run_number, workers }
     }
 
     /// The digest of everything lent.
@@ -115,8 +133,12 @@ impl Lent {
                 digest.mix(byte as u64);
             }
             digest.mix(record.tie_sum as u64);
+            digest.mix(record.worker as u64);
+            digest.mix(record.took as u64);
+            digest.mix(record.ended as u64);
         }
         digest.mix(self.count);
+        digest.mix(self.run_number as u64);
         for worker in &self.workers {
             digest.mix(worker.busy as u64);
             digest.mix(worker.task as u64);

@@ -1,4 +1,4 @@
-//! A second program for document 01, and K2, K4 and K7 of document 02, written from the papers alone, to check another
+//! A second program for document 01, and K2, K4, K7 and K9 of document 02, written from the papers alone, to check another
 //! one against. Straight loops in the order of the document; nothing here is made to be fast.
 
 pub mod calls;
@@ -10,6 +10,7 @@ pub mod edges;
 pub mod families;
 pub mod frames;
 pub mod hex;
+pub mod history;
 pub mod judge;
 pub mod lent;
 pub mod loops;

@@ -23,8 +23,8 @@ fn main() {
         Some("files") => lines(all_texts(seed(&arguments)).into_iter()),
         Some("vectors") => script(Options {
             seed: seed(&arguments),
-            calls: option(&arguments, "--calls", 4300),
-            max_bytes: option(&arguments, "--max-bytes", 2_048_000),
+            calls: option(&arguments, "--calls", 5650),
+            max_bytes: option(&arguments, "--max-bytes", 2_900_000),
         }),
         _ => {
             eprintln!("reference: see README.md for the subcommands");

@@ -2,17 +2,21 @@
 //! and single damages that break it.
 
 use crate::cases::random_lists;
-use crate::checks::largest_sum;
+use crate::checks::{largest_number, largest_sum};
 use crate::families::{not_finite, numbers};
 use crate::lent::{Lent, Record, Worker, IDLE, SLOTS, TAKEN};
 use crate::rng::Rng;
 use crate::tasks::{table, Thing};
 use crate::tile::Shape;
 
-/// The record of a task by the numbering.
+/// A record of zeros.
+pub const EMPTY: Record =
+    Record { kind: 0, k: 0, i: 0, j: 0, mark: 0, tie_sum: 0, worker: 0, took: 0, ended: 0 };
+
+/// The record of a task by the numbering, with all else zero.
 pub fn record_of(shape: Shape, number: usize, mark: u8) -> Record {
     let task = table(shape.tiles).tasks[number];
-    Record { kind: task.kind, k: task.k as u8, i: task.i as u8, j: task.j as u8, mark, tie_sum: 0 }
+    Record { kind: task.kind, k: task.k as u8, i: task.i as u8, j: task.j as u8, mark, ..EMPTY }
 }
 
 /// The right lengths around a matrix; what lists, records and workers hold is of no account to opening.
@@ -22,8 +26,9 @@ pub fn before_opening(rng: &mut Rng, shape: Shape, workers: usize, matrix: Vec<f
     let mut lent = Lent {
         matrix,
         lists: vec![0; shape.lists_length()],
-        records: vec![Record { kind: 0, k: 0, i: 0, j: 0, mark: 0, tie_sum: 0 }; count],
+        records: vec![EMPTY; count],
         count: workers as u64,
+        run_number: 0,
         workers: [IDLE; SLOTS],
     };
     if junk {
@@ -34,7 +39,11 @@ pub fn before_opening(rng: &mut Rng, shape: Shape, workers: usize, matrix: Vec<f
             record.kind = rng.below(256) as u8;
             record.mark = rng.below(256) as u8;
             record.tie_sum = rng.below(65536) as u16;
+            record.worker = rng.below(256) as u8;
+            record.took = rng.next() as u32;
+            record.ended = rng.next() as u32;
         }
+        lent.run_number = rng.next() as u32;
         for slot in 0..SLOTS {
             lent.workers[slot] = junk_worker(rng);
         }
@@ -47,7 +56,7 @@ pub fn junk_worker(rng: &mut Rng) -> Worker {
     Worker { busy: rng.percent(50), task: rng.below(65536) as u16, column: rng.below(256) as u8 }
 }
 
-/// Random marks, lists, columns and tie sums that refusal 4 lets pass.
+/// Random marks, lists, columns, tie sums and call numbers that refusal 4 lets pass.
 pub fn odd_state(rng: &mut Rng, shape: Shape, workers: usize, family: usize, all_finished: bool) -> Lent {
     let count = table(shape.tiles).tasks.len();
     let mut lent = Lent {
@@ -55,6 +64,7 @@ pub fn odd_state(rng: &mut Rng, shape: Shape, workers: usize, family: usize, all
         lists: random_lists(rng, shape),
         records: Vec::new(),
         count: workers as u64,
+        run_number: 0,
         workers: [IDLE; SLOTS],
     };
     let no_failure = rng.percent(50);
@@ -78,6 +88,7 @@ pub fn odd_state(rng: &mut Rng, shape: Shape, workers: usize, family: usize, all
         }
     }
     set_sums(rng, shape, workers, &mut lent);
+    set_numbers(rng, shape, workers, &mut lent);
     lent
 }
 
@@ -86,6 +97,21 @@ pub fn set_sums(rng: &mut Rng, shape: Shape, workers: usize, lent: &mut Lent) {
     for task in 0..lent.records.len() {
         let most = largest_sum(shape, workers, lent, task);
         lent.records[task].tie_sum = if rng.percent(25) { most } else { rng.below(most + 1) } as u16;
+    }
+}
+
+/// Gives the run a number up to its most, and often the most, and each record call numbers up to the run's and a worker below W; some records
+/// keep what they have.
+pub fn set_numbers(rng: &mut Rng, shape: Shape, workers: usize, lent: &mut Lent) {
+    let most = largest_number(shape, workers, lent) as usize;
+    let number = if rng.percent(35) { most } else { rng.below(most + 1) };
+    lent.run_number = number as u32;
+    for record in &mut lent.records {
+        if rng.percent(75) {
+            record.worker = rng.below(workers) as u8;
+            record.took = rng.between(number / 2, number) as u32;
+            record.ended = if rng.percent(30) { number } else { rng.below(number + 1) } as u32;
+        }
     }
 }
 
@@ -99,7 +125,7 @@ fn hold_random(rng: &mut Rng, shape: Shape, lent: &mut Lent, worker: usize) {
     lent.workers[worker] = Worker { busy: true, task: task as u16, column: rng.below(shape.side) as u8 };
 }
 
-pub const DAMAGES: usize = 15;
+pub const DAMAGES: usize = 19;
 
 /// One damage of a state that passed refusal 4; a few find nothing to damage in some states.
 pub fn damage(rng: &mut Rng, shape: Shape, workers: usize, lent: &mut Lent, which: usize) {
@@ -121,6 +147,10 @@ pub fn damage(rng: &mut Rng, shape: Shape, workers: usize, lent: &mut Lent, whic
         11 => raise_entry(rng, shape, lent),
         12 => raise_column(rng, shape, workers, lent),
         13 => raise_sum(rng, shape, workers, lent, task),
+        14 => raise_number(rng, shape, workers, lent),
+        15 => lent.records[task].took = above_number(rng, lent),
+        16 => lent.records[task].ended = above_number(rng, lent),
+        17 => lent.records[task].worker = rng.pick(&[workers as u8, 255]),
         _ => spoil_element(rng, shape, workers, lent),
     }
 }
@@ -200,4 +230,15 @@ fn raise_column(rng: &mut Rng, shape: Shape, workers: usize, lent: &mut Lent) {
 fn raise_sum(rng: &mut Rng, shape: Shape, workers: usize, lent: &mut Lent, task: usize) {
     let most = largest_sum(shape, workers, lent, task) as u16;
     lent.records[task].tie_sum = rng.pick(&[most + 1, most + 256, 65535]);
+}
+
+/// The run's number above its most: just above it, by its higher bytes, or far above it.
+fn raise_number(rng: &mut Rng, shape: Shape, workers: usize, lent: &mut Lent) {
+    let most = largest_number(shape, workers, lent) as u32;
+    lent.run_number = rng.pick(&[most + 1, most + 256, most + 65536, u32::MAX]);
+}
+
+/// A call number above the run's: just above it, by its higher bytes, or far above it.
+fn above_number(rng: &mut Rng, lent: &Lent) -> u32 {
+    lent.run_number.saturating_add(rng.pick(&[1, 256, 65536, u32::MAX]))
 }

@@ -1,5 +1,5 @@
 //! Writes scripts for the player by playing them: the edges of what calls are told and answer, walks through random
-//! and crafted systems, the parts of the diagonal tile, tied pivots, odd and damaged states, wrong sizes and lengths.
+//! and crafted systems, the parts of the diagonal tile, tied pivots, call numbers, odd and damaged states, wrong sizes and lengths.
 
 use crate::crafted::{all_crafted, Crafted};
 use crate::families::{not_finite, numbers, FAMILIES};
@@ -12,7 +12,7 @@ use crate::writer::{Options, Writer};
 /// The bytes of the lend line of a shape with its right lengths.
 fn lend_bytes(shape: Shape) -> usize {
     let count = table(shape.tiles).tasks.len();
-    3 + 32 + 16 * shape.matrix_length() + 2 * shape.lists_length() + 14 * count + 8 * SLOTS
+    3 + 40 + 16 * shape.matrix_length() + 2 * shape.lists_length() + 32 * count + 8 * SLOTS
 }
 
 /// The whole script.
@@ -24,6 +24,7 @@ pub fn script(options: Options) -> String {
     writer.crafted_systems();
     writer.diagonal_parts();
     writer.tied_pivots();
+    writer.call_numbers();
     writer.damaged_systems();
     while !writer.is_full() {
         match writer.rng.below(10) {
@@ -51,11 +52,11 @@ impl Writer {
         self.wrong_sizes();
     }
 
-    /// Systems whose lend line is long: as many as the room allows.
+    /// Systems whose lend line is long: as many as the room allows, a second one of N = t = 16 where half of it stays free.
     fn large_systems(&mut self) {
         let full = Shape { tiles: 16, side: 16 };
-        for family in [0, 1] {
-            if self.spare() > lend_bytes(full) + 60_000 {
+        for (family, lends) in [(0, 1), (1, 2)] {
+            if self.spare() > lends * lend_bytes(full) + 60_000 {
                 let workers = self.rng.between(3, 32);
                 self.walk_system(full, workers, family, 40);
             }

@@ -119,7 +119,7 @@ impl Writer {
         self.workers = workers;
     }
 
-    /// A state of these marks, with entries that fit; workers from 0 on hold the taken tasks and stand at column 0.
+    /// A state of these marks, with entries that fit and no calls counted; workers from 0 on hold the taken tasks and stand at column 0.
     pub fn marked(&mut self, mark: impl Fn(usize) -> u8) -> Lent {
         let count = table(self.shape.tiles).tasks.len();
         let mut workers = [IDLE; SLOTS];
@@ -131,6 +131,7 @@ impl Writer {
             lists: random_lists(&mut self.rng, self.shape),
             records: (0..count).map(|task| record_of(self.shape, task, mark(task))).collect(),
             count: self.workers as u64,
+            run_number: 0,
             workers,
         }
     }

@@ -70,7 +70,7 @@ fn slots_beyond_the_count_stay() {
 fn scripts_have_other_counts() {
     let mut met = BTreeSet::new();
     let mut player = Player::new();
-    for line in script(Options { seed: 1, calls: 4300, max_bytes: 1_000_000 }).lines() {
+    for line in script(Options { seed: 1, calls: 5650, max_bytes: 1_600_000 }).lines() {
         let answer = player.play(line);
         let mut fields = Fields::new(line);
         let command = fields.take(2);

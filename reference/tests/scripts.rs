@@ -6,7 +6,7 @@ use reference::vectors::script;
 use reference::writer::{Options, Writer};
 
 fn short_script(seed: u64) -> String {
-    script(Options { seed, calls: 4300, max_bytes: 1_000_000 })
+    script(Options { seed, calls: 5650, max_bytes: 1_600_000 })
 }
 
 fn refusal_number(answer: &str) -> usize {
@@ -81,10 +81,10 @@ fn seeds_repeat() {
 
 #[test]
 fn a_script_stays_within_its_bytes() {
-    for max_bytes in [20_000, 100_000, 2_048_000] {
-        let made = script(Options { seed: 6, calls: 4300, max_bytes });
+    for max_bytes in [20_000, 100_000, 2_900_000] {
+        let made = script(Options { seed: 6, calls: 5650, max_bytes });
         assert!(made.len() <= max_bytes);
-        if max_bytes == 2_048_000 {
+        if max_bytes == 2_900_000 {
             assert!(made.lines().count() >= 4000);
             assert!(made.lines().any(|line| line.starts_with("1000010000")));
         }

@@ -13,6 +13,10 @@ fn sizes(tiles: u64, side: u64, workers: u64) -> Sizes {
     Sizes { tiles, side, workers }
 }
 
+/// What opening is to overwrite.
+const RECORD: Record =
+    Record { kind: 7, k: 7, i: 7, j: 7, mark: 7, tie_sum: 7, worker: 7, took: 7, ended: 7 };
+
 /// A system opened for one worker.
 fn opened(tiles: usize, side: usize, rows: &[f64]) -> (Sizes, Lent) {
     let shape = Shape { tiles, side };
@@ -20,8 +24,9 @@ fn opened(tiles: usize, side: usize, rows: &[f64]) -> (Sizes, Lent) {
     let mut lent = Lent {
         matrix: tile_order(shape, rows),
         lists: vec![9; shape.lists_length()],
-        records: vec![Record { kind: 7, k: 7, i: 7, j: 7, mark: 7, tie_sum: 7 }; table(tiles).tasks.len()],
+        records: vec![RECORD; table(tiles).tasks.len()],
         count: 1,
+        run_number: 7,
         workers: [IDLE; SLOTS],
     };
     opening(told, &mut lent).expect("a good system");

@@ -1,5 +1,7 @@
 // A busy worker does the next column of the task it holds.
 ghost use mathlib.Core.Path.{_≡_};
+ghost use Prim.Native.Nat.{_<_};
+ghost use Rattle.model.specs.Limits.{mostWorkers};
 ghost use Rattle.model.specs.Plan.{planOf};
 ghost use Rattle.model.specs.Calls.{advanced};
 ghost use Rattle.records.specs.Records.{allLent, OthersKept};
@@ -15,21 +17,23 @@ use task_columns::work_task;
 use worker::Worker;
 use worker::Workers;
 
-// The worker h does the next column of the task it holds, and is handed back as it goes on.
+// The worker h, which is worker w, does the next column of the task it holds by call `number`, and is handed back as it goes on.
 pub fn advance(
     z: Sizes,
     matrix: &mut [f64],
     lists: &mut [u8],
     records: &mut [Record],
     h: Worker,
+    w: usize,
+    number: u32,
 ) -> Worker
-    requires { ⌜ ColumnDue z (h .task) (h .column) (now matrix) (now lists) (now records) ⌝ }
-    ensures { λ r. ⌜ Advanced z h (now (matrix .entry)) (now (lists .entry)) (now (records .entry)) (now (matrix .exit)) (now (lists .exit)) (now (records .exit)) r ⌝ }
+    requires { ⌜ ColumnDue z (h .task) (h .column) (now matrix) (now lists) (now records) × (w < mostWorkers) ⌝ }
+    ensures { λ r. ⌜ Advanced z h w number (now (matrix .entry)) (now (lists .entry)) (now (records .entry)) (now (matrix .exit)) (now (lists .exit)) (now (records .exit)) r ⌝ }
 {
     let p = h.task as usize;
     let end = work_task(z, matrix, lists, records, p, h.column as usize);
     let mark = mark_after(end);
-    add_column(records, p, mark, ties_after(end));
+    add_column(records, p, w as u8, number, mark, ties_after(end));
     moved_on(h, mark)
 }
 
@@ -42,16 +46,18 @@ pub fn advance_worker(
     workers: Workers,
     w: usize,
 ) -> Workers
-    requires { ⌜ Working z w (now matrix) (now lists) (now records) (workers .slots) × (workers .count ≡ z .workers) ⌝ }
+    requires { ⌜ Working z w (now matrix) (now lists) (now records) (workers .slots) (workers .number) × (workers .count ≡ z .workers) ⌝ }
     ensures { λ r. ⌜ allLent (now (matrix .exit)) (now (lists .exit)) (now (records .exit)) r
         ≡ advanced (planOf z) w (allLent (now (matrix .entry)) (now (lists .entry)) (now (records .entry)) workers) ⌝ }
     ensures { λ r. ⌜ OthersKept workers r ⌝ }
 {
     let mut slots = workers.slots;
     let h = slots[w];
-    slots[w] = advance(z, matrix, lists, records, h);
+    let number = workers.number + 1;
+    slots[w] = advance(z, matrix, lists, records, h, w, number);
     Workers {
         slots,
         count: workers.count,
+        number,
     }
 }

@@ -47,8 +47,8 @@ not-accepted (Refused n x) b old new e q = refl
 
 -- ---- lengths
 
-module _ (z : Sizes) (m : List Float) (l : List ℕ) (r : List (List ℕ)) (slots : List Worker) (c : ℕ)
-    (e : badLengths (planOf z) (z .workers) (lent m l r slots c) ≡ false) where
+module _ (z : Sizes) (m : List Float) (l : List ℕ) (r : List (List ℕ)) (slots : List Worker) (c number : ℕ)
+    (e : badLengths (planOf z) (z .workers) (lent m l r slots c number) ≡ false) where
   abbrev M : Bool
   M = eqb (length m) (z .tiles * z .side * (z .tiles * z .side))
 

@@ -11,13 +11,13 @@ use Rattle.model.specs.declared.OutcomeAnswer.the-variants.{Known, Unfinished, 
 use Rattle.worker.specs.Holding.{idle, holding}
 use Rattle.model.specs.Limits.{mostWorkers}
 
--- W idle workers
-unfoldable pub idles : ℕ → Workers
-idles W = record { slots = replicate mostWorkers idle; count = W }
+-- W idle workers, with the run's number n
+unfoldable pub idles : ℕ → ℕ → Workers
+idles W n = record { slots = replicate mostWorkers idle; count = W; number = n }
 
 -- of W workers the first holds task p with column c the next, and all others are idle
-unfoldable pub oneHolding : ℕ → ℕ → ℕ → Workers
-oneHolding W p c = record { slots = set (replicate mostWorkers idle) 0 (holding p c); count = W }
+unfoldable pub oneHolding : ℕ → ℕ → ℕ → ℕ → Workers
+oneHolding W n p c = record { slots = set (replicate mostWorkers idle) 0 (holding p c); count = W; number = n }
 
 -- the calls that a run counts: 0 where it was refused
 abbrev pub callsOf : RunAnswer → ℕ

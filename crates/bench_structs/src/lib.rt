@@ -73,21 +73,22 @@ fn outcome_number(answer: OutcomeAnswer) -> u8
     }
 }
 
-// All workers idle.
-fn idle_workers(z: Sizes) -> Workers
-    ensures { λ r. ⌜ r ≡ idles (z .workers) ⌝ }
+// All workers idle, with the run's number.
+fn idle_workers(z: Sizes, number: u32) -> Workers
+    ensures { λ r. ⌜ r ≡ idles (z .workers) number ⌝ }
 {
     let h = Worker::idle();
     let slots = [h; SLOTS];
     Workers {
         slots,
         count: z.workers,
+        number,
     }
 }
 
-// Worker 0 holds task p with column c the next, and all others are idle.
-fn one_holding(z: Sizes, p: u16, c: u8) -> Workers
-    ensures { λ r. ⌜ r ≡ oneHolding (z .workers) p c ⌝ }
+// Worker 0 holds task p with column c the next, and all others are idle; with the run's number.
+fn one_holding(z: Sizes, number: u32, p: u16, c: u8) -> Workers
+    ensures { λ r. ⌜ r ≡ oneHolding (z .workers) number p c ⌝ }
 {
     let h = Worker::idle();
     let mut slots = [h; SLOTS];
@@ -99,6 +100,7 @@ fn one_holding(z: Sizes, p: u16, c: u8) -> Workers
     Workers {
         slots,
         count: z.workers,
+        number,
     }
 }
 
@@ -109,12 +111,13 @@ pub extern "C" fn bench_open(
     matrix: &[f64],
     lists: &mut [u8],
     records: &mut [TaskRecord],
+    number: u32,
 ) -> u8
-    ensures { λ r. ⌜ (r ≡ answerNumber (openCall z (whole (now (matrix .entry)) (now (lists .entry)) (now (records .entry)) (idles (z .workers))) .answer))
-        × (record { matrix = now (matrix .entry); lists = now (lists .exit) } ≡ openCall z (whole (now (matrix .entry)) (now (lists .entry)) (now (records .entry)) (idles (z .workers))) .left .buffers)
-        × (now (records .exit) ≡ openCall z (whole (now (matrix .entry)) (now (lists .entry)) (now (records .entry)) (idles (z .workers))) .left .records) ⌝ }
+    ensures { λ r. ⌜ (r ≡ answerNumber (openCall z (whole (now (matrix .entry)) (now (lists .entry)) (now (records .entry)) (idles (z .workers) number)) .answer))
+        × (record { matrix = now (matrix .entry); lists = now (lists .exit) } ≡ openCall z (whole (now (matrix .entry)) (now (lists .entry)) (now (records .entry)) (idles (z .workers) number)) .left .buffers)
+        × (now (records .exit) ≡ openCall z (whole (now (matrix .entry)) (now (lists .entry)) (now (records .entry)) (idles (z .workers) number)) .left .records) ⌝ }
 {
-    let reply = open_call::open(z, matrix, lists, records, idle_workers(z));
+    let reply = open_call::open(z, matrix, lists, records, idle_workers(z, number));
     number_in(reply)
 }
 
@@ -125,13 +128,14 @@ pub extern "C" fn bench_take(
     matrix: &[f64],
     lists: &[u8],
     records: &mut [TaskRecord],
+    number: u32,
     w: usize,
     p: usize,
 ) -> u8
-    ensures { λ r. ⌜ (r ≡ answerNumber (takeCall z w p (whole (now (matrix .entry)) (now (lists .entry)) (now (records .entry)) (idles (z .workers))) .answer))
-        × (now (records .exit) ≡ takeCall z w p (whole (now (matrix .entry)) (now (lists .entry)) (now (records .entry)) (idles (z .workers))) .left .records) ⌝ }
+    ensures { λ r. ⌜ (r ≡ answerNumber (takeCall z w p (whole (now (matrix .entry)) (now (lists .entry)) (now (records .entry)) (idles (z .workers) number)) .answer))
+        × (now (records .exit) ≡ takeCall z w p (whole (now (matrix .entry)) (now (lists .entry)) (now (records .entry)) (idles (z .workers) number)) .left .records) ⌝ }
 {
-    let reply = take_call::take(z, matrix, lists, records, idle_workers(z), w, p);
+    let reply = take_call::take(z, matrix, lists, records, idle_workers(z, number), w, p);
     number_in(reply)
 }
 
@@ -142,15 +146,16 @@ pub extern "C" fn bench_column(
     matrix: &mut [f64],
     lists: &mut [u8],
     records: &mut [TaskRecord],
+    number: u32,
     w: usize,
     p: u16,
     c: u8,
 ) -> u8
-    ensures { λ r. ⌜ (r ≡ answerNumber (columnCall z w (whole (now (matrix .entry)) (now (lists .entry)) (now (records .entry)) (oneHolding (z .workers) p c)) .answer))
-        × (record { matrix = now (matrix .exit); lists = now (lists .exit) } ≡ columnCall z w (whole (now (matrix .entry)) (now (lists .entry)) (now (records .entry)) (oneHolding (z .workers) p c)) .left .buffers)
-        × (now (records .exit) ≡ columnCall z w (whole (now (matrix .entry)) (now (lists .entry)) (now (records .entry)) (oneHolding (z .workers) p c)) .left .records) ⌝ }
+    ensures { λ r. ⌜ (r ≡ answerNumber (columnCall z w (whole (now (matrix .entry)) (now (lists .entry)) (now (records .entry)) (oneHolding (z .workers) number p c)) .answer))
+        × (record { matrix = now (matrix .exit); lists = now (lists .exit) } ≡ columnCall z w (whole (now (matrix .entry)) (now (lists .entry)) (now (records .entry)) (oneHolding (z .workers) number p c)) .left .buffers)
+        × (now (records .exit) ≡ columnCall z w (whole (now (matrix .entry)) (now (lists .entry)) (now (records .entry)) (oneHolding (z .workers) number p c)) .left .records) ⌝ }
 {
-    let reply = column_call::column(z, matrix, lists, records, one_holding(z, p, c), w);
+    let reply = column_call::column(z, matrix, lists, records, one_holding(z, number, p, c), w);
     number_in(reply)
 }
 
@@ -161,13 +166,14 @@ pub extern "C" fn bench_run(
     matrix: &mut [f64],
     lists: &mut [u8],
     records: &mut [TaskRecord],
+    number: u32,
     budget: u64,
 ) -> u64
-    ensures { λ r. ⌜ (r ≡ callsOf (runCall z budget (whole (now (matrix .entry)) (now (lists .entry)) (now (records .entry)) (idles (z .workers))) .answer))
-        × (record { matrix = now (matrix .exit); lists = now (lists .exit) } ≡ runCall z budget (whole (now (matrix .entry)) (now (lists .entry)) (now (records .entry)) (idles (z .workers))) .left .buffers)
-        × (now (records .exit) ≡ runCall z budget (whole (now (matrix .entry)) (now (lists .entry)) (now (records .entry)) (idles (z .workers))) .left .records) ⌝ }
+    ensures { λ r. ⌜ (r ≡ callsOf (runCall z budget (whole (now (matrix .entry)) (now (lists .entry)) (now (records .entry)) (idles (z .workers) number)) .answer))
+        × (record { matrix = now (matrix .exit); lists = now (lists .exit) } ≡ runCall z budget (whole (now (matrix .entry)) (now (lists .entry)) (now (records .entry)) (idles (z .workers) number)) .left .buffers)
+        × (now (records .exit) ≡ runCall z budget (whole (now (matrix .entry)) (now (lists .entry)) (now (records .entry)) (idles (z .workers) number)) .left .records) ⌝ }
 {
-    let reply = run_call::run(z, matrix, lists, records, idle_workers(z), budget);
+    let reply = run_call::run(z, matrix, lists, records, idle_workers(z, number), budget);
     calls_in(reply)
 }
 
@@ -178,10 +184,11 @@ pub extern "C" fn bench_outcome(
     matrix: &[f64],
     lists: &[u8],
     records: &[TaskRecord],
+    number: u32,
 ) -> u8
-    ensures { λ r. ⌜ r ≡ outcomeTells (outcomeCall z (whole (now (matrix .entry)) (now (lists .entry)) (now (records .entry)) (idles (z .workers)))) ⌝ }
+    ensures { λ r. ⌜ r ≡ outcomeTells (outcomeCall z (whole (now (matrix .entry)) (now (lists .entry)) (now (records .entry)) (idles (z .workers) number))) ⌝ }
 {
-    let answer = outcome_call::outcome(z, matrix, lists, records, idle_workers(z));
+    let answer = outcome_call::outcome(z, matrix, lists, records, idle_workers(z, number));
     outcome_number(answer)
 }
 
@@ -192,12 +199,21 @@ pub extern "C" fn bench_solve(
     matrix: &[f64],
     lists: &[u8],
     records: &[TaskRecord],
+    number: u32,
     right: &[f64],
     answers: &mut [f64],
 ) -> u8
-    ensures { λ r. ⌜ (r ≡ answerNumber (solveCall z (whole (now (matrix .entry)) (now (lists .entry)) (now (records .entry)) (idles (z .workers))) (now (right .entry)) (now (answers .entry)) .answer))
-        × (now (answers .exit) ≡ solveCall z (whole (now (matrix .entry)) (now (lists .entry)) (now (records .entry)) (idles (z .workers))) (now (right .entry)) (now (answers .entry)) .left) ⌝ }
+    ensures { λ r. ⌜ (r ≡ answerNumber (solveCall z (whole (now (matrix .entry)) (now (lists .entry)) (now (records .entry)) (idles (z .workers) number)) (now (right .entry)) (now (answers .entry)) .answer))
+        × (now (answers .exit) ≡ solveCall z (whole (now (matrix .entry)) (now (lists .entry)) (now (records .entry)) (idles (z .workers) number)) (now (right .entry)) (now (answers .entry)) .left) ⌝ }
 {
-    let answer = solve_call::solve(z, matrix, lists, records, idle_workers(z), right, answers);
+    let answer = solve_call::solve(
+        z,
+        matrix,
+        lists,
+        records,
+        idle_workers(z, number),
+        right,
+        answers,
+    );
     number_of(answer)
 }

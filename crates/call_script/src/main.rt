@@ -58,11 +58,11 @@ fn play_script(text: &mut [u8]) {
 }
 
 // The same with a room of fixed length.
-fn play_in(text: &mut [u8; 3000000]) {
+fn play_in(text: &mut [u8; 3700000]) {
     play_script(text);
 }
 
 fn main() {
-    let mut text = [0u8; 3000000];
+    let mut text = [0u8; 3700000];
     play_in(&mut text);
 }

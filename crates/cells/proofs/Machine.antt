@@ -20,7 +20,7 @@ use Rattle.model.specs.Links.{task, mark}
 use Rattle.model.specs.Links as ML
 use Rattle.model.specs.Buffer.{sound, columnEnds}
 use Rattle.model.specs.Loops.{start}
-use Rattle.model.specs.Calls.{Lent, marksOf, recordOf, withMark, withColumn, changed, worker, opened, took, columnOf, advanced}
+use Rattle.model.specs.Calls.{Lent, marksOf, recordOf, withTake, withColumn, changed, worker, opened, took, columnOf, advanced}
 use Rattle.worker.specs.Holding.{holding}
 use Rattle.worker.specs.Holding as MH
 use Rattle.order_free.specs.Below.{set}
@@ -121,17 +121,17 @@ module _ (z : Sizes) where
   took-stated s g w p = record { sized = g .sized; records = length-changed s g p _; workers = length-set (s .workers) w (holding p 0) ∙ g .workers }
 
   pub took-is : (s : Lent) → Stated z s → (w p : ℕ) → w < z .workers → p < count z → abs z (took (planOf z) w p s) ≡ effect (S z) (take w p) (abs z s)
-  unfolding abs took effect marksOf worker withMark
+  unfolding abs took effect marksOf worker withTake
   took-is s g w p h l = λ i. record {
     cells = view (z .tiles) (z .side) (s .buffers);
-    marks = changed-view s g p (withMark 1) l i;
+    marks = changed-view s g p (withTake (suc (s .number))) l i;
     workers = list-view workerOf MH.idle (s .workers) w (holding p 0) (subst (λ (k : ℕ). w < k) (sym (g .workers)) h) i;
   }
 
   -- a take changes no sum
   pub took-sums : (s : Lent) → Stated z s → (w p : ℕ) → p < count z → sumsFn (took (planOf z) w p s) ≡ summed (S z) tieGain (take w p) (abs z s) (sumsFn s)
-  unfolding took summed withMark
-  took-sums s g w p h = changed-sums s g p (withMark 1) h ∙ fun-ext (λ q. go q (same-or-not p q))
+  unfolding took summed withTake
+  took-sums s g w p h = changed-sums s g p (withTake (suc (s .number))) h ∙ fun-ext (λ q. go q (same-or-not p q))
     where
       go : (q : ℕ) → (p ≡ q) ⊎ (p ≢ q) → set (sumsFn s) p (sumsFn s p) q ≡ sumsFn s q
       go q (inl e) = rw (← e) (set-here (sumsFn s) p (sumsFn s p))
@@ -207,7 +207,7 @@ module _ (z : Sizes) where
         let en = column-ends s g q d hp in
         let x : abs z (advanced (planOf z) w s) ≡ advance (S z) w (busy q d) (abs z s) = unfold abs advanced advance marksOf worker withColumn in (λ i. record {
           cells = en .left .1 i;
-          marks = (changed-view s g q (withColumn (e .mark) (e .ties)) hp ∙ (λ k. set (marksFn s) q (en .mark k))) i;
+          marks = (changed-view s g q (withColumn w (suc (s .number)) (e .mark) (e .ties)) hp ∙ (λ k. set (marksFn s) q (en .mark k))) i;
           workers = (list-view workerOf MH.idle (s .workers) w (cond (ML.finished (e .mark)) MH.idle (holding q (suc d)))
               (subst (λ (k : ℕ). w < k) (sym (g .workers)) hw)
               ∙ ap (λ (y : Worker). set (λ (j : ℕ). workerOf (getD (s .workers) j MH.idle)) w y)
@@ -223,7 +223,7 @@ module _ (z : Sizes) where
         let d = worker s w .column in
         let e = columnOf (planOf z) s q d in
         let x : sumsFn (advanced (planOf z) w s) ≡ credit (S z) tieGain (busy q d) (abs z s) (sumsFn s) = unfold abs advanced credit withColumn in
-        (changed-sums s g q (withColumn (e .mark) (e .ties)) hp ∙ (λ i. set (sumsFn s) q (sumsFn s q + column-ties s g q d hp i))) in
+        (changed-sums s g q (withColumn w (suc (s .number)) (e .mark) (e .ties)) hp ∙ (λ i. set (sumsFn s) q (sumsFn s q + column-ties s g q d hp i))) in
         x ∙ ap (λ (y : Worker). credit (S z) tieGain y (abs z s) (sumsFn s)) (sym (busy-of (worker s w) hb))
 
   -- ---- opening

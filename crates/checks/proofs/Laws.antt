@@ -46,7 +46,7 @@ small n t h g =
     let b : n * n ≤ 256 = mul-le-mul h h in
     (a, mul-le-mul a a, b, mul-le-mul b g, mul-le-mul g g)
 
-module _ (z : Sizes) (m : List Float) (l : List ℕ) (r : List (List ℕ)) (slots : List Worker) (c : ℕ) where
+module _ (z : Sizes) (m : List Float) (l : List ℕ) (r : List (List ℕ)) (slots : List Worker) (c n : ℕ) where
   abbrev N : ℕ
   N = z .tiles
 
@@ -54,7 +54,7 @@ module _ (z : Sizes) (m : List Float) (l : List ℕ) (r : List (List ℕ)) (slot
   t = z .side
 
   pub lengths-are : {k : ℕ} → k ≡ length (tasks N) → not (eqb (length m) (N * t * (N * t)) && eqb (length l) (N * (N * t)) && eqb (length r) k && eqb c (z .workers))
-      ≡ badLengths (planOf z) (z .workers) (lent m l r slots c)
+      ≡ badLengths (planOf z) (z .workers) (lent m l r slots c n)
   unfolding badLengths lent plan order
   lengths-are f =
       let v : N * (N * t) ≡ N * N * t = omega arith in

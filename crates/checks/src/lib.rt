@@ -1,6 +1,7 @@
 // Refusals 1 and 2, and what later checks may count on.
 ghost use mathlib.Core.Path.{_≡_};
 ghost use mathlib.Core.List.{List};
+ghost use Prim.Native.Nat.{ℕ};
 ghost use Rattle.worker.specs.declared.Worker.{Worker as SomeWorker};
 ghost use Rattle.model.specs.Plan.{planOf};
 ghost use Rattle.model.specs.Refusal.{badSizes, badLengths};
@@ -23,8 +24,8 @@ pub fn bad_sizes(z: Sizes) -> bool
 // Whether a lent length, or the count of the workers, differs from the one stated.
 pub fn bad_lengths(z: Sizes, matrix: &[f64], lists: &[u8], records: &[Record], count: usize) -> bool
     requires { ⌜ Sized z ⌝ }
-    ensures { λ r. ⌜ ((slots : List SomeWorker)
-        → r ≡ badLengths (planOf z) (z .workers) (lent (now (matrix .entry)) (now (lists .entry)) (now (records .entry)) slots count)) ⌝ }
+    ensures { λ r. ⌜ ((slots : List SomeWorker) (number : ℕ)
+        → r ≡ badLengths (planOf z) (z .workers) (lent (now (matrix .entry)) (now (lists .entry)) (now (records .entry)) slots count number)) ⌝ }
 {
     let order = z.tiles * z.side;
     let matrix_fits = matrix.len() == order * order;

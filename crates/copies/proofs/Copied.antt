@@ -38,7 +38,7 @@ module _ (ms : List Float) (ls : List ℕ) (ys : List TaskRecord) (ws : Workers)
 
   pub lent-front : allLent ms ls (take n X) ws ≡ whole ms ls (take n ys) ws
   unfolding lent whole
-  lent-front = λ t. record { buffers = record { matrix = ms; lists = ls }; records = front t; workers = crew (ws .slots) (ws .count) }
+  lent-front = λ t. record { buffers = record { matrix = ms; lists = ls }; records = front t; workers = crew (ws .slots) (ws .count); number = ws .number }
 
   -- ---- all records are copied
 
@@ -85,7 +85,7 @@ module _ (ms : List Float) (ls : List ℕ) (ys : List TaskRecord) (ws : Workers)
 
       left-whole : length ys < 1497 → whole ms′ ls′ zs ws′ ≡ allLent ms′ ls′ (take n X′) ws′
       unfolding lent whole
-      left-whole few = λ t. record { buffers = record { matrix = ms′; lists = ls′ }; records = sym (stored-all few) t; workers = crew (ws′ .slots) (ws′ .count) }
+      left-whole few = λ t. record { buffers = record { matrix = ms′; lists = ls′ }; records = sym (stored-all few) t; workers = crew (ws′ .slots) (ws′ .count); number = ws′ .number }
 
       module _ (many : 1497 ≤ length ys) where
         unchanged : allLent ms′ ls′ (take n X′) ws′ ≡ whole ms ls (take n ys) ws
@@ -98,7 +98,7 @@ module _ (ms : List Float) (ls : List ℕ) (ys : List TaskRecord) (ws : Workers)
 
         still-whole : whole ms′ ls′ zs ws′ ≡ whole ms ls ys ws
         unfolding lent whole
-        still-whole = λ t. record { buffers = unchanged t .buffers; records = same-records t; workers = unchanged t .workers }
+        still-whole = λ t. record { buffers = unchanged t .buffers; records = same-records t; workers = unchanged t .workers; number = unchanged t .number }
 
       pub leaves : whole ms′ ls′ zs ws′ ≡ left (whole ms ls ys ws)
       leaves =

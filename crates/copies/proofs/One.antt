@@ -1,5 +1,5 @@
 -- Calls that change one record at most. Assumes nothing.
-use Prim.Native.Nat.{ℕ, _+_, _-_, _<_, _≤_}
+use Prim.Native.Nat.{ℕ, suc, _+_, _-_, _<_, _≤_}
 use mathlib.Core.Bool.{cond, not, _||_}
 use mathlib.Core.Logic.{⊎-elim}
 use mathlib.Core.Path.{_≡_, refl, sym, ap, _∙_}
@@ -17,7 +17,7 @@ use Rattle.model.specs.declared.Answer.the-variants.{Accepted, Refused}
 use Rattle.model.specs.declared.CallReply.{CallReply}
 use Rattle.model.specs.Task.{T-1}
 use Rattle.model.specs.Plan.{planOf}
-use Rattle.model.specs.Calls.{Lent, worker, recordOf, withMark, withColumn, changed, took, columnOf, advanced}
+use Rattle.model.specs.Calls.{Lent, worker, recordOf, withTake, withColumn, changed, took, columnOf, advanced}
 use Rattle.worker.specs.Holding.{idle}
 use Rattle.model.specs.Refusal.{Reply, replied, badSizes, badLengths, damaged, badTiles, noWorker, takeAnswer, takeCall, columnAnswer, columnCall}
 use Rattle.laws.proofs.Refusals.{passed}
@@ -46,7 +46,7 @@ reply-changes p (Refused n x) old new h = refused-changes p old
 module _ (z : Sizes) where
   take-changes : (w p : ℕ) (s : Lent) → Changes p s (takeCall z w p s .left)
   unfolding takeCall took changed
-  take-changes w p s = reply-changes p (takeAnswer z w p s) s (took (planOf z) w p s) (λ e. (withMark 1 (getD (s .records) p (recordOf (T-1 0))), refl))
+  take-changes w p s = reply-changes p (takeAnswer z w p s) s (took (planOf z) w p s) (λ e. (withTake (suc (s .number)) (getD (s .records) p (recordOf (T-1 0))), refl))
 
   module _ (w : ℕ) (s : Lent) (ws : Workers) (held : s .workers ≡ crew (ws .slots) (ws .count)) where
     abbrev p : ℕ
@@ -74,7 +74,7 @@ module _ (z : Sizes) where
     left-record : TaskRecord
     left-record =
         let e = columnOf (planOf z) s (worker s w .task) (worker s w .column) in
-        withColumn (e .mark) (e .ties) (getD (s .records) (worker s w .task) (recordOf (T-1 0)))
+        withColumn w (suc (s .number)) (e .mark) (e .ties) (getD (s .records) (worker s w .task) (recordOf (T-1 0)))
 
     column-changes : Changes p s (columnCall z w s .left)
     unfolding columnCall advanced changed left-record

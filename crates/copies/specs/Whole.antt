@@ -13,4 +13,5 @@ whole matrix lists records ws = record {
   buffers = record { matrix = matrix; lists = lists };
   records = records;
   workers = crew (ws .slots) (ws .count);
+  number = ws .number;
 }

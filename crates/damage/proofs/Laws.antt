@@ -2,29 +2,29 @@
 use Prim.Native.Nat.{ℕ, _-_, _*_, _<_}
 use mathlib.Core.Path.{_≡_, refl, sym, ap, _∙_}
 use mathlib.Core.Bool.{Bool, true, false, not, _&&_, _||_}
-use mathlib.Core.List.{List}
+use mathlib.Core.List.{List, map}
 use native.Mathlib.Omega.{arith}
-use borrow.Author.Tests.{eqb-true, eqb-false, not-false}
-use lib.Dec.{eqb, leb}
+use lib.Dec.{eqb, leb, ltb}
 use lib.Ieee.{Float}
 use lib.ListN.{length, getD}
 use Rattle.model.specs.declared.Sizes.{Sizes}
 use Rattle.model.specs.declared.TaskRecord.{TaskRecord}
 use Rattle.worker.specs.declared.Worker.{Worker}
-use Rattle.model.specs.Lists.{below, some}
+use Rattle.model.specs.Lists.{below, some, total}
 use Rattle.model.specs.Task.{tasks}
 use Rattle.model.specs.Plan.{plan, planOf}
 use Rattle.model.specs.Links.{task}
 use Rattle.model.specs.Calls.{Lent, recordOf, marksOf, tiesOf}
-use Rattle.model.specs.Refusal.{nextColumn, badRecord, badHold, tieLimit, badTies, badWorker, badEntry, damaged}
+use Rattle.model.specs.Refusal.{nextColumn, badRecord, badHold, tieLimit, badTies, badCalls, callLimit, badNumber, badWorker, badEntry, damaged}
 use Rattle.laws.proofs.Every.{getD-any}
-use Rattle.laws.proofs.Tests.{or-false, false-or, some-either}
-use Rattle.holds.proofs.Laws.{hold-free, ties-none}
-use Rattle.records.specs.Records.{recordsFrom, blank, crew, lent}
-use Rattle.records.proofs.Laws.{length-records, get-mark, get-ties}
+use Rattle.laws.proofs.Tests.{never, or-false, false-or, some-either}
+use Rattle.holds.specs.declared.Limits.{Limits}
+use Rattle.holds.specs.Allowed.{Allowed}
+use Rattle.records.specs.Records.{recordsFrom, tiesFrom, blank, crew, lent}
+use Rattle.records.proofs.Laws.{length-records, length-crew, get-ties}
 use Rattle.links.specs.Closed.{key, In, taskAt, offset, number}
 use Rattle.links.proofs.Numbering.{task-is}
-use Rattle.checks.specs.Checks.{recordsAlone, listsAlone, held}
+use Rattle.checks.specs.Checks.{recordsAlone, listsAlone, numbered}
 
 -- ---- records
 
@@ -36,44 +36,111 @@ apart found due =
 -- the task with the number p is that of its triple, so the record due is that triple's
 pub record-bad : (z : Sizes) (r : List (List ℕ)) (p k i j : ℕ) → p < length r → In (z .tiles) (key k i j) → number (z .tiles) (key k i j) ≡ p
     → (found due : TaskRecord) → found ≡ getD (recordsFrom r) p blank → due ≡ recordOf (taskAt (key k i j))
-    → (v : Bool) → v ≡ apart found due → (h : List Worker) → v ≡ badRecord (planOf z) (held r h (z .workers)) p
+    → (v : Bool) → v ≡ apart found due → (h : List Worker) (n : ℕ) → v ≡ badRecord (planOf z) (numbered r h (z .workers) n) p
 unfolding badRecord lent plan recordOf
-record-bad z r p k i j l w n found due f d v e h =
-    let a : task (tasks (z .tiles)) p ≡ taskAt (key k i j) = rw n at (task-is (z .tiles) (key k i j) w) in
+record-bad z r p k i j l w m found due f d v e h n =
+    let a : task (tasks (z .tiles)) p ≡ taskAt (key k i j) = rw m at (task-is (z .tiles) (key k i j) w) in
     let due-is : due ≡ recordOf (task (tasks (z .tiles)) p) = d ∙ ap recordOf (sym a) in
     let found-is : found ≡ getD (recordsFrom r) p (recordOf (task (tasks (z .tiles)) p)) =
     f ∙ getD-any (recordsFrom r) p blank (recordOf (task (tasks (z .tiles)) p)) (rw length-records l) in
     e ∙ ap (λ x. apart x due) found-is ∙ ap (apart (getD (recordsFrom r) p (recordOf (task (tasks (z .tiles)) p)))) due-is
 
+-- a call number of the record found is above n, or its worker isn't below W
+abbrev pub overdue : TaskRecord → ℕ → ℕ → Bool
+overdue found n W = not (leb (found .took) n && leb (found .ended) n && ltb (found .worker) W)
+
 -- ---- all tests of task p
 
-module _ (z : Sizes) (r : List (List ℕ)) (h : List Worker) where
-  abbrev state : Lent
-  state = held r h (z .workers)
+-- four tests, of which the code makes the outer two first
+first-bad : (x y u v : Bool) → (x || v) ≡ true → (((x || y) || u) || v) ≡ true
+first-bad true y u v e = refl
+first-bad false y u false e = never e refl
+first-bad false true u true e = refl
+first-bad false false true true e = refl
+first-bad false false false true e = refl
+
+second-bad : (x y u v : Bool) → (y || u) ≡ true → (((x || y) || u) || v) ≡ true
+second-bad true y u v e = refl
+second-bad false true u v e = refl
+second-bad false false true v e = refl
+second-bad false false false v e = never e refl
+
+none-bad : (x y u v : Bool) → (x || v) ≡ false → (y || u) ≡ false → (((x || y) || u) || v) ≡ false
+none-bad x y u v e f =
+    let a = or-false x v e in
+    let b = or-false y u f in
+    false-or ((x || y) || u) v (false-or (x || y) u (false-or x y (a .0) (b .0)) (b .1)) (a .1)
+
+module _ (z : Sizes) (r : List (List ℕ)) (h : List Worker) (n : ℕ) where
+  abbrev pub state : Lent
+  state = numbered r h (z .workers) n
 
   abbrev pub bad : ℕ → Bool
-  bad p = (badRecord (planOf z) state p || badHold (planOf z) state p) || badTies (planOf z) state p
+  bad p = ((badRecord (planOf z) state p || badHold (planOf z) state p) || badTies (planOf z) state p) || badCalls (planOf z) state p
 
-  pub bad-record : (p : ℕ) → badRecord (planOf z) state p ≡ true → bad p ≡ true
-  bad-record p e = ap (λ (x : Bool). (x || badHold (planOf z) state p) || badTies (planOf z) state p) e
+  pub calls-bad : (p : ℕ) → p < length r → (found : TaskRecord) → found ≡ getD (recordsFrom r) p blank → (v : Bool) → v ≡ overdue found n (z .workers)
+      → v ≡ badCalls (planOf z) state p
+  unfolding badCalls lent plan
+  calls-bad p l found f v e =
+      e ∙ (λ i. overdue (found-is i) n (sym (length-crew h (z .workers)) i))
+    where
+      found-is : found ≡ getD (recordsFrom r) p (recordOf (task (tasks (z .tiles)) p))
+      found-is = f ∙ getD-any (recordsFrom r) p blank (recordOf (task (tasks (z .tiles)) p)) (rw length-records l)
 
-  pub bad-by : (p : ℕ) (v : Bool) → badRecord (planOf z) state p ≡ false → v ≡ (badHold (planOf z) state p || badTies (planOf z) state p) → bad p ≡ v
-  bad-by p v e f = ap (λ (x : Bool). (x || badHold (planOf z) state p) || badTies (planOf z) state p) e ∙ sym f
+  -- by the limits of task p
+  module _ (p : ℕ) (m : Limits) (a : Allowed z r h p m) where
+    pub hold-by : not (m .held) ≡ badHold (planOf z) state p
+    unfolding badHold lent marksOf
+    hold-by = a .as-marked
 
-  -- where it isn't taken and has no ties
-  pub quiet : (p : ℕ) (found : TaskRecord) → found ≡ getD (recordsFrom r) p blank → (eqb (found .mark) 1 || not (eqb (found .ties) 0)) ≡ false
-      → false ≡ (badHold (planOf z) state p || badTies (planOf z) state p)
-  quiet p found f e =
-      let d = or-false (eqb (found .mark) 1) (not (eqb (found .ties) 0)) e in
-      let m = ap (λ (x : TaskRecord). x .mark) f ∙ sym (get-mark r p) in
-      let n = ap (λ (x : TaskRecord). x .ties) f ∙ sym (get-ties r p) in
-      sym (false-or _ _ (hold-free z r h (z .workers) p (found .mark) m (eqb-false (found .mark) 1 (d .0))) (ties-none z r h p (found .ties) n (eqb-true (found .ties) 0 (not-false (eqb (found .ties) 0) (d .1)))))
+    pub ties-by : (found : TaskRecord) → found ≡ getD (recordsFrom r) p blank → ltb (m .ties) (found .ties) ≡ badTies (planOf z) state p
+    unfolding badTies tieLimit nextColumn lent marksOf tiesOf tiesFrom
+    ties-by found f =
+        let k : found .ties ≡ getD (tiesFrom r) p 0 = ap (λ (x : TaskRecord). x .ties) f ∙ sym (get-ties r p) in
+        λ i. ltb (a .ties i) (k i)
 
-  -- the whole is the three searches
-  pub three : (xs : List ℕ) (v : Bool) → v ≡ some bad xs → v ≡ ((some (badRecord (planOf z) state) xs || some (badHold (planOf z) state) xs) || some (badTies (planOf z) state) xs)
-  three xs v e =
-      e ∙ some-either (λ p. badRecord (planOf z) state p || badHold (planOf z) state p) (badTies (planOf z) state) xs
-      ∙ ap (λ (x : Bool). x || some (badTies (planOf z) state) xs) (some-either (badRecord (planOf z) state) (badHold (planOf z) state) xs)
+    pub calls-by : m .calls ≡ callLimit (planOf z) state p
+    unfolding callLimit nextColumn lent marksOf
+    calls-by = a .calls
+
+  abbrev pub outer : ℕ → Bool
+  outer p = badRecord (planOf z) state p || badCalls (planOf z) state p
+
+  abbrev pub inner : ℕ → Bool
+  inner p = badHold (planOf z) state p || badTies (planOf z) state p
+
+  pub bad-outer : (p : ℕ) → outer p ≡ true → bad p ≡ true
+  bad-outer p e = first-bad (badRecord (planOf z) state p) (badHold (planOf z) state p) (badTies (planOf z) state p) (badCalls (planOf z) state p) e
+
+  pub bad-inner : (p : ℕ) → inner p ≡ true → bad p ≡ true
+  bad-inner p e = second-bad (badRecord (planOf z) state p) (badHold (planOf z) state p) (badTies (planOf z) state p) (badCalls (planOf z) state p) e
+
+  pub not-bad : (p : ℕ) → outer p ≡ false → inner p ≡ false → bad p ≡ false
+  not-bad p e f = none-bad (badRecord (planOf z) state p) (badHold (planOf z) state p) (badTies (planOf z) state p) (badCalls (planOf z) state p) e f
+
+  -- the whole is the four searches
+  four : (xs : List ℕ) → some bad xs
+      ≡ (((some (badRecord (planOf z) state) xs || some (badHold (planOf z) state) xs) || some (badTies (planOf z) state) xs) || some (badCalls (planOf z) state) xs)
+  four xs =
+      some-either (λ p. (badRecord (planOf z) state p || badHold (planOf z) state p) || badTies (planOf z) state p) (badCalls (planOf z) state) xs
+      ∙ ap (λ (x : Bool). x || some (badCalls (planOf z) state) xs)
+      (some-either (λ p. badRecord (planOf z) state p || badHold (planOf z) state p) (badTies (planOf z) state) xs
+      ∙ ap (λ (x : Bool). x || some (badTies (planOf z) state) xs) (some-either (badRecord (planOf z) state) (badHold (planOf z) state) xs))
+
+  abbrev all : Bool
+  all = some bad (below (length (tasks (z .tiles))))
+
+  -- a task is bad, or none is and the number decides
+  pub found-bad : true ≡ all
+      → true ≡ ((((some (badRecord (planOf z) state) (below (length (tasks (z .tiles)))) || some (badHold (planOf z) state) (below (length (tasks (z .tiles)))))
+      || some (badTies (planOf z) state) (below (length (tasks (z .tiles))))) || some (badCalls (planOf z) state) (below (length (tasks (z .tiles))))) || badNumber (planOf z) state)
+  found-bad e = ap (λ (b : Bool). b || badNumber (planOf z) state) (e ∙ four (below (length (tasks (z .tiles)))))
+
+  pub found-none : false ≡ all → (calls : ℕ) → calls ≡ total (map (callLimit (planOf z) state) (below (length (tasks (z .tiles)))))
+      → ltb calls n ≡ ((((some (badRecord (planOf z) state) (below (length (tasks (z .tiles)))) || some (badHold (planOf z) state) (below (length (tasks (z .tiles)))))
+      || some (badTies (planOf z) state) (below (length (tasks (z .tiles))))) || some (badCalls (planOf z) state) (below (length (tasks (z .tiles))))) || badNumber (planOf z) state)
+  unfolding badNumber lent plan
+  found-none e calls f = ap (λ (k : ℕ). ltb k n) f ∙ ap (λ (b : Bool). b || badNumber (planOf z) state) (e ∙ four (below (length (tasks (z .tiles)))))
 
 -- the triple of task 0
 pub number-first : (N : ℕ) → number N (key 0 0 0) ≡ 0
@@ -82,13 +149,14 @@ number-first N = let z : 0 - 0 ≡ 0 = refl in omega arith
 
 -- ---- all of it
 
-module _ (z : Sizes) (m : List Float) (l : List ℕ) (r : List (List ℕ)) (h : List Worker) where
+module _ (z : Sizes) (m : List Float) (l : List ℕ) (r : List (List ℕ)) (h : List Worker) (n : ℕ) where
   abbrev W : ℕ
   W = z .workers
 
   abbrev pub records : Bool
-  records = (some (badRecord (planOf z) (held r h W)) (below (length (tasks (z .tiles)))) || some (badHold (planOf z) (held r h W)) (below (length (tasks (z .tiles)))))
-      || some (badTies (planOf z) (held r h W)) (below (length (tasks (z .tiles))))
+  records = (((some (badRecord (planOf z) (numbered r h W n)) (below (length (tasks (z .tiles)))) || some (badHold (planOf z) (numbered r h W n)) (below (length (tasks (z .tiles)))))
+      || some (badTies (planOf z) (numbered r h W n)) (below (length (tasks (z .tiles))))) || some (badCalls (planOf z) (numbered r h W n)) (below (length (tasks (z .tiles)))))
+      || badNumber (planOf z) (numbered r h W n)
 
   abbrev pub workers : Bool
   workers = some (badWorker (planOf z) (recordsAlone r)) (crew h W)
@@ -96,16 +164,16 @@ module _ (z : Sizes) (m : List Float) (l : List ℕ) (r : List (List ℕ)) (h : 
   abbrev pub entries : Bool
   entries = some (badEntry (planOf z) (listsAlone l)) (below (z .tiles * z .tiles * z .side))
 
-  parts : damaged (planOf z) (lent m l r h W) ≡ ((records || workers) || entries)
-  unfolding damaged badRecord badHold badTies tieLimit nextColumn badWorker badEntry lent plan marksOf tiesOf
+  parts : damaged (planOf z) (lent m l r h W n) ≡ ((records || workers) || entries)
+  unfolding damaged badRecord badHold badTies tieLimit badCalls callLimit badNumber nextColumn badWorker badEntry lent plan marksOf tiesOf
   parts = refl
 
-  pub damaged-1 : (a : Bool) → a ≡ records → a ≡ true → true ≡ damaged (planOf z) (lent m l r h W)
+  pub damaged-1 : (a : Bool) → a ≡ records → a ≡ true → true ≡ damaged (planOf z) (lent m l r h W n)
   damaged-1 a e q = rw (parts, sym e ∙ q)
 
   module _ (a : Bool) (e : a ≡ records) (q : a ≡ false) where
-    pub damaged-2 : (b : Bool) → b ≡ workers → b ≡ true → true ≡ damaged (planOf z) (lent m l r h W)
+    pub damaged-2 : (b : Bool) → b ≡ workers → b ≡ true → true ≡ damaged (planOf z) (lent m l r h W n)
     damaged-2 b f p = rw (parts, sym e ∙ q, sym f ∙ p)
 
-    pub damaged-3 : (b c : Bool) → b ≡ workers → b ≡ false → c ≡ entries → c ≡ damaged (planOf z) (lent m l r h W)
+    pub damaged-3 : (b c : Bool) → b ≡ workers → b ≡ false → c ≡ entries → c ≡ damaged (planOf z) (lent m l r h W n)
     damaged-3 b c f p g = rw (parts, sym e ∙ q, sym f ∙ p) g

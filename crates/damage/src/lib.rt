@@ -1,19 +1,20 @@
-// Refusal 4 but for elements: records, what the workers hold, and list entries.
+// Refusal 4 but for elements: records and the run's number, what the workers hold, and list entries.
 ghost use mathlib.Core.Path.{_≡_};
 ghost use mathlib.Core.Bool.{_&&_, _||_, not};
 ghost use mathlib.Core.List.{List};
-ghost use lib.Dec.{eqb, leb};
+ghost use lib.Dec.{eqb, leb, ltb};
 ghost use lib.Ieee.{Float};
 ghost use lib.ListN.{length};
 ghost use Rattle.model.specs.Lengths.{ListsFit, RecordsFit};
 ghost use Rattle.model.specs.Lists.{below, some};
 ghost use Rattle.model.specs.Task.{tasks};
 ghost use Rattle.model.specs.Plan.{planOf};
-ghost use Rattle.model.specs.Refusal.{badRecord, badHold, badTies, damaged as isDamaged};
+ghost use Rattle.model.specs.Refusal.{badRecord, badHold, badTies, badCalls, badNumber, damaged as isDamaged};
 ghost use Rattle.records.specs.Records.{lent};
-ghost use Rattle.checks.specs.Checks.{Sized, held};
+ghost use Rattle.checks.specs.Checks.{Sized, numbered};
 use entries::bad_entries;
-use holds::bad_hold;
+use holds::free_limits;
+use holds::held_limits;
 use model::Sizes;
 use model::TaskRecord;
 use numbering::Triple;
@@ -36,40 +37,53 @@ fn differs(found: TaskRecord, due: TaskRecord) -> bool
     !(same_task & (found.mark <= 4))
 }
 
-// Whether some record is not that of its place or has no known mark, a taken task is held by none or by several, or a tie sum is above its limit. At most
-// one more taken task has its workers counted than there are workers.
-fn bad_records(z: Sizes, records: &[Record], workers: Slots) -> bool
+// Whether a call number of a record is above the run's, or its worker is none of `workers` many.
+fn bad_calls(found: TaskRecord, number: u32, workers: usize) -> bool
+    ensures { λ r. ⌜ r ≡ not (leb (found .took) number && leb (found .ended) number && ltb (found .worker) workers) ⌝ }
+{
+    !((found.took <= number) & (found.ended <= number) & ((found.worker as usize) < workers))
+}
+
+// Whether some record is not that of its place, has no known mark, or tells calls that were not made or a worker that there is not; a taken task is held by
+// none or by several; a tie sum is above its limit; or the run's number is. At most one more taken task has its workers counted than there are workers.
+fn bad_records(z: Sizes, records: &[Record], workers: Slots, number: u32) -> bool
     requires { ⌜ Sized z × RecordsFit z (now records) ⌝ }
-    ensures { λ r. ⌜ r ≡ (some (badRecord (planOf z) (held (now (records .entry)) workers (z .workers))) (below (length (tasks (z .tiles))))
-        || some (badHold (planOf z) (held (now (records .entry)) workers (z .workers))) (below (length (tasks (z .tiles))))
-        || some (badTies (planOf z) (held (now (records .entry)) workers (z .workers))) (below (length (tasks (z .tiles))))) ⌝ }
+    ensures { λ r. ⌜ r ≡ (some (badRecord (planOf z) (numbered (now (records .entry)) workers (z .workers) number)) (below (length (tasks (z .tiles))))
+        || some (badHold (planOf z) (numbered (now (records .entry)) workers (z .workers) number)) (below (length (tasks (z .tiles))))
+        || some (badTies (planOf z) (numbered (now (records .entry)) workers (z .workers) number)) (below (length (tasks (z .tiles))))
+        || some (badCalls (planOf z) (numbered (now (records .entry)) workers (z .workers) number)) (below (length (tasks (z .tiles))))
+        || badNumber (planOf z) (numbered (now (records .entry)) workers (z .workers) number)) ⌝ }
 {
     let count = task_count(z.tiles);
     let mut a = Triple { k: 0, i: 0, j: 0 };
     let mut p = 0;
+    let mut calls = 0;
     while p < count {
         let due = record_of(a);
         let found = record_at(records, p);
-        if differs(found, due) {
+        if differs(found, due) | bad_calls(found, number, z.workers) {
             return true;
         }
-        if (found.mark == 1) | (found.ties != 0) {
-            if bad_hold(z, found.mark, found.ties, workers, p) {
-                return true;
-            }
+        let mut most = free_limits(z, found.mark);
+        if found.mark == 1 {
+            most = held_limits(z, workers, p);
         }
+        if !most.held | (most.ties < found.ties as usize) {
+            return true;
+        }
+        calls += most.calls;
         a = next(z.tiles as u8, a);
         p += 1;
     }
-    false
+    calls < number as usize
 }
 
 // Whether what is lent is damaged, by refusal 4 but for elements.
-pub fn damaged(z: Sizes, lists: &[u8], records: &[Record], workers: Slots) -> bool
+pub fn damaged(z: Sizes, lists: &[u8], records: &[Record], workers: Slots, number: u32) -> bool
     requires { ⌜ Sized z × ListsFit z (now lists) × RecordsFit z (now records) ⌝ }
-    ensures { λ r. ⌜ ((matrix : List Float) → r ≡ isDamaged (planOf z) (lent matrix (now (lists .entry)) (now (records .entry)) workers (z .workers))) ⌝ }
+    ensures { λ r. ⌜ ((matrix : List Float) → r ≡ isDamaged (planOf z) (lent matrix (now (lists .entry)) (now (records .entry)) workers (z .workers) number)) ⌝ }
 {
-    if bad_records(z, records, workers) {
+    if bad_records(z, records, workers, number) {
         return true;
     }
     if bad_workers(z, records, workers) {

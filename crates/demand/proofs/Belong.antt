@@ -12,7 +12,7 @@ use Rattle.model.specs.declared.Answer.the-variants.{Accepted}
 use Rattle.model.specs.Plan.{planOf}
 use Rattle.model.specs.Links.{finished}
 use Rattle.model.specs.Buffer.{Ended}
-use Rattle.model.specs.Calls.{Lent, withMark, withColumn, changed, worker, took, advanced, columnOf}
+use Rattle.model.specs.Calls.{Lent, withTake, withColumn, changed, worker, took, advanced, columnOf}
 use Rattle.model.specs.Refusal.{takeAnswer, columnAnswer}
 use Rattle.laws.proofs.Tests.{never, same-or-not}
 use Rattle.cells.proofs.Machine.{count, recordAt}
@@ -47,11 +47,11 @@ pub record Held (z : Sizes) (l : ℕ → ℕ) (ds : List Deed) (s : Lent) : Type
 module _ (z : Sizes) (l : ℕ → ℕ) where
   pub held-take : {ds : List Deed} {s : Lent} → Held z l ds s → (w p : ℕ) → takeAnswer z w p s ≡ Accepted
       → Held z l (ds ++ did-take w p s ∷ []) (took (planOf z) w p s)
-  unfolding took changed withMark Belongs tookThen
+  unfolding took changed withTake Belongs tookThen
   held-take {ds} {s} r w p a =
       let (hw, hb, hp, hr) = take-tells z s w p a in
       record {
-        whole = unfold took changed withMark in took-whole z s (r .whole) w p hw hb hp hr;
+        whole = unfold took changed withTake in took-whole z s (r .whole) w p hw hb hp hr;
         belong = belong-append l ds (did-take w p s) (r .belong) tt;
         held = λ v b. go hw hp v b (same-or-not v w);
       }
@@ -60,9 +60,9 @@ module _ (z : Sizes) (l : ℕ → ℕ) where
           → worker (took (planOf z) w p s) v .task ≡ tookLast l (ds ++ did-take w p s ∷ []) v
       go hw hp v b (inl e) =
           rw (took-append l ds (did-take w p s) v, eq-eqb v w e, e)
-          (ap (λ (x : Worker). x .task) (worker-here z s (r .whole) (s .buffers) p (withMark 1 (recordAt z s p)) w (holding p 0) hp hw))
+          (ap (λ (x : Worker). x .task) (worker-here z s (r .whole) (s .buffers) p (withTake (suc (s .number)) (recordAt z s p)) w (holding p 0) hp hw))
       go hw hp v b (inr d) =
-          let same = worker-there z s (r .whole) (s .buffers) p (withMark 1 (recordAt z s p)) w (holding p 0) hp hw v d in
+          let same = worker-there z s (r .whole) (s .buffers) p (withTake (suc (s .number)) (recordAt z s p)) w (holding p 0) hp hw v d in
           rw (took-append l ds (did-take w p s) v, ne-eqb v w d)
           (ap (λ (x : Worker). x .task) same ∙ r .held v (sym (ap (λ (x : Worker). x .busy) same) ∙ b))
 
@@ -94,11 +94,11 @@ module _ (z : Sizes) (l : ℕ → ℕ) where
       go : w < z .workers → worker s w .busy ≡ true → (v : ℕ) → worker (advanced (planOf z) w s) v .busy ≡ true → (v ≡ w) ⊎ (v ≢ w)
           → worker (advanced (planOf z) w s) v .task ≡ tookLast l (ds ++ did-column w s ∷ []) v
       go hw hb v b (inl q) =
-          let here = worker-here z s (r .whole) (e .left) p (withColumn (e .mark) (e .ties) (recordAt z s p)) w next (r .whole .held w hw hb .task) hw in
+          let here = worker-here z s (r .whole) (e .left) p (withColumn w (suc (s .number)) (e .mark) (e .ties) (recordAt z s p)) w next (r .whole .held w hw hb .task) hw in
           let mine : worker (advanced (planOf z) w s) v ≡ next = ap (worker (advanced (planOf z) w s)) q ∙ here in
           ap (λ (x : Worker). x .task) mine
           ∙ goes-on (finished (e .mark)) p (suc (worker s w .column)) (sym (ap (λ (x : Worker). x .busy) mine) ∙ b)
           ∙ r .held w hb ∙ ap (tookLast l ds) (sym q) ∙ sym (took-append l ds (did-column w s) v)
       go hw hb v b (inr d) =
-          let same = worker-there z s (r .whole) (e .left) p (withColumn (e .mark) (e .ties) (recordAt z s p)) w next (r .whole .held w hw hb .task) hw v d in
+          let same = worker-there z s (r .whole) (e .left) p (withColumn w (suc (s .number)) (e .mark) (e .ties) (recordAt z s p)) w next (r .whole .held w hw hb .task) hw v d in
           ap (λ (x : Worker). x .task) same ∙ r .held v (sym (ap (λ (x : Worker). x .busy) same) ∙ b) ∙ sym (took-append l ds (did-column w s) v)

@@ -11,6 +11,7 @@ use native.Mathlib.Omega.{arith}
 use lib.ListN.{length, getD, List·getD-map}
 use borrow.Author.Tests.{eqb-true, eq-eqb, ltb-true, ltb-false, lt-ltb, le-leb, not-false}
 use Rattle.model.specs.declared.Sizes.{Sizes}
+use Rattle.model.specs.declared.TaskRecord.{TaskRecord}
 use Rattle.model.specs.declared.Answer.{Answer}
 use Rattle.model.specs.declared.Answer.the-variants.{Accepted, Refused}
 use Rattle.model.specs.Lists.{some, keep}
@@ -19,10 +20,10 @@ use Rattle.model.specs.Plan.{plan, planOf, order}
 use Rattle.model.specs.Links.{task, mark}
 use Rattle.model.specs.Calls.{Lent, marksOf, tiesOf, recordOf, worker}
 use Rattle.worker.specs.Holding.{idle}
-use Rattle.model.specs.Refusal.{refuse, replied, holds, badLengths, badRecord, badHold, tieLimit, badTies, badWorker}
+use Rattle.model.specs.Refusal.{refuse, replied, holds, badLengths, badRecord, badHold, tieLimit, badTies, badCalls, badWorker}
 use Rattle.laws.proofs.Every.{getD-any}
 use Rattle.laws.proofs.Tests.{never, and-left, and-right, and-intro, false-if, and-true-not}
-use Rattle.run_laws.proofs.Undamaged.{Due, due-of}
+use Rattle.run_laws.proofs.Undamaged.{Due, due-of, CallsFit, calls-of}
 use Rattle.cells.proofs.Members.{Member, some-intro}
 use Rattle.demand.proofs.Single.{Single, single-kept, kept-single}
 use Rattle.cells.proofs.Machine.{count, Stated}
@@ -112,6 +113,25 @@ module _ (z : Sizes) (s : Lent) where
   pub good-ties : (p : ℕ) → getD (s .records) p (recordOf (T-1 0)) .ties ≤ tieLimit (planOf z) s p → badTies (planOf z) s p ≡ false
   unfolding badTies
   good-ties p h = false-if _ (λ e. omega (arith, sum-at p, h, ltb-true (tieLimit (planOf z) s p) (getD (tiesOf s) p 0) e))
+
+  -- ---- call numbers
+
+  pub few-calls : Stated z s → (p : ℕ) → p < count z → badCalls (planOf z) s p ≡ false → CallsFit (getD (s .records) p (recordOf (T-1 0))) (s .number) (z .workers)
+  unfolding badCalls plan
+  few-calls g p h e =
+      subst (CallsFit (getD (s .records) p (recordOf (T-1 0))) (s .number)) (g .workers)
+      (subst (λ (r : TaskRecord). CallsFit r (s .number) (length (s .workers)))
+      (getD-any (s .records) p (recordOf (tk p)) (recordOf (T-1 0)) (subst (λ (k : ℕ). p < k) (sym (g .records)) h))
+      (calls-of (getD (s .records) p (recordOf (tk p))) (s .number) (length (s .workers)) e))
+
+  pub good-calls : Stated z s → (p : ℕ) → p < count z → CallsFit (getD (s .records) p (recordOf (T-1 0))) (s .number) (z .workers) → badCalls (planOf z) s p ≡ false
+  unfolding badCalls plan
+  good-calls g p h x =
+      let a : CallsFit (getD (s .records) p (recordOf (tk p))) (s .number) (length (s .workers)) =
+      subst (CallsFit (getD (s .records) p (recordOf (tk p))) (s .number)) (sym (g .workers))
+      (subst (λ (r : TaskRecord). CallsFit r (s .number) (z .workers))
+      (getD-any (s .records) p (recordOf (T-1 0)) (recordOf (tk p)) (subst (λ (k : ℕ). p < k) (sym (g .records)) h)) x) in
+      ap not (and-intro _ _ (and-intro _ _ (le-leb _ _ (a .took-most)) (le-leb _ _ (a .ended-most))) (lt-ltb _ _ (a .worker-below)))
 
   -- ---- who holds what
 

@@ -15,7 +15,7 @@ use Rattle.model.specs.Task.{tasks}
 use Rattle.model.specs.Plan.{plan, planOf}
 use Rattle.model.specs.Links.{task, done, failed, spoiled, mark, finished, broken, spoils, ready}
 use Rattle.model.specs.Buffer.{Ended, sound, columnEnds}
-use Rattle.model.specs.Calls.{Lent, marksOf, withMark, withColumn, changed, worker, took, advanced, columnOf}
+use Rattle.model.specs.Calls.{Lent, marksOf, withTake, withColumn, changed, worker, took, advanced, columnOf}
 use Rattle.model.specs.Refusal.{takeAnswer, columnAnswer}
 use Rattle.laws.proofs.Tests.{or-cases, same-or-not}
 use Rattle.cells.proofs.Choices.{either}
@@ -74,11 +74,11 @@ pub record Ends (z : Sizes) (q : ℕ) (ds : List Deed) (s : Lent) : Type 0 where
 module _ (z : Sizes) (q : ℕ) where
   pub ends-take : {ds : List Deed} {s : Lent} → Ends z q ds s → (w p : ℕ) → takeAnswer z w p s ≡ Accepted
       → Ends z q (ds ++ did-take w p s ∷ []) (took (planOf z) w p s)
-  unfolding took changed withMark finishes
+  unfolding took changed withTake finishes
   ends-take {ds} {s} r w p a =
       let (hw, hb, hp, hr) = take-tells z s w p a in
       record {
-        whole = unfold took changed withMark in took-whole z s (r .whole) w p hw hb hp hr;
+        whole = unfold took changed withTake in took-whole z s (r .whole) w p hw hb hp hr;
         is = go hw hp hr (same-or-not q p) ∙ r .is ∙ or-none (some (finishes (planOf z) q) ds) ∙ sym (some-append (finishes (planOf z) q) ds (did-take w p s));
       }
     where
@@ -86,13 +86,13 @@ module _ (z : Sizes) (q : ℕ) where
           → finished (mark (marksOf (took (planOf z) w p s)) q) ≡ finished (mark (marksOf s) q)
       go hw hp hr (inl e) =
           ap (λ (k : ℕ). finished (mark (marksOf (took (planOf z) w p s)) k)) e
-          ∙ ap finished (mark-here z s (r .whole) (s .buffers) p (withMark 1 (recordAt z s p)) w (holding p 0) hp hw)
+          ∙ ap finished (mark-here z s (r .whole) (s .buffers) p (withTake (suc (s .number)) (recordAt z s p)) w (holding p 0) hp hw)
           ∙ taken-unfinished
           ∙ sym (ap finished (ap (mark (marksOf s)) e ∙ ready-waits z s p hr) ∙ waiting-unfinished)
-      go hw hp hr (inr d) = ap finished (mark-there z s (r .whole) (s .buffers) p (withMark 1 (recordAt z s p)) w (holding p 0) hp hw q d)
+      go hw hp hr (inr d) = ap finished (mark-there z s (r .whole) (s .buffers) p (withTake (suc (s .number)) (recordAt z s p)) w (holding p 0) hp hw q d)
 
   -- whether a column finishes its task, by the mark that it leaves
-  column-finishes : (s : Lent) (p c : ℕ) → finished (columnOf (planOf z) s p c .mark) ≡ (eqb (suc c) (z .side) || broken (columnOf (planOf z) s p c .mark))
+  pub column-finishes : (s : Lent) (p c : ℕ) → finished (columnOf (planOf z) s p c .mark) ≡ (eqb (suc c) (z .side) || broken (columnOf (planOf z) s p c .mark))
   unfolding columnOf columnEnds plan finished broken
   column-finishes s p c =
       let fine : Ended → Type 0 = λ e. finished (e .mark) ≡ (eqb (suc c) (z .side) || broken (e .mark)) in
@@ -132,8 +132,8 @@ module _ (z : Sizes) (q : ℕ) where
           let before : some (finishes (planOf z) q) ds ≡ false = sym (r .is) ∙ ap finished (ap (mark (marksOf s)) f ∙ h .mark) ∙ taken-unfinished in
           rw (before, eq-eqb p q (sym f))
           (ap (λ (k : ℕ). finished (mark (marksOf (advanced (planOf z) w s)) k)) f
-          ∙ ap finished (mark-here z s (r .whole) (e .left) p (withColumn (e .mark) (e .ties) (recordAt z s p)) w next (h .task) hw)
+          ∙ ap finished (mark-here z s (r .whole) (e .left) p (withColumn w (suc (s .number)) (e .mark) (e .ties) (recordAt z s p)) w next (h .task) hw)
           ∙ column-finishes s p (worker s w .column))
       go h hw (inr d) =
           rw (ne-eqb p q (λ f. d (sym f)))
-          (ap finished (mark-there z s (r .whole) (e .left) p (withColumn (e .mark) (e .ties) (recordAt z s p)) w next (h .task) hw q d) ∙ r .is ∙ or-none (some (finishes (planOf z) q) ds))
+          (ap finished (mark-there z s (r .whole) (e .left) p (withColumn w (suc (s .number)) (e .mark) (e .ties) (recordAt z s p)) w next (h .task) hw q d) ∙ r .is ∙ or-none (some (finishes (planOf z) q) ds))

@@ -13,11 +13,16 @@ pub mod Reach
 pub mod Calls
 pub mod Opening
 pub mod Theorem
+pub mod Counting
+pub mod Distinct
+pub mod Order
 pub mod Runs
 pub mod Deeds
 pub mod Belong
 pub mod Finished
 pub mod Listed
+pub mod Told
+pub mod Orderless
 pub mod Measure
 pub mod Corollaries
 pub mod Example

@@ -17,7 +17,7 @@ use Rattle.model.specs.declared.RunAnswer.the-variants.{Finished}
 use Rattle.model.specs.Task.{Task, T-1, tasks}
 use Rattle.model.specs.Plan.{plan, planOf}
 use Rattle.model.specs.Links.{mark, finished}
-use Rattle.model.specs.Calls.{Lent, RunEnd, marksOf, recordOf, withMark, withColumn, changed, worker, opened, took, columnOf, advanced, runFrom}
+use Rattle.model.specs.Calls.{Lent, RunEnd, marksOf, recordOf, withTake, withColumn, changed, worker, opened, took, columnOf, advanced, runFrom}
 use Rattle.worker.specs.Holding.{idle, holding}
 use Rattle.cells.proofs.Machine.{count, column-ends}
 use Rattle.demand.proofs.Totals.{total, total-set}
@@ -59,9 +59,9 @@ module _ (z : Sizes) where
     workers-left w x l = total-set (workerLeft t) (s .workers) w x idle (subst (λ (k : ℕ). w < k) (sym (h .stated .workers)) l)
 
   pub move-lowers : {s s' : Lent} {p : ℕ} → Whole z s → Move z s s' p → left s' < left s
-  unfolding left took advanced changed withMark withColumn
+  unfolding left took advanced changed withTake withColumn
   move-lowers {s} h (takes w p hw hb hp hr) =
-      let a = records-left s h p (withMark 1 (old s h p)) hp in
+      let a = records-left s h p (withTake (suc (s .number)) (old s h p)) hp in
       let b = workers-left s h w (holding p 0) hw in
       let c : cond (eqb (mark (marksOf s) p) 0) (t + 1) 0 ≡ t + 1 = ap (λ (k : ℕ). cond (eqb k 0) (t + 1) 0) (ready-waits z s p hr) in
       let d : workerLeft t (worker s w) ≡ 0 = ap (λ (x : Bool). cond x (t - worker s w .column) 0) hb in
@@ -74,7 +74,7 @@ module _ (z : Sizes) where
       let next = cond (finished m) idle (holding p (suc c)) in
       let begun : 1 ≤ m = column-ends z s (h .stated) p c (a .task) .begun in
       let n = columnOf (planOf z) s p c .ties in
-      let x = records-left s h p (withColumn m n (old s h p)) (a .task) in
+      let x = records-left s h p (withColumn w (suc (s .number)) m n (old s h p)) (a .task) in
       let y = workers-left s h w next hw in
       let f : cond (eqb (mark (marksOf s) p) 0) (t + 1) 0 ≡ 0 = ap (λ (k : ℕ). cond (eqb k 0) (t + 1) 0) (a .mark) in
       let g : cond (eqb m 0) (t + 1) 0 ≡ 0 = ap (λ (b : Bool). cond b (t + 1) 0) (ne-eqb m 0 (λ e. omega arith)) in

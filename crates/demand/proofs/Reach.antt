@@ -88,7 +88,7 @@ module _ (z : Sizes) (σ : ℕ → Val) (q : ℕ) where
 
   -- ---- the machine accepts the model's moves
 
-  may-take : (s : Lent) (w p : ℕ) → w < z .workers → worker s w .busy ≡ false → p < count z → ML.ready (tasks (z .tiles)) (marksOf s) p ≡ true
+  pub may-take : (s : Lent) (w p : ℕ) → w < z .workers → worker s w .busy ≡ false → p < count z → ML.ready (tasks (z .tiles)) (marksOf s) p ≡ true
       → accepts (S z) (z .workers) (take w p) (abs z s) ≡ true
   unfolding accepts abs
   may-take s w p hw hb hp hr =
@@ -98,7 +98,7 @@ module _ (z : Sizes) (σ : ℕ → Val) (q : ℕ) where
       and-intro _ _ (and-intro _ _ (and-intro _ _ (and-intro _ _ (lt-ltb w (z .workers) hw) (idle-of (worker s w) hb)) (lt-ltb p (count z) hp))
       (and-left waits links e)) (and-right waits links e)
 
-  may-column : (s : Lent) (w : ℕ) → w < z .workers → worker s w .busy ≡ true → accepts (S z) (z .workers) (column w) (abs z s) ≡ true
+  pub may-column : (s : Lent) (w : ℕ) → w < z .workers → worker s w .busy ≡ true → accepts (S z) (z .workers) (column w) (abs z s) ≡ true
   unfolding accepts abs
   may-column s w hw hb = and-intro (ltb w (z .workers)) (not (is-idle (workerOf (worker s w)))) (lt-ltb w (z .workers) hw)
       (ap (λ (y : Worker). not (is-idle y)) (busy-of (worker s w) hb))

@@ -9,24 +9,25 @@ use lib.Dec.{eqb}
 use lib.ListN.{length}
 use borrow.Author.Tests.{eqb-true, eqb-false}
 use Rattle.model.specs.declared.Sizes.{Sizes}
+use Rattle.model.specs.declared.TaskRecord.{TaskRecord}
 use Rattle.model.specs.Task.{tasks}
 use Rattle.model.specs.Plan.{plan, planOf}
 use Rattle.model.specs.Links.{task, mark, finished, ready}
 use Rattle.model.specs.Links as ML
 use Rattle.model.specs.Buffer.{Buffers, Ended, worked, filled, columnTies, sound, columnEnds}
-use Rattle.model.specs.Calls.{Lent, marksOf, withMark, withColumn, changed, worker, took, columnOf, advanced}
+use Rattle.model.specs.Calls.{Lent, marksOf, withTake, withColumn, changed, worker, took, columnOf, advanced}
 use Rattle.worker.specs.Holding.{idle, holding}
-use Rattle.model.specs.Refusal.{holds, nextColumn, tieLimit}
+use Rattle.model.specs.Refusal.{holds, nextColumn, tieLimit, callLimit}
 use Rattle.order_free.specs.Graph.{Mark, spoils}
 use Rattle.order_free.specs.Graph as G
 use Rattle.order_free.specs.Loops.{TaskEnd}
 use Rattle.order_free.specs.Machine.{perform}
 use Rattle.laws.proofs.Tests.{never, and-left}
 use Rattle.cells.specs.Cells.{Val, view}
-use Rattle.run_laws.proofs.Undamaged.{next-of}
+use Rattle.run_laws.proofs.Undamaged.{CallsFit, next-of}
 use Rattle.run_laws.proofs.Ties.{ties-most}
 use Rattle.demand.proofs.Single.{Single, single-kept}
-use Rattle.demand.proofs.Totals.{limitFor}
+use Rattle.demand.proofs.Totals.{limitFor, callsFor}
 use Rattle.cells.proofs.Choices.{either}
 use Rattle.cells.proofs.Valid.{Valid, tasks-valid, task-valid}
 use Rattle.cells.proofs.View.{Sized, tile-cell, length-tile}
@@ -46,18 +47,22 @@ module _ (z : Sizes) where
 
   pub took-whole : (s : Lent) → Whole z s → (w p : ℕ) → w < z .workers → worker s w .busy ≡ false → p < count z
       → ready (tasks (z .tiles)) (marksOf s) p ≡ true → Whole z (took (planOf z) w p s)
-  unfolding took changed withMark limitFor
+  unfolding took changed withTake limitFor callsFor finished
   took-whole s h w p hw hb hp hr =
-      stored-whole z s h (s .buffers) p (withMark 1 (recordAt z s p)) w (holding p 0) hp hw
+      stored-whole z s h (s .buffers) p (withTake (suc (s .number)) (recordAt z s p)) w (holding p 0) hp hw
       (works refl refl refl (in-range z (h .fit) .some-side))
       (λ j d l e. let m = h .held j l (holds-busy p (worker s j) e) .mark in
       let k : mark (marksOf s) p ≡ 1 = ap (mark (marksOf s)) (sym (holds-task p (worker s j) e)) ∙ m in
       let f : mark (marksOf s) p ≡ 0 = ready-waits s p hr in
       omega arith)
       (λ q e. never (holds-busy q (worker s w) e) hb)
-      (let r = h .records p hp in unfold withMark in record { kind-is = r .kind-is; k-is = r .k-is; i-is = r .i-is; j-is = r .j-is; mark-most = omega arith })
+      (let r = h .records p hp in unfold withTake in record { kind-is = r .kind-is; k-is = r .k-is; i-is = r .i-is; j-is = r .j-is; mark-most = omega arith })
       (let l : tieLimit (planOf z) s p ≡ 0 = unfold tieLimit plan in ap (λ (m : ℕ). limitFor (z .side) m (nextColumn s p)) (ready-waits s p hr) in
-      unfold withMark in omega (arith, h .sums p hp, l))
+      unfold withTake in omega (arith, h .sums p hp, l))
+      (let a = h .calls p hp in
+      unfold withTake in record { took-most = omega arith; ended-most = omega (arith, a .ended-most); worker-below = a .worker-below })
+      (let l : callLimit (planOf z) s p ≡ 0 = unfold callLimit plan finished in ap (λ (m : ℕ). callsFor (z .side) m (nextColumn s p)) (ready-waits s p hr) in
+      unfold withTake in omega (arith, l))
       (unfold took changed in took-stated z s (h .stated) w p) (h .rows) (h .tiles)
 
   -- ---- column
@@ -165,6 +170,36 @@ module _ (z : Sizes) where
   unfolding tieLimit plan limitFor
   limit-before s p c m e = (λ i. limitFor (z .side) (m i) (nextColumn s p)) ∙ ap (λ (i : ℕ). z .side * i) e
 
+  calls-before : (s : Lent) (p c : ℕ) → mark (marksOf s) p ≡ 1 → nextColumn s p ≡ c → callLimit (planOf z) s p ≡ suc c
+  unfolding callLimit plan callsFor finished
+  calls-before s p c m e = (λ i. callsFor (z .side) (m i) (nextColumn s p)) ∙ ap suc e
+
+  -- one call more is within the task's limit
+  column-calls : (s : Lent) (p c : ℕ) → c < z .side
+      → suc (suc c) ≤ callsFor (z .side) (columnOf (planOf z) s p c .mark) (cond (finished (columnOf (planOf z) s p c .mark)) idle (holding p (suc c)) .column)
+  unfolding columnOf columnEnds plan finished callsFor
+  column-calls s p c hc =
+      let fine : Ended → Type 0 = λ e. suc (suc c) ≤ callsFor (z .side) (e .mark) (cond (finished (e .mark)) idle (holding p (suc c)) .column) in
+      either fine (eqb c 0 && ML.spoils (tasks (z .tiles)) (marksOf s) p) _ _ (omega arith)
+      (either fine (sound (planOf z) (task (tasks (z .tiles)) p) c (s .buffers)) _ _ (last (eqb (suc c) (z .side))) (omega arith))
+    where
+      last : (b : Bool) → suc (suc c) ≤ callsFor (z .side) (cond b 2 1) (cond (finished (cond b 2 1)) idle (holding p (suc c)) .column)
+      last true = omega arith
+      last false = omega arith
+
+  -- the call numbers and the worker that a column leaves
+  column-written : (w k m x : ℕ) (r : TaskRecord) → w < z .workers → CallsFit r k (z .workers) → CallsFit (withColumn w (suc k) m x r) (suc k) (z .workers)
+  unfolding withColumn
+  column-written w k m x r hw a = record { took-most = omega (arith, a .took-most); ended-most = late (finished m); worker-below = ours (finished m) }
+    where
+      late : (b : Bool) → cond b (suc k) (r .ended) ≤ suc k
+      late true = omega arith
+      late false = omega (arith, a .ended-most)
+
+      ours : (b : Bool) → cond b w (r .worker) < z .workers
+      ours true = hw
+      ours false = a .worker-below
+
   pub advanced-whole : (s : Lent) → Whole z s → (w : ℕ) → w < z .workers → worker s w .busy ≡ true → Whole z (advanced (planOf z) w s)
   unfolding advanced changed withColumn
   advanced-whole s h w hw hb =
@@ -182,13 +217,16 @@ module _ (z : Sizes) where
       (one .alone w (subst (λ (k : ℕ). w < k) (sym (h .stated .workers)) hw) (busy-holds p (worker s w) hb refl)) in
       let e = columnOf (planOf z) s p c in
       let r = h .records p (a .task) in
-      let before : tieLimit (planOf z) s p ≡ z .side * c =
-      limit-before s p c (a .mark) (next-of s p w here (busy-holds p (worker s w) hb refl) (single-kept (holds p) idle (s .workers) one)) in
-      stored-whole z s h (e .left) p (withColumn (e .mark) (e .ties) (recordAt z s p)) w _ (a .task) hw
+      let next : nextColumn s p ≡ c = next-of s p w here (busy-holds p (worker s w) hb refl) (single-kept (holds p) idle (s .workers) one) in
+      let before : tieLimit (planOf z) s p ≡ z .side * c = limit-before s p c (a .mark) next in
+      let calls : callLimit (planOf z) s p ≡ suc c = calls-before s p c (a .mark) next in
+      stored-whole z s h (e .left) p (withColumn w (suc (s .number)) (e .mark) (e .ties) (recordAt z s p)) w _ (a .task) hw
       (unfold withColumn in column-suits s p c (a .column))
       (λ j d l e. d (one .alone j (subst (λ (k : ℕ). j < k) (sym (h .stated .workers)) l) (unfold worker in e) ∙ sym mine))
       (λ q e. sym (holds-task q (worker s w) e))
       (unfold withColumn in record { kind-is = r .kind-is; k-is = r .k-is; i-is = r .i-is; j-is = r .j-is; mark-most = en .most })
       (unfold withColumn in column-fits s p c (recordAt z s p .ties) (a .column) (subst (λ (k : ℕ). recordAt z s p .ties ≤ k) before (h .sums p (a .task))))
+      (column-written w (s .number) (e .mark) (e .ties) (recordAt z s p) hw (h .calls p (a .task)))
+      (unfold withColumn in subst (λ (k : ℕ). suc k ≤ callsFor t (e .mark) (cond (finished (e .mark)) idle (holding p (suc c)) .column)) (sym calls) (column-calls s p c (a .column)))
       (unfold advanced changed in advanced-stated z s (h .stated) w (a .task))
       (subst (Rows N t) (sym (en .left .1)) (x .1)) (subst (Tiles N t) (sym (en .left .1)) (x .0))

@@ -1,6 +1,6 @@
 -- A mark for one task and a worker in one place, stored: when they keep records, marks and workers as a run asks for them.
 -- Assumes nothing.
-use Prim.Native.Nat.{ℕ, _≤_, _<_}
+use Prim.Native.Nat.{ℕ, suc, _≤_, _<_}
 use mathlib.Core.Bool.{true, false}
 use mathlib.Core.Path.{_≡_, sym, ap, _∙_, subst}
 use mathlib.Core.Logic.{_⊎_, inl, inr, _≢_}
@@ -13,20 +13,24 @@ use Rattle.model.specs.declared.Sizes.{Sizes}
 use Rattle.model.specs.declared.TaskRecord.{TaskRecord}
 use Rattle.worker.specs.declared.Worker.{Worker}
 use Rattle.model.specs.Task.{T-1, tasks}
+use Rattle.model.specs.Lists.{total}
+use Rattle.model.specs.Lists as ML
+use mathlib.Core.List.{map}
 use Rattle.model.specs.Links.{task, mark}
 use Rattle.model.specs.Buffer.{Buffers}
 use Rattle.model.specs.Plan.{plan, planOf}
 use Rattle.model.specs.Calls.{Lent, marksOf, recordOf, worker}
 use Rattle.worker.specs.Holding.{idle}
-use Rattle.model.specs.Refusal.{holds, nextColumn, tieLimit}
+use Rattle.model.specs.Refusal.{holds, nextColumn, tieLimit, callLimit}
 use Rattle.laws.proofs.Tests.{never, and-left, and-right, and-intro, same-or-not, false-if}
 use Rattle.cells.specs.Cells.{view}
 use Rattle.demand.proofs.Single.{Single, single-kept}
-use Rattle.demand.proofs.Totals.{total-set, columnIn, next-total, not-in, limitFor, limit-other}
+use Rattle.demand.proofs.Totals.{total-set, columnIn, next-total, not-in, limitFor, limit-other, callsFor, calls-other}
 use native.Mathlib.Omega.{arith}
 use Rattle.cells.proofs.Kept.{Tiles, Rows}
 use Rattle.cells.proofs.Machine.{count, Stated}
-use Rattle.run_laws.proofs.Undamaged.{Due, next-of}
+use Rattle.laws.proofs.Totals.{total-grows}
+use Rattle.run_laws.proofs.Undamaged.{Due, CallsFit, next-of}
 use Rattle.demand.proofs.Whole.{AtWork, Whole, mark-at}
 
 pub holds-busy : (p : ℕ) (h : Worker) → holds p h ≡ true → h .busy ≡ true
@@ -47,9 +51,9 @@ pub data Suits (z : Sizes) (p v : ℕ) (x : Worker) : Type 0 where
   works : x .busy ≡ true → x .task ≡ p → v ≡ 1 → x .column < z .side → Suits z p v x
 
 module _ (z : Sizes) (s : Lent) (h : Whole z s) (b : Buffers) (p : ℕ) (new : TaskRecord) (w : ℕ) (x : Worker) (hp : p < count z) (hw : w < z .workers) where
-  -- what is lent, with that record, that worker, and the buffers b
+  -- what is lent, with that record, that worker, the buffers b, and one call more
   abbrev pub stored : Lent
-  stored = record { buffers = b; records = L.set (s .records) p new; workers = L.set (s .workers) w x }
+  stored = record { buffers = b; records = L.set (s .records) p new; workers = L.set (s .workers) w x; number = suc (s .number) }
 
   abbrev v : ℕ
   v = new .mark
@@ -59,10 +63,10 @@ module _ (z : Sizes) (s : Lent) (h : Whole z s) (b : Buffers) (p : ℕ) (new : T
   abbrev none : TaskRecord
   none = recordOf (T-1 0)
 
-  record-here : getD (L.set (s .records) p new) p none ≡ new
+  pub record-here : getD (L.set (s .records) p new) p none ≡ new
   record-here = getD-set-same (s .records) p _ none (subst (λ (k : ℕ). p < k) (sym (h .stated .records)) hp)
 
-  record-there : (q : ℕ) → (q ≡ p → ⊥) → getD (L.set (s .records) p new) q none ≡ getD (s .records) q none
+  pub record-there : (q : ℕ) → (q ≡ p → ⊥) → getD (L.set (s .records) p new) q none ≡ getD (s .records) q none
   record-there q d = getD-set-other (s .records) p q _ none d
 
   pub mark-here : mark (marksOf stored) p ≡ v
@@ -199,32 +203,61 @@ module _ (z : Sizes) (s : Lent) (h : Whole z s) (b : Buffers) (p : ℕ) (new : T
         mine (rests n m) f = never (holds-busy q x f) n
         mine (works n m k c) f = sym (holds-task q x f) ∙ m
 
+    -- a limit by the mark and the next column
+    module _ (f : ℕ → ℕ → ℕ) (other : (m c d : ℕ) → (m ≡ 1 → ⊥) → f m c ≡ f m d) where
+      limit-here : f v (x .column) ≡ f (mark (marksOf stored) p) (nextColumn stored p)
+      limit-here = go (same-or-not v 1)
+        where
+          go : (v ≡ 1) ⊎ (v ≢ 1) → f v (x .column) ≡ f (mark (marksOf stored) p) (nextColumn stored p)
+          go (inl e) = λ i. f (sym mark-here i) (sym (next-here e) i)
+          go (inr n) = other v (x .column) (nextColumn stored p) n ∙ (λ i. f (sym mark-here i) (nextColumn stored p))
+
+      limit-there : (q : ℕ) → q ≢ p → f (mark (marksOf s) q) (nextColumn s q) ≡ f (mark (marksOf stored) q) (nextColumn stored q)
+      limit-there q d = λ i. f (sym (mark-there q d) i) (sym (next-there q d) i)
+
     sums-kept : new .ties ≤ limitFor (z .side) v (x .column) → (q : ℕ) → q < count z
         → getD (L.set (s .records) p new) q none .ties ≤ tieLimit (planOf z) stored q
     unfolding tieLimit plan limitFor
     sums-kept l q hq = go (same-or-not q p)
       where
-        here : (v ≡ 1) ⊎ (v ≢ 1) → limitFor (z .side) v (x .column) ≡ tieLimit (planOf z) stored p
-        here (inl e) = λ i. limitFor (z .side) (sym mark-here i) (sym (next-here e) i)
-        here (inr n) = limit-other (z .side) v (x .column) (nextColumn stored p) n ∙ (λ i. limitFor (z .side) (sym mark-here i) (nextColumn stored p))
-
-        there : (q ≢ p) → tieLimit (planOf z) s q ≡ tieLimit (planOf z) stored q
-        there d = λ i. limitFor (z .side) (sym (mark-there q d) i) (sym (next-there q d) i)
-
         go : (q ≡ p) ⊎ (q ≢ p) → getD (L.set (s .records) p new) q none .ties ≤ tieLimit (planOf z) stored q
         go (inl e) = subst (λ (k : ℕ). getD (L.set (s .records) p new) k none .ties ≤ tieLimit (planOf z) stored k) (sym e)
             (subst (λ (r : TaskRecord). r .ties ≤ tieLimit (planOf z) stored p) (sym record-here)
-            (subst (λ (k : ℕ). new .ties ≤ k) (here (same-or-not v 1)) l))
+            (subst (λ (k : ℕ). new .ties ≤ k) (limit-here (limitFor (z .side)) (limit-other (z .side))) l))
         go (inr d) = subst (λ (r : TaskRecord). r .ties ≤ tieLimit (planOf z) stored q) (sym (record-there q d))
-            (subst (λ (k : ℕ). getD (s .records) q none .ties ≤ k) (there d) (h .sums q hq))
+            (subst (λ (k : ℕ). getD (s .records) q none .ties ≤ k) (limit-there (limitFor (z .side)) (limit-other (z .side)) q d) (h .sums q hq))
 
-    pub stored-whole : Due (task (tasks (z .tiles)) p) new → new .ties ≤ limitFor (z .side) v (x .column) → Stated z stored
+    -- ---- the calls
+
+    calls-kept : CallsFit new (suc (s .number)) (z .workers) → (q : ℕ) → q < count z → CallsFit (getD (L.set (s .records) p new) q none) (suc (s .number)) (z .workers)
+    calls-kept l q hq = go (same-or-not q p)
+      where
+        go : (q ≡ p) ⊎ (q ≢ p) → CallsFit (getD (L.set (s .records) p new) q none) (suc (s .number)) (z .workers)
+        go (inl e) = subst (λ (k : ℕ). CallsFit (getD (L.set (s .records) p new) k none) (suc (s .number)) (z .workers)) (sym e)
+            (subst (λ (r : TaskRecord). CallsFit r (suc (s .number)) (z .workers)) (sym record-here) l)
+        go (inr d) =
+            let a = h .calls q hq in
+            subst (λ (r : TaskRecord). CallsFit r (suc (s .number)) (z .workers)) (sym (record-there q d))
+            (record { took-most = omega (arith, a .took-most); ended-most = omega (arith, a .ended-most); worker-below = a .worker-below })
+
+    number-kept : suc (callLimit (planOf z) s p) ≤ callsFor (z .side) v (x .column) → suc (s .number) ≤ total (map (callLimit (planOf z) stored) (ML.below (count z)))
+    unfolding callLimit plan callsFor
+    number-kept l =
+        let here = limit-here (callsFor (z .side)) (calls-other (z .side)) in
+        let a = total-grows (callLimit (planOf z) s) (callLimit (planOf z) stored) p (count z) hp (limit-there (callsFor (z .side)) (calls-other (z .side)))
+        (subst (λ (k : ℕ). suc (callLimit (planOf z) s p) ≤ k) here l) in
+        omega (arith, a, h .number)
+
+    pub stored-whole : Due (task (tasks (z .tiles)) p) new → new .ties ≤ limitFor (z .side) v (x .column) → CallsFit new (suc (s .number)) (z .workers)
+        → suc (callLimit (planOf z) s p) ≤ callsFor (z .side) v (x .column) → Stated z stored
         → Rows (z .tiles) (z .side) (view (z .tiles) (z .side) b) → Tiles (z .tiles) (z .side) (view (z .tiles) (z .side) b) → Whole z stored
-    stored-whole d l g r f = record {
+    stored-whole d l c n g r f = record {
       fit = h .fit;
       stated = g;
       records = records-kept d;
       sums = sums-kept l;
+      calls = calls-kept c;
+      number = number-kept n;
       holder = holder-kept;
       held = held-kept;
       rows = r;

@@ -35,7 +35,7 @@ use Rattle.cells.proofs.View.{same-buffers}
 use Rattle.cells.proofs.Marks.{toMark, finished-is, finished-most, mark-same}
 use Rattle.cells.proofs.Loops.{Matches, σ₀, loops-match, Summed, loops-sums}
 use Rattle.cells.proofs.Machine.{S, count, abs, sumsFn, tieGain, length-marks, opened-is}
-use Rattle.demand.proofs.Whole.{Whole, in-range, opened-ties}
+use Rattle.demand.proofs.Whole.{Whole, in-range, opened-untouched}
 use Rattle.demand.proofs.Checks.{sum-at}
 use Rattle.demand.proofs.Answers.{run-accepted, take-accepted, column-accepted}
 use Rattle.demand.proofs.Progress.{Goes, can-work, can-take, goes}
@@ -51,9 +51,21 @@ pub opened-sums : (z : Sizes) (m : List Float) (hm : length m ≡ z .tiles * z .
 unfolding opened plan
 opened-sums z m hm =
     subst (λ (u : ℕ → ℕ). Sums (S z) (tieGain z) (z .workers) (σ₀ (z .tiles) (z .side) m) (abs z (opened (planOf z) (z .workers) m)) u)
-    (sym (fun-ext (λ p. opened-ties (tasks (z .tiles)) p)))
+    (sym (fun-ext (λ p. opened-untouched (tasks (z .tiles)) p .no-ties)))
     (subst (λ k. Sums (S z) (tieGain z) (z .workers) (σ₀ (z .tiles) (z .side) m) k (λ p. 0)) (sym (opened-is z m hm))
     (start-sums (S z) (tieGain z) (z .workers) (σ₀ (z .tiles) (z .side) m)))
+
+-- what an opening leaves is reached, by no call
+pub opened-reach : (z : Sizes) (s : Lent) → Opened z s → (q : ℕ) → Reach z (σ₀ (z .tiles) (z .side) (s .buffers .matrix)) q 0 (openCall z s .left)
+unfolding after
+opened-reach z s o q = record {
+  whole = left-whole z s o;
+  calls = [];
+  is = ap (abs z) (o .left) ∙ opened-is z (s .buffers .matrix) (o .long);
+  sums = subst (λ (l : Lent). Sums (S z) (tieGain z) (z .workers) (σ₀ (z .tiles) (z .side) (s .buffers .matrix)) (abs z l) (sumsFn z l)) (sym (o .left))
+      (opened-sums z (s .buffers .matrix) (o .long));
+  made = omega arith;
+}
 
 -- ---- the end
 
@@ -129,19 +141,9 @@ module _ (z : Sizes) (s : Lent) (cs : List Call) (e : openCall z s .answer ≡ A
 
   -- what any calls leave is reached
   reached : (q : ℕ) → Reach z cells q (0 + spentOn q cs (openCall z s .left)) (end z s cs)
-  unfolding cells after
+  unfolding cells
   reached q = calls-keep z q (Reach z cells q) (record { whole = λ r. r .whole; moves = λ r m. move-reach z cells q r m }) cs 0 (openCall z s .left)
-      (record {
-        whole = left-whole z s o;
-        calls = [];
-        is = ap (abs z) (o .left) ∙ opened-is z (s .buffers .matrix) (o .long);
-        sums = start-reached;
-        made = omega arith;
-      })
-    where
-      start-reached : Sums (S z) (tieGain z) (z .workers) cells (abs z (openCall z s .left)) (sumsFn z (openCall z s .left))
-      start-reached = subst (λ (l : Lent). Sums (S z) (tieGain z) (z .workers) cells (abs z l) (sumsFn z l)) (sym (o .left))
-          (unfold cells in (opened-sums z (s .buffers .matrix) (o .long)))
+      (unfold cells in opened-reach z s o q)
 
   some-call : allFinished (planOf z) (end z s cs) ≡ false → SomeCall z (end z s cs)
   some-call f = go (reached 0 .whole) (goes z (end z s cs) (reached 0 .whole) f)

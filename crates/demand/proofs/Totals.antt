@@ -11,6 +11,7 @@ use borrow.Author.Tests.{ne-eqb}
 use Rattle.worker.specs.declared.Worker.{Worker}
 use Rattle.model.specs.Lists.{keep}
 use Rattle.model.specs.Lists as ML
+use Rattle.model.specs.Links.{finished}
 use Rattle.model.specs.Refusal.{holds}
 
 -- the sum of f over a list
@@ -41,7 +42,9 @@ next-total p (h ∷ ws) = go (next-total p ws) (holds p h)
 pub not-in : (p : ℕ) (h : Worker) → holds p h ≡ false → columnIn p h ≡ 0
 not-in p h e = ap (λ (b : Bool). cond b (h .column) 0) e
 
--- the limit of a tie sum by the mark and the next column
+-- ---- limits by the mark and the next column, which counts only for a taken task
+
+-- of a tie sum
 unfoldable pub limitFor : ℕ → ℕ → ℕ → ℕ
 limitFor t v c = cond (eqb v 2 || eqb v 3) (t * t) (cond (eqb v 1) (t * c) 0)
 
@@ -51,3 +54,14 @@ limit-other t v c d n = λ i. cond (eqb v 2 || eqb v 3) (t * t) (same i)
   where
     same : cond (eqb v 1) (t * c) 0 ≡ cond (eqb v 1) (t * d) 0
     same = ap (λ (b : Bool). cond b (t * c) 0) (ne-eqb v 1 n) ∙ sym (ap (λ (b : Bool). cond b (t * d) 0) (ne-eqb v 1 n))
+
+-- of a task's calls
+unfoldable pub callsFor : ℕ → ℕ → ℕ → ℕ
+callsFor t v c = cond (finished v) (suc t) (cond (eqb v 1) (suc c) 0)
+
+pub calls-other : (t v c d : ℕ) → (v ≡ 1 → ⊥) → callsFor t v c ≡ callsFor t v d
+unfolding callsFor
+calls-other t v c d n = λ i. cond (finished v) (suc t) (same i)
+  where
+    same : cond (eqb v 1) (suc c) 0 ≡ cond (eqb v 1) (suc d) 0
+    same = ap (λ (b : Bool). cond b (suc c) 0) (ne-eqb v 1 n) ∙ sym (ap (λ (b : Bool). cond b (suc d) 0) (ne-eqb v 1 n))

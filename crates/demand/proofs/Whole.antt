@@ -11,7 +11,8 @@ use lib.Ieee.{Float}
 use lib.ListN.{length, getD, replicate, take, drop, List·getD-map}
 use borrow.Author.Tests.{eqb-true, leb-true, not-false}
 use Rattle.model.specs.declared.Sizes.{Sizes}
-use Rattle.model.specs.Lists.{every}
+use Rattle.model.specs.declared.TaskRecord.{TaskRecord}
+use Rattle.model.specs.Lists.{every, below, total}
 use Rattle.model.specs.Num.{finite}
 use Rattle.model.specs.Tile.{allFinite}
 use Rattle.model.specs.Task.{Task, T-1, tasks}
@@ -21,9 +22,9 @@ use Rattle.model.specs.Buffer.{Buffers, tileOf, tile, rowsOf, rows}
 use Rattle.model.specs.Loops.{start}
 use Rattle.model.specs.Calls.{Lent, marksOf, recordOf, worker, opened}
 use Rattle.worker.specs.Holding.{idle}
-use Rattle.model.specs.Refusal.{inside, badSizes, holds, tieLimit}
+use Rattle.model.specs.Refusal.{inside, badSizes, holds, tieLimit, callLimit}
 use Rattle.laws.proofs.Tests.{never, and-left, and-right}
-use Rattle.run_laws.proofs.Undamaged.{Due}
+use Rattle.run_laws.proofs.Undamaged.{Due, CallsFit}
 use Rattle.cells.specs.Cells.{view, listAt}
 use Rattle.laws.proofs.Every.{every-take, every-drop}
 use Rattle.cells.proofs.Elements.{getD-same}
@@ -45,6 +46,9 @@ pub record Whole (z : Sizes) (s : Lent) : Type 0 where
   pub records : (p : ℕ) → p < count z → Due (task (tasks (z .tiles)) p) (getD (s .records) p (recordOf (T-1 0)))
   -- a tie sum is within its limit
   pub sums : (p : ℕ) → p < count z → getD (s .records) p (recordOf (T-1 0)) .ties ≤ tieLimit (planOf z) s p
+  -- call numbers are at most the run's, finishing workers are among those lent, and the run's number is within its limit
+  pub calls : (p : ℕ) → p < count z → CallsFit (getD (s .records) p (recordOf (T-1 0))) (s .number) (z .workers)
+  pub number : s .number ≤ total (map (callLimit (planOf z) s) (below (count z)))
   -- a taken task is held by one worker, and a busy worker is at work
   pub holder : (p : ℕ) → p < count z → mark (marksOf s) p ≡ 1 → Single (holds p) idle (s .workers)
   pub held : (w : ℕ) → w < z .workers → worker s w .busy ≡ true → AtWork z s w
@@ -89,11 +93,18 @@ opened-records [] p h = absurd (omega arith)
 opened-records (a ∷ ts) zero h = record { kind-is = refl; k-is = refl; i-is = refl; j-is = refl; mark-most = omega arith }
 opened-records (a ∷ ts) (suc p) h = opened-records ts p (omega arith)
 
-pub opened-ties : (ts : List Task) (p : ℕ) → getD (map recordOf ts) p (recordOf (T-1 0)) .ties ≡ 0
+-- what a record has that no call has been about
+pub record Untouched (r : TaskRecord) : Type 0 where
+  pub no-ties : r .ties ≡ 0
+  pub no-take : r .took ≡ 0
+  pub no-end : r .ended ≡ 0
+  pub no-worker : r .worker ≡ 0
+
+pub opened-untouched : (ts : List Task) (p : ℕ) → Untouched (getD (map recordOf ts) p (recordOf (T-1 0)))
 unfolding recordOf
-opened-ties [] p = refl
-opened-ties (a ∷ ts) zero = refl
-opened-ties (a ∷ ts) (suc p) = opened-ties ts p
+opened-untouched [] p = record { no-ties = refl; no-take = refl; no-end = refl; no-worker = refl }
+opened-untouched (a ∷ ts) zero = record { no-ties = refl; no-take = refl; no-end = refl; no-worker = refl }
+opened-untouched (a ∷ ts) (suc p) = opened-untouched ts p
 
 zeros-zero : (n : ℕ) → every (λ x. eqb x 0) (replicate n 0) ≡ true
 unfolding every
@@ -128,7 +139,15 @@ opened-whole z m fit hm f = record {
   fit = fit;
   stated = unfold opened plan start in opened-stated z m hm;
   records = opened-records (tasks (z .tiles));
-  sums = λ p l. omega (arith, opened-ties (tasks (z .tiles)) p);
+  sums = λ p l. omega (arith, opened-untouched (tasks (z .tiles)) p .no-ties);
+  calls = λ p l.
+      let r = opened-untouched (tasks (z .tiles)) p in
+      record {
+        took-most = omega (arith, r .no-take);
+        ended-most = omega (arith, r .no-end);
+        worker-below = omega (arith, r .no-worker, in-range z fit .some-workers);
+      };
+  number = omega arith;
   holder = λ p h e. let q : _≡_ {A = ℕ} 0 1 = sym (opened-marks (tasks (z .tiles)) p) ∙ e in absurd (omega arith);
   held = λ w h e. never e (ap (λ x. x .busy) (getD-same (z .workers) w idle));
   rows = λ i j hi hj e. omega (arith, zero-rows (z .tiles) (z .side) m i j e);

@@ -1,3 +1,4 @@
 pub mod Deeds
 pub mod Demand
+pub mod Numbered
 pub mod Promise

@@ -1,81 +1,81 @@
-// Refusal 4's tests of a task by its mark: that one worker holds it where it is taken, and that its tie sum is not above its limit.
+// Refusal 4's limits of a task, by its mark and the workers that hold it.
 ghost use mathlib.Core.Path.{_≡_};
 ghost use mathlib.Core.List.{List, []};
-ghost use mathlib.Core.Bool.{_||_};
 ghost use Prim.Native.Nat.{ℕ, _*_, _≤_};
-ghost use lib.ListN.{length, getD};
+ghost use lib.ListN.{length};
+ghost use Rattle.worker.specs.declared.Worker.{Worker as SomeWorker};
 ghost use Rattle.model.specs.Limits.{mostWorkers};
 ghost use Rattle.model.specs.Lists.{keep};
-ghost use Rattle.model.specs.Links.{mark as markAt};
-ghost use Rattle.model.specs.Plan.{planOf};
-ghost use Rattle.model.specs.Refusal.{holds, nextColumn, badHold, tieLimit, badTies};
-ghost use Rattle.records.specs.Records.{marksFrom, tiesFrom, crew};
+ghost use Rattle.model.specs.Links.{mark as markAt, taken};
+ghost use Rattle.model.specs.Refusal.{holds, nextColumn};
+ghost use Rattle.records.specs.Records.{marksFrom, crew};
 ghost use Rattle.checks.specs.Checks.{Sized, held};
+ghost use Rattle.holds.specs.Allowed.{Allowed};
 use model::Sizes;
 use worker::Slots;
 
-// How many of the first `count` workers hold task p.
-fn holders(workers: Slots, count: usize, p: usize) -> usize
+// How many workers hold a task, and the sum of their next columns.
+pub struct Holders {
+    pub count: usize,
+    pub column: usize,
+}
+
+// Whether a task is held as its mark says, the most that its tie sum may be, and the most accepted calls that it can have had.
+pub struct Limits {
+    pub held: bool,
+    pub ties: usize,
+    pub calls: usize,
+}
+
+// Those of the first `count` workers that hold task p.
+fn held_by(workers: Slots, count: usize, p: usize) -> Holders
     requires { ⌜ count ≤ mostWorkers ⌝ }
-    ensures { λ r. ⌜ r ≡ length (keep (holds p) (crew workers count)) ⌝ }
+    ensures { λ r. ⌜ (r .count ≡ length (keep (holds p) (crew workers count))) × (r .column ≡ nextColumn (held [] workers count) p) × (r .column ≤ count * 255) ⌝ }
 {
     let mut n = 0;
+    let mut column = 0;
     let mut v = 0;
     while v < count {
         let h = workers[v];
         if h.busy & (h.task as usize == p) {
             n += 1;
+            column += h.column as usize;
         }
         v += 1;
     }
-    n
+    Holders { count: n, column }
 }
 
-// The next column of task p, where one of the first `count` workers holds it.
-fn next_column(workers: Slots, count: usize, p: usize) -> usize
-    requires { ⌜ count ≤ mostWorkers ⌝ }
-    ensures { λ r. ⌜ (r ≡ nextColumn (held [] workers count) p) × (r ≤ count * 255) ⌝ }
-{
-    let mut n = 0;
-    let mut v = 0;
-    while v < count {
-        let h = workers[v];
-        if h.busy & (h.task as usize == p) {
-            n += h.column as usize;
-        }
-        v += 1;
-    }
-    n
-}
-
-// The most that the tie sum of task p, which has that mark, may be.
-fn tie_limit(z: Sizes, mark: u8, workers: Slots, p: usize) -> usize
+// The limits of task p, which is taken.
+pub fn held_limits(z: Sizes, workers: Slots, p: usize) -> Limits
     requires { ⌜ Sized z ⌝ }
-    ensures { λ r. ⌜ ((records : List (List ℕ)) → mark ≡ markAt (marksFrom records) p → r ≡ tieLimit (planOf z) (held records workers (z .workers)) p) ⌝ }
+    ensures { λ r. ⌜ ((records : List (List ℕ)) → taken ≡ markAt (marksFrom records) p → Allowed z records workers p r) ⌝ }
+{
+    let h = held_by(workers, z.workers, p);
+    Limits {
+        held: h.count == 1,
+        ties: z.side * h.column,
+        calls: 1 + h.column,
+    }
+}
+
+// The limits of a task with this mark, where that is not 1: no worker counts for them.
+pub fn free_limits(z: Sizes, mark: u8) -> Limits
+    requires { ⌜ Sized z ⌝ }
+    ensures { λ r. ⌜ ((records : List (List ℕ)) (slots : List SomeWorker) (p : ℕ) → mark ≡ markAt (marksFrom records) p → (mark ≡ taken → ⊥) → Allowed z records slots p r) ⌝ }
 {
     let t = z.side;
+    let mut ties = 0;
+    let mut calls = 0;
     if (mark == 2) | (mark == 3) {
-        return t * t;
+        ties = t * t;
     }
-    if mark == 1 {
-        return t * next_column(workers, z.workers, p);
+    if (mark == 2) | (mark == 3) | (mark == 4) {
+        calls = t + 1;
     }
-    0
-}
-
-// Whether task p, which has that mark and that tie sum, has mark 1 and no worker or several, or its tie sum is above its limit.
-pub fn bad_hold(z: Sizes, mark: u8, ties: u16, workers: Slots, p: usize) -> bool
-    requires { ⌜ Sized z ⌝ }
-    ensures { λ r. ⌜ ((records : List (List ℕ)) → mark ≡ markAt (marksFrom records) p → ties ≡ getD (tiesFrom records) p 0
-        → r ≡ (badHold (planOf z) (held records workers (z .workers)) p || badTies (planOf z) (held records workers (z .workers)) p)) ⌝ }
-{
-    if mark == 1 {
-        if holders(workers, z.workers, p) != 1 {
-            return true;
-        }
+    Limits {
+        held: true,
+        ties,
+        calls,
     }
-    if ties == 0 {
-        return false;
-    }
-    tie_limit(z, mark, workers, p) < ties as usize
 }

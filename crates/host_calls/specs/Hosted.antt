@@ -23,8 +23,8 @@ pub record Hosted : Type 0 where
   pub busy : List ℕ
   pub workers : Workers
 
-abbrev pub hosted : List Float → List ℕ → List (List ℕ) → List ℕ → List ℕ → List ℕ → ℕ → Hosted
-hosted m l r b t c count = record { matrix = m; lists = l; records = r; busy = b; workers = workersIn b t c count }
+abbrev pub hosted : List Float → List ℕ → List (List ℕ) → List ℕ → List ℕ → List ℕ → ℕ → ℕ → Hosted
+hosted m l r b t c count number = record { matrix = m; lists = l; records = r; busy = b; workers = workersIn b t c count number }
 
 abbrev pub lentIn : Hosted → Lent
 lentIn h = allLent (h .matrix) (h .lists) (h .records) (h .workers)

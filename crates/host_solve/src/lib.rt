@@ -26,15 +26,16 @@ pub extern "C" fn solumivaf_outcome(
     task: &[u16; SLOTS],
     column: &[u8; SLOTS],
     count: usize,
+    number: u32,
 ) -> Told
-    ensures { λ r. ⌜ r ≡ outcomeTold (outcomeCall (sizes tiles side workers) (lentIn (hosted (now (matrix .entry)) (now (lists .entry)) (now (records .entry)) (now (busy .entry)) (now (task .entry)) (now (column .entry)) count))) ⌝ }
+    ensures { λ r. ⌜ r ≡ outcomeTold (outcomeCall (sizes tiles side workers) (lentIn (hosted (now (matrix .entry)) (now (lists .entry)) (now (records .entry)) (now (busy .entry)) (now (task .entry)) (now (column .entry)) count number))) ⌝ }
 {
     let z = Sizes {
         tiles,
         side,
         workers,
     };
-    let given = gather(*busy, *task, *column, count);
+    let given = gather(*busy, *task, *column, count, number);
     let answer = outcomes::outcome(z, matrix, lists, records, given);
     tell_outcome(answer)
 }
@@ -52,10 +53,11 @@ pub extern "C" fn solumivaf_solve(
     task: &[u16; SLOTS],
     column: &[u8; SLOTS],
     count: usize,
+    number: u32,
     right: &[f64],
     answers: &mut [f64],
 ) -> Told
-    ensures { λ r. ⌜ Solved (solveCall (sizes tiles side workers) (lentIn (hosted (now (matrix .entry)) (now (lists .entry)) (now (records .entry)) (now (busy .entry)) (now (task .entry)) (now (column .entry)) count)) (now (right .entry)) (now (answers .entry)))
+    ensures { λ r. ⌜ Solved (solveCall (sizes tiles side workers) (lentIn (hosted (now (matrix .entry)) (now (lists .entry)) (now (records .entry)) (now (busy .entry)) (now (task .entry)) (now (column .entry)) count number)) (now (right .entry)) (now (answers .entry)))
         (now (answers .exit)) r ⌝ }
 {
     let z = Sizes {
@@ -63,7 +65,7 @@ pub extern "C" fn solumivaf_solve(
         side,
         workers,
     };
-    let given = gather(*busy, *task, *column, count);
+    let given = gather(*busy, *task, *column, count, number);
     let answer = solving::solve(z, matrix, lists, records, given, right, answers);
     tell(answer)
 }

@@ -12,7 +12,7 @@ use model::Sizes;
 use records::Record;
 use worker::SLOTS;
 
-const VERSION: usize = 4;
+const VERSION: usize = 5;
 
 // The version of the interface, as the header has it.
 #[no_mangle]
@@ -35,20 +35,22 @@ pub extern "C" fn solumivaf_open(
     task: &mut [u16; SLOTS],
     column: &mut [u8; SLOTS],
     count: usize,
+    number: &mut u32,
 ) -> Told
     ensures { λ r. ⌜ Called (openCall (sizes tiles side workers))
-        (hosted (now (matrix .entry)) (now (lists .entry)) (now (records .entry)) (now (busy .entry)) (now (task .entry)) (now (column .entry)) count)
-        (hosted (now (matrix .entry)) (now (lists .exit)) (now (records .exit)) (now (busy .exit)) (now (task .exit)) (now (column .exit)) count) r ⌝ }
+        (hosted (now (matrix .entry)) (now (lists .entry)) (now (records .entry)) (now (busy .entry)) (now (task .entry)) (now (column .entry)) count (now (number .entry)))
+        (hosted (now (matrix .entry)) (now (lists .exit)) (now (records .exit)) (now (busy .exit)) (now (task .exit)) (now (column .exit)) count (now (number .exit))) r ⌝ }
 {
     let z = Sizes {
         tiles,
         side,
         workers,
     };
-    let given = gather(*busy, *task, *column, count);
+    let given = gather(*busy, *task, *column, count, *number);
     let reply = opening::open(z, matrix, lists, records, given);
     let left = reply.workers;
     scatter(left, busy, task, column);
+    *number = left.number;
     let answer = reply.answer;
     tell(answer)
 }
@@ -66,22 +68,24 @@ pub extern "C" fn solumivaf_take(
     task: &mut [u16; SLOTS],
     column: &mut [u8; SLOTS],
     count: usize,
+    number: &mut u32,
     w: usize,
     p: usize,
 ) -> Told
     ensures { λ r. ⌜ Called (takeCall (sizes tiles side workers) w p)
-        (hosted (now (matrix .entry)) (now (lists .entry)) (now (records .entry)) (now (busy .entry)) (now (task .entry)) (now (column .entry)) count)
-        (hosted (now (matrix .entry)) (now (lists .entry)) (now (records .exit)) (now (busy .exit)) (now (task .exit)) (now (column .exit)) count) r ⌝ }
+        (hosted (now (matrix .entry)) (now (lists .entry)) (now (records .entry)) (now (busy .entry)) (now (task .entry)) (now (column .entry)) count (now (number .entry)))
+        (hosted (now (matrix .entry)) (now (lists .entry)) (now (records .exit)) (now (busy .exit)) (now (task .exit)) (now (column .exit)) count (now (number .exit))) r ⌝ }
 {
     let z = Sizes {
         tiles,
         side,
         workers,
     };
-    let given = gather(*busy, *task, *column, count);
+    let given = gather(*busy, *task, *column, count, *number);
     let reply = taking::take(z, matrix, lists, records, given, w, p);
     let left = reply.workers;
     scatter(left, busy, task, column);
+    *number = left.number;
     let answer = reply.answer;
     tell(answer)
 }

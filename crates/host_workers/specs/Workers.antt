@@ -1,4 +1,4 @@
--- The workers of a host: three lists, and a count. Assumes nothing.
+-- The workers of a host: three lists, a count, and the run's number. Assumes nothing.
 use Prim.Native.Nat.{ℕ}
 use mathlib.Core.Bool.{Bool, true, false, cond, not}
 use mathlib.Core.List.{List}
@@ -24,8 +24,8 @@ workerIn b t c v = record { busy = saysBusy (getD b v 0); task = getD t v 0; col
 unfoldable pub slotsIn : List ℕ → List ℕ → List ℕ → List Worker
 slotsIn b t c = table mostWorkers (workerIn b t c)
 
-abbrev pub workersIn : List ℕ → List ℕ → List ℕ → ℕ → Workers
-workersIn b t c count = record { slots = slotsIn b t c; count = count }
+abbrev pub workersIn : List ℕ → List ℕ → List ℕ → ℕ → ℕ → Workers
+workersIn b t c count number = record { slots = slotsIn b t c; count = count; number = number }
 
 -- ---- the bytes that a call leaves
 

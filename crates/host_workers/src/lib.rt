@@ -1,13 +1,19 @@
-// The workers of a host: their slots in three arrays, and their count.
+// The workers of a host: their slots in three arrays, their count, and the run's number.
 ghost use mathlib.Core.Path.{_≡_};
 ghost use Rattle.host_workers.specs.Workers.{slotsIn, workersIn, byteLeft, bytesLeft};
 use worker::SLOTS;
 use worker::Worker;
 use worker::Workers;
 
-// The workers that three arrays hold, `count` of them.
-pub fn gather(busy: [u8; SLOTS], task: [u16; SLOTS], column: [u8; SLOTS], count: usize) -> Workers
-    ensures { λ r. ⌜ r ≡ workersIn busy task column count ⌝ }
+// The workers that three arrays hold, `count` of them, with the run's number.
+pub fn gather(
+    busy: [u8; SLOTS],
+    task: [u16; SLOTS],
+    column: [u8; SLOTS],
+    count: usize,
+    number: u32,
+) -> Workers
+    ensures { λ r. ⌜ r ≡ workersIn busy task column count number ⌝ }
 {
     let idle = Worker::idle();
     let mut slots = [idle; SLOTS];
@@ -20,7 +26,11 @@ pub fn gather(busy: [u8; SLOTS], task: [u16; SLOTS], column: [u8; SLOTS], count:
         };
         v += 1;
     }
-    Workers { slots, count }
+    Workers {
+        slots,
+        count,
+        number,
+    }
 }
 
 // The byte of a worker that is busy or idle, where `was` stood: the same byte, if it says the same.

@@ -20,10 +20,12 @@ use Rattle.model.specs.Loops.{State, start, Loops·open}
 
 -- ---- what is lent
 
+-- K9: with the workers goes the run's number, how many takes and columns were accepted since the opening
 pub record Lent : Type 0 where
   pub buffers : Buffers
   pub records : List TaskRecord
   pub workers : List Worker
+  pub number : ℕ
 
 unfoldable pub marksOf : Lent → List ℕ
 marksOf s = map (λ r. r .mark) (s .records)
@@ -36,17 +38,31 @@ tiesOf s = map (λ r. r .ties) (s .records)
 unfoldable pub stateOf : Lent → State
 stateOf s = record { buffers = s .buffers; marks = marksOf s; ties = tiesOf s }
 
--- the record of a waiting task
+-- the record of a waiting task: no worker has finished it, and no call has taken or ended it
 unfoldable pub recordOf : Task → TaskRecord
-recordOf a = record { kind = kindOf a; k = kOf a; i = iOf a; j = jOf a; mark = waiting; ties = 0 }
+recordOf a = record { kind = kindOf a; k = kOf a; i = iOf a; j = jOf a; mark = waiting; worker = 0; ties = 0; took = 0; ended = 0 }
 
--- the record r with the mark m and n ties more
-unfoldable pub withColumn : ℕ → ℕ → TaskRecord → TaskRecord
-withColumn m n r = record { kind = r .kind; k = r .k; i = r .i; j = r .j; mark = m; ties = r .ties + n }
+-- the record r, taken by call n
+unfoldable pub withTake : ℕ → TaskRecord → TaskRecord
+withTake n r = record { kind = r .kind; k = r .k; i = r .i; j = r .j; mark = taken; worker = r .worker; ties = r .ties; took = n; ended = r .ended }
 
--- the record r with the mark m
-unfoldable pub withMark : ℕ → TaskRecord → TaskRecord
-withMark m r = record { kind = r .kind; k = r .k; i = r .i; j = r .j; mark = m; ties = r .ties }
+-- the record r once a column of worker w, call n, has left it with the mark m and x ties more: where that ends the task, w and n are written down
+unfoldable pub withColumn : ℕ → ℕ → ℕ → ℕ → TaskRecord → TaskRecord
+withColumn w n m x r = record {
+  kind = r .kind;
+  k = r .k;
+  i = r .i;
+  j = r .j;
+  mark = m;
+  worker = cond (finished m) w (r .worker);
+  ties = r .ties + x;
+  took = r .took;
+  ended = cond (finished m) n (r .ended);
+}
+
+-- the record r without what tells the order of work: who finished it, and the calls that took and ended it
+unfoldable pub withoutCalls : TaskRecord → TaskRecord
+withoutCalls r = record { kind = r .kind; k = r .k; i = r .i; j = r .j; mark = r .mark; worker = 0; ties = r .ties; took = 0; ended = 0 }
 
 -- the records with f done to that of task p
 unfoldable pub changed : ℕ → (TaskRecord → TaskRecord) → List TaskRecord → List TaskRecord
@@ -61,13 +77,14 @@ pub record RunEnd : Type 0 where
   pub left : Lent
 
 module _ (z : Plan) where
-  -- ---- after an opening every list entry is 0, every task waits in its place of the numbering, and W workers are idle
+  -- ---- after an opening every list entry is 0, every task waits in its place of the numbering, W workers are idle, and the run's number is 0
 
   unfoldable pub opened : ℕ → List Float → Lent
   opened W m = record {
     buffers = start z m .buffers;
     records = map recordOf (z .tasks);
     workers = replicate W idle;
+    number = 0;
   }
 
   -- ---- worker w takes task p
@@ -75,8 +92,9 @@ module _ (z : Plan) where
   unfoldable pub took : ℕ → ℕ → Lent → Lent
   took w p s = record {
     buffers = s .buffers;
-    records = changed p (withMark taken) (s .records);
+    records = changed p (withTake (suc (s .number))) (s .records);
     workers = set (s .workers) w (holding p 0);
+    number = suc (s .number);
   }
 
   -- ---- worker w does the next column of the task it holds
@@ -97,8 +115,9 @@ module _ (z : Plan) where
       let e = columnOf s (h .task) (h .column) in
       record {
         buffers = e .left;
-        records = changed (h .task) (withColumn (e .mark) (e .ties)) (s .records);
+        records = changed (h .task) (withColumn w (suc (s .number)) (e .mark) (e .ties)) (s .records);
         workers = set (s .workers) w (cond (finished (e .mark)) idle (holding (h .task) (suc (h .column))));
+        number = suc (s .number);
       }
 
   -- ---- a whole run
@@ -138,5 +157,5 @@ module _ (z : Plan) where
   wholeRun W budget s = runFrom W budget 0 0 s
 
 unfoldable pub Calls·open : Unit {0}
-unfolding Loops·open marksOf tiesOf stateOf recordOf withMark withColumn changed worker opened took columnOf advanced readyTasks allFinished hasWork turn nextWorker runFrom wholeRun
+unfolding Loops·open marksOf tiesOf stateOf recordOf withTake withColumn withoutCalls changed worker opened took columnOf advanced readyTasks allFinished hasWork turn nextWorker runFrom wholeRun
 Calls·open = tt

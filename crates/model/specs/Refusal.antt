@@ -1,6 +1,6 @@
 -- What opening, take, column, run and outcome calls answer and leave: the refusals of document 01's table in their order, and else
 -- what an accepted call does. A refusal changes nothing. Assumes nothing.
-use Prim.Native.Nat.{ℕ, _-_, _*_, _/_, _%_}
+use Prim.Native.Nat.{ℕ, suc, _-_, _*_, _/_, _%_}
 use mathlib.Core.Bool.{Bool, true, false, cond, not, _&&_, _||_}
 use mathlib.Core.List.{List, map}
 use lib.ListN.{length, getD}
@@ -113,6 +113,22 @@ module _ (z : Plan) where
   unfoldable pub badTies : Lent → ℕ → Bool
   badTies s p = ltb (tieLimit s p) (getD (tiesOf s) p 0)
 
+  -- 4: a call number in the record of task p is above the run's, or its worker is none of those lent (K9). This is asked of unfinished tasks too
+  unfoldable pub badCalls : Lent → ℕ → Bool
+  badCalls s p =
+      let r = getD (s .records) p (recordOf (task (z .tasks) p)) in
+      not (leb (r .took) (s .number) && leb (r .ended) (s .number) && ltb (r .worker) (length (s .workers)))
+
+  -- the most accepted calls that task p can have had (K9): t + 1 when it is finished, one and its next column when it is taken, else 0
+  unfoldable pub callLimit : Lent → ℕ → ℕ
+  callLimit s p =
+      let m = mark (marksOf s) p in
+      cond (finished m) (suc (z .t)) (cond (eqb m taken) (suc (nextColumn s p)) 0)
+
+  -- 4: the run's number is above the most calls that all tasks can have had
+  unfoldable pub badNumber : Lent → Bool
+  badNumber s = ltb (total (map (callLimit s) (below (length (z .tasks))))) (s .number)
+
   -- 4: what a busy worker holds: there is no such task, it isn't taken, or it has no such column
   unfoldable pub badWorker : Lent → Worker → Bool
   badWorker s h = h .busy && not (ltb (h .task) (length (z .tasks)) && eqb (mark (marksOf s) (h .task)) taken && ltb (h .column) (z .t))
@@ -128,7 +144,8 @@ module _ (z : Plan) where
   unfoldable pub damaged : Lent → Bool
   damaged s =
       some (badRecord s) (below (length (z .tasks))) || some (badHold s) (below (length (z .tasks)))
-      || some (badTies s) (below (length (z .tasks))) || some (badWorker s) (s .workers) || some (badEntry s) (below (z .N * z .N * z .t))
+      || some (badTies s) (below (length (z .tasks))) || some (badCalls s) (below (length (z .tasks))) || badNumber s
+      || some (badWorker s) (s .workers) || some (badEntry s) (below (z .N * z .N * z .t))
 
   -- 4, for a column: an element of a tile that the task touches isn't finite. A worker that is idle or doesn't exist has no task
   unfoldable pub badTiles : ℕ → Lent → Bool
@@ -196,5 +213,5 @@ module _ (z : Sizes) where
       otherwise Accepted) (outcomeFound s)
 
 unfoldable pub Refusal·open : Unit {0}
-unfolding Calls·open refuse replied runReplied outcomeReplied inside badSizes firstNotFinite noWorker badLengths nextColumn badRecord holds badHold tieLimit badTies badWorker entryLimit badEntry damaged badTiles unfinished openAnswer openCall takeAnswer takeCall columnAnswer columnCall runAnswer runCall outcomeFound outcomeCall
+unfolding Calls·open refuse replied runReplied outcomeReplied inside badSizes firstNotFinite noWorker badLengths nextColumn badRecord holds badHold tieLimit badTies badCalls callLimit badNumber badWorker entryLimit badEntry damaged badTiles unfinished openAnswer openCall takeAnswer takeCall columnAnswer columnCall runAnswer runCall outcomeFound outcomeCall
 Refusal·open = tt

@@ -22,16 +22,19 @@ pub struct Sizes {
     pub workers: usize,
 }
 
-// What is lent for a task: kind 1 to 4, k, i and j (0 where unused), the sum of the ties of the columns that it completed, and its mark. In this order
-// copies of it as bytes are quicker to make.
+// What is lent for a task: kind 1 to 4, k, i and j (0 where unused), its mark, the worker that finished it, the sum of the ties of the columns that it
+// completed, and the numbers of the calls that took and that ended it. In this order it has no gap, and copies of it as bytes are quicker to make.
 #[repr(C)]
 pub struct TaskRecord {
     pub kind: u8,
     pub k: u8,
     pub i: u8,
     pub j: u8,
-    pub ties: u16,
     pub mark: u8,
+    pub worker: u8,
+    pub ties: u16,
+    pub took: u32,
+    pub ended: u32,
 }
 
 // What a pivot search carries along and tells: the winner's place, its magnitude, and its ties, which are the other candidates with that magnitude.

@@ -3,15 +3,14 @@ ghost use mathlib.Core.Path.{_≡_};
 ghost use mathlib.Core.Bool.{cond};
 ghost use Prim.Native.Nat.{suc, min, _<_};
 ghost use lib.ListN.{length};
-ghost use Rattle.model.specs.Links.{taken};
 ghost use Rattle.worker.specs.Holding.{holding};
-ghost use Rattle.model.specs.Calls.{withMark, changed};
+ghost use Rattle.model.specs.Calls.{withTake, changed};
 ghost use Rattle.records.specs.Records.{recordsFrom};
 ghost use Rattle.marks.specs.Marks.{Recorded};
 ghost use Rattle.next_task.specs.NextTask.{NoneBelow, LowestReady, NoneBetween};
 use marks::is_finished;
 use readiness::is_ready;
-use record_changes::set_mark;
+use record_changes::take_record;
 use records::Record;
 use worker::Worker;
 
@@ -44,14 +43,14 @@ pub fn lowest_ready(n: usize, records: &[Record], from: usize) -> usize
     p
 }
 
-// The worker h takes task p.
-pub fn take_task(records: &mut [Record], h: Worker, p: usize) -> Worker
+// The worker h takes task p, by call `number`.
+pub fn take_task(records: &mut [Record], h: Worker, p: usize, number: u32) -> Worker
     requires { ⌜ (p < length (now records)) × (p < 65536) ⌝ }
     ensures { λ r. ⌜ r ≡ holding p 0 ⌝ }
-    ensures { λ _. ⌜ recordsFrom (now (records .exit)) ≡ changed p (withMark taken) (recordsFrom (now (records .entry))) ⌝ }
+    ensures { λ _. ⌜ recordsFrom (now (records .exit)) ≡ changed p (withTake number) (recordsFrom (now (records .entry))) ⌝ }
     ensures { λ _. ⌜ length (now (records .exit)) ≡ length (now (records .entry)) ⌝ }
 {
-    set_mark(records, p, 1);
+    take_record(records, p, number);
     h.take(p as u16)
 }
 

@@ -3,13 +3,12 @@
 use Prim.Native.Nat.{ℕ, suc, _+_, _*_, _<_}
 use mathlib.Core.Bool.{Bool, true, false, cond}
 use mathlib.Core.Path.{_≡_, refl, sym, ap, _∙_}
-use mathlib.Core.List.{List, [], _∷_}
+use mathlib.Core.List.{List, [], _∷_, map}
 use native.Mathlib.Nat.{mul-comm}
 use native.Mathlib.Numerals.{add-one}
 use native.Mathlib.Omega.{arith}
 use lib.Ieee.{Float}
 use lib.ListN.{length, getD}
-use lib.Seq.{ext-getD}
 use borrow.Author.Tests.{le-leb, eq-eqb}
 use Rattle.model.specs.declared.Sizes.{Sizes}
 use Rattle.worker.specs.declared.Workers.{Workers}
@@ -19,45 +18,25 @@ use Rattle.model.specs.declared.Answer.{Answer}
 use Rattle.model.specs.declared.Answer.the-variants.{Accepted}
 use Rattle.model.specs.declared.RunAnswer.{RunAnswer}
 use Rattle.model.specs.declared.RunAnswer.the-variants.{Finished, Spent}
-use Rattle.model.specs.Lists.{below, inTurn}
-use Rattle.model.specs.Task.{Task, T-1, tasks}
+use Rattle.model.specs.Lists.{inTurn}
+use Rattle.model.specs.Task.{tasks}
 use Rattle.model.specs.Plan.{plan, planOf, order}
-use Rattle.model.specs.Links.{task, mark}
 use Rattle.model.specs.Loops.{outcome, loops, State}
-use Rattle.model.specs.Calls.{Lent, RunEnd, marksOf, tiesOf, stateOf, recordOf, withColumn, allFinished, opened, wholeRun}
+use Rattle.model.specs.Calls.{Lent, RunEnd, stateOf, withoutCalls, allFinished, opened, wholeRun}
 use Rattle.model.specs.Refusal.{Reply, refuse, replied, inside, badSizes, badLengths, openAnswer, openCall, runCall}
 use Rattle.model.specs.History.{leftBy, afterCalls}
 use Rattle.model.specs.History as H
 use Rattle.records.specs.Records.{recordsFrom, marksFrom, tiesFrom, crew, lent, allLent}
 use Rattle.records.proofs.Laws.{length-records, length-crew, marks-lent, ties-lent}
-use Rattle.laws.proofs.Runs.{length-map-below, getD-map-run}
-use Rattle.run_laws.proofs.Undamaged.{Due}
-use Rattle.demand.proofs.Whole.{Whole, mark-at}
-use Rattle.demand.proofs.Checks.{sum-at}
+use Rattle.demand.specs.Numbered.{recordsWith}
+use Rattle.demand.proofs.Whole.{Whole}
+use Rattle.demand.proofs.Orderless.{records-with}
 use Rattle.demand.proofs.Answers.{run-whole}
 use Rattle.demand.proofs.Opening.{opened-by}
 use Rattle.demand.proofs.Theorem.{demand-3}
 use Rattle.demand.proofs.Runs.{run-itself, runs-are-calls}
 use Rattle.demand.proofs.Corollaries.{run-finishes}
-use Rattle.one_worker.specs.Alone.{Lendable, Result, alone, numbered, published}
-
--- ---- records of an undamaged state are the numbering with its marks and tie sums
-
-due-is : (a : Task) (r : TaskRecord) (m n : ℕ) → Due a r → m ≡ r .mark → n ≡ r .ties → r ≡ withColumn m n (recordOf a)
-unfolding withColumn recordOf
-due-is a r m n h e f = let g : r .ties ≡ 0 + n = omega (arith, f) in λ i. record { kind = h .kind-is i; k = h .k-is i; i = h .i-is i; j = h .j-is i; mark = sym e i; ties = g i }
-
-records-numbered : (z : Sizes) (s : Lent) → Whole z s → s .records ≡ numbered (tasks (z .tiles)) (marksOf s) (tiesOf s)
-unfolding numbered below
-records-numbered z s h =
-    ext-getD (recordOf (T-1 0)) (s .records) (numbered (tasks (z .tiles)) (marksOf s) (tiesOf s))
-    (h .stated .records ∙ sym (length-map-below _ (length (tasks (z .tiles)))))
-    (λ p l.
-    let k : p < length (tasks (z .tiles)) = omega (arith, h .stated .records) in
-    let e : 0 + p ≡ p = omega arith in
-    due-is _ _ _ _ (h .records p k) (mark-at s p) (sum-at z s p)
-    ∙ sym (getD-map-run (λ q. withColumn (mark (marksOf s) q) (getD (tiesOf s) q 0) (recordOf (task (tasks (z .tiles)) q))) 0 (length (tasks (z .tiles))) p (recordOf (T-1 0)) k
-    ∙ ap (λ (q : ℕ). withColumn (mark (marksOf s) q) (getD (tiesOf s) q 0) (recordOf (task (tasks (z .tiles)) q))) e))
+use Rattle.one_worker.specs.Alone.{Lendable, Result, alone, published}
 
 module _ (N t : ℕ) (m : List Float) (l : List ℕ) (r : List (List ℕ)) (ws : Workers) (h : Lendable N t m l r) (one : ws .count ≡ 1) where
   abbrev z : Sizes
@@ -129,13 +108,17 @@ module _ (N t : ℕ) (m : List Float) (l : List ℕ) (r : List (List ℕ)) (ws :
   told e = record { buffers = e .buffers; records = e .records; outcome = outcome (plan N t) (stateOf e) }
 
   told-state : State → Result
-  told-state x = record { buffers = x .buffers; records = numbered (tasks N) (x .marks) (x .ties); outcome = outcome (plan N t) x }
+  told-state x = record { buffers = x .buffers; records = recordsWith (tasks N) (x .marks) (x .ties); outcome = outcome (plan N t) x }
 
-  told-whole : told (runCall z budget first .left) ≡ told-state (stateOf (runCall z budget first .left))
-  unfolding told told-state stateOf
+  -- the same without calls
+  quiet : Result → Result
+  quiet x = record { buffers = x .buffers; records = map withoutCalls (x .records); outcome = x .outcome }
+
+  told-whole : quiet (told (runCall z budget first .left)) ≡ told-state (stateOf (runCall z budget first .left))
+  unfolding quiet told told-state stateOf
   told-whole =
       let e = runCall z budget first .left in
-      ap (λ (rs : List TaskRecord). record { buffers = e .buffers; records = rs; outcome = outcome (plan N t) (stateOf e) }) (records-numbered z e whole)
+      ap (λ (rs : List TaskRecord). record { buffers = e .buffers; records = rs; outcome = outcome (plan N t) (stateOf e) }) (records-with z e whole)
 
   module _ (a : Answer) (l₁ : List ℕ) (r₁ : List (List ℕ)) (ws₁ : Workers) (opened-to : _≡_ {A = Reply} (record { answer = a; left = allLent m l₁ r₁ ws₁ }) (openCall z s))
       (b : ℕ) (b-is : b ≡ length (tasks N) * (t + 1))
@@ -151,8 +134,8 @@ module _ (N t : ℕ) (m : List Float) (l : List ℕ) (r : List (List ℕ)) (ws :
     unfolding stateOf lent
     states = λ i. outcome (plan N t) (record {
       buffers = record { matrix = m₂; lists = l₂ };
-      marks = sym (marks-lent m₂ l₂ r₂ (ws₂ .slots) (ws₂ .count)) i;
-      ties = sym (ties-lent m₂ l₂ r₂ (ws₂ .slots) (ws₂ .count)) i;
+      marks = sym (marks-lent m₂ l₂ r₂ (ws₂ .slots) (ws₂ .count) (ws₂ .number)) i;
+      ties = sym (ties-lent m₂ l₂ r₂ (ws₂ .slots) (ws₂ .count) (ws₂ .number)) i;
     })
 
     told-is : _≡_ {A = Result} (record { buffers = record { matrix = m₂; lists = l₂ }; records = recordsFrom r₂; outcome = o }) (told (runCall z budget first .left))
@@ -165,6 +148,6 @@ module _ (N t : ℕ) (m : List Float) (l : List ℕ) (r : List (List ℕ)) (ws :
     unfolding told alone plan
     alone-told = told-is ∙ ap (λ (e : RunEnd). told (e .left)) run-is
 
-    pub published-told : _≡_ {A = Result} (record { buffers = record { matrix = m₂; lists = l₂ }; records = recordsFrom r₂; outcome = o }) (published (plan N t) m)
-    unfolding told-state published plan
-    published-told = told-is ∙ told-whole ∙ ap told-state like-loops
+    pub published-told : _≡_ {A = Result} (record { buffers = record { matrix = m₂; lists = l₂ }; records = map withoutCalls (recordsFrom r₂); outcome = o }) (published (plan N t) m)
+    unfolding quiet told-state published plan
+    published-told = ap quiet told-is ∙ told-whole ∙ ap told-state like-loops

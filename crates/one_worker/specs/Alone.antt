@@ -2,21 +2,19 @@
 use Prim.Native.Nat.{ℕ, suc, _*_, _≤_}
 use mathlib.Core.Path.{_≡_}
 use mathlib.Core.Bool.{true}
-use mathlib.Core.List.{List, map}
-use lib.ListN.{length, getD}
+use mathlib.Core.List.{List}
+use lib.ListN.{length}
 use lib.Ieee.{Float}
 use Rattle.model.specs.declared.TaskRecord.{TaskRecord}
 use Rattle.model.specs.declared.Outcome.{Outcome}
 use Rattle.model.specs.Lengths.{LentFits}
 use Rattle.model.specs.Limits.{mostTiles, mostSide}
-use Rattle.model.specs.Lists.{below}
 use Rattle.model.specs.Tile.{allFinite}
-use Rattle.model.specs.Task.{Task}
 use Rattle.model.specs.Plan.{Plan, sizes}
-use Rattle.model.specs.Links.{task, mark}
 use Rattle.model.specs.Buffer.{Buffers}
 use Rattle.model.specs.Loops.{loops, outcome as outcomeOf}
-use Rattle.model.specs.Calls.{stateOf, recordOf, withColumn, opened, wholeRun}
+use Rattle.model.specs.Calls.{stateOf, opened, wholeRun}
+use Rattle.demand.specs.Numbered.{recordsWith}
 
 -- sizes in their ranges, lengths that fit them, and finite numbers
 pub record Lendable (N t : ℕ) (m : List Float) (l : List ℕ) (r : List (List ℕ)) : Type 0 where
@@ -37,10 +35,6 @@ alone z m =
     let e = wholeRun z 1 (length (z .tasks) * suc (z .t)) (opened z 1 m) in
     record { buffers = e .left .buffers; records = e .left .records; outcome = outcomeOf z (stateOf (e .left)) }
 
--- the numbering, each task with its mark and its tie sum
-unfoldable pub numbered : List Task → List ℕ → List ℕ → List TaskRecord
-numbered ts ms ns = map (λ p. withColumn (mark ms p) (getD ns p 0) (recordOf (task ts p))) (below (length ts))
-
--- the published loops
+-- the published loops, whose tasks have a mark and a tie sum each; they make no calls
 unfoldable pub published : Plan → List Float → Result
-published z m = let e = loops z m in record { buffers = e .buffers; records = numbered (z .tasks) (e .marks) (e .ties); outcome = outcomeOf z e }
+published z m = let e = loops z m in record { buffers = e .buffers; records = recordsWith (z .tasks) (e .marks) (e .ties); outcome = outcomeOf z e }

@@ -1,6 +1,8 @@
 // One worker's whole run of a system, from its opening to its outcome.
 ghost use mathlib.Core.Path.{_≡_};
+ghost use mathlib.Core.List.{map};
 ghost use Rattle.model.specs.Plan.{plan};
+ghost use Rattle.model.specs.Calls.{withoutCalls};
 ghost use Rattle.records.specs.Records.{recordsFrom};
 ghost use Rattle.one_worker.specs.Alone.{Lendable, alone, published};
 use failures::outcome_of;
@@ -20,11 +22,15 @@ fn one_idle() -> Workers
 {
     let idle = Worker::idle();
     let slots = [idle; SLOTS];
-    Workers { slots, count: 1 }
+    Workers {
+        slots,
+        count: 1,
+        number: 0,
+    }
 }
 
 // Opens a system of finite numbers and runs it with one worker to its end. Lists and records may hold anything before. What is left is also what
-// the published loops leave, with their marks and tie sums in the records.
+// the published loops leave, with their marks and tie sums in the records, which tell calls besides.
 pub fn run_alone(
     tiles: usize,
     side: usize,
@@ -40,7 +46,7 @@ pub fn run_alone(
     } ≡ alone (plan tiles side) (now (matrix .entry)) ⌝ }
     ensures { λ r. ⌜ record {
       buffers = record { matrix = now (matrix .exit); lists = now (lists .exit) };
-      records = recordsFrom (now (records .exit));
+      records = map withoutCalls (recordsFrom (now (records .exit)));
       outcome = r;
     } ≡ published (plan tiles side) (now (matrix .entry)) ⌝ }
 {

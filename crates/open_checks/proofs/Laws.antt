@@ -17,9 +17,9 @@ use Rattle.finite_numbers.specs.declared.Lowest.{Lowest}
 use Rattle.finite_numbers.specs.declared.Lowest.the-variants.{None, At}
 use Rattle.answers.proofs.Refusals.{refuses, passes}
 
-module _ (z : Sizes) (numbers : List Float) (l : List ℕ) (rs : List (List ℕ)) (slots : List Worker) (count : ℕ) where
+module _ (z : Sizes) (numbers : List Float) (l : List ℕ) (rs : List (List ℕ)) (slots : List Worker) (count number : ℕ) where
   abbrev s : Lent
-  s = lent numbers l rs slots count
+  s = lent numbers l rs slots count number
 
   pub answer-1 : (a : Bool) → a ≡ badSizes z → a ≡ true → Refused 1 0 ≡ openAnswer z s
   unfolding openAnswer

@@ -1,6 +1,7 @@
 // The refusals of an opening.
 ghost use mathlib.Core.Path.{_≡_};
 ghost use mathlib.Core.List.{List};
+ghost use Prim.Native.Nat.{ℕ};
 ghost use Rattle.worker.specs.declared.Worker.{Worker as SomeWorker};
 ghost use Rattle.model.specs.Refusal.{openAnswer};
 ghost use Rattle.records.specs.Records.{lent};
@@ -20,8 +21,8 @@ pub fn open_answer(
     records: &[Record],
     count: usize,
 ) -> Answer
-    ensures { λ r. ⌜ ((slots : List SomeWorker)
-        → r ≡ openAnswer z (lent (now (matrix .entry)) (now (lists .entry)) (now (records .entry)) slots count)) ⌝ }
+    ensures { λ r. ⌜ ((slots : List SomeWorker) (number : ℕ)
+        → r ≡ openAnswer z (lent (now (matrix .entry)) (now (lists .entry)) (now (records .entry)) slots count number)) ⌝ }
 {
     if bad_sizes(z) {
         return Answer::Refused(1, 0);

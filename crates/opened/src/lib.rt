@@ -36,10 +36,10 @@ pub fn number_records(z: Sizes, records: &mut [Record])
     }
 }
 
-// Sets the workers to idle.
+// Sets the workers to idle, and the run's number to 0.
 pub fn idle_workers(workers: Workers) -> Workers
     requires { ⌜ workers .count ≤ mostWorkers ⌝ }
-    ensures { λ r. ⌜ crew (r .slots) (r .count) ≡ replicate (workers .count) idle ⌝ }
+    ensures { λ r. ⌜ (crew (r .slots) (r .count) ≡ replicate (workers .count) idle) × (r .number ≡ 0) ⌝ }
     ensures { λ r. ⌜ OthersKept workers r ⌝ }
 {
     let mut left = workers.slots;
@@ -51,5 +51,6 @@ pub fn idle_workers(workers: Workers) -> Workers
     Workers {
         slots: left,
         count: workers.count,
+        number: 0,
     }
 }

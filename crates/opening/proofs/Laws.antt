@@ -25,9 +25,9 @@ use Rattle.checks.proofs.Laws.{sized}
 use Rattle.answers.specs.Answers.{accepts}
 use Rattle.answers.proofs.Refusals.{is-accepted, not-accepted, lengths-fit, count-fits}
 
-module _ (z : Sizes) (m : List Float) (l : List ℕ) (r : List (List ℕ)) (ws : List Worker) (count : ℕ) where
+module _ (z : Sizes) (m : List Float) (l : List ℕ) (r : List (List ℕ)) (ws : List Worker) (count number : ℕ) where
   abbrev old : Lent
-  old = lent m l r ws count
+  old = lent m l r ws count number
 
   pub record Checked : Type 0 where
     pub sizes : Sized z
@@ -39,7 +39,7 @@ module _ (z : Sizes) (m : List Float) (l : List ℕ) (r : List (List ℕ)) (ws :
   checked e =
       let a = passed 1 0 (badSizes z) _ e in
       let b = passed 2 0 (badLengths (planOf z) (z .workers) old) _ (a .1) in
-      record { sizes = sized z (a .0); fit = lengths-fit z m l r ws count (b .0); counted = count-fits z m l r ws count (b .0) }
+      record { sizes = sized z (a .0); fit = lengths-fit z m l r ws count number (b .0); counted = count-fits z m l r ws count number (b .0) }
 
   module _ (a : Answer) (e : a ≡ openAnswer z old) (b : Bool) (f : b ≡ accepts a) where
     pub refused : b ≡ false → _≡_ {A = Reply} (record { answer = a; left = old }) (openCall z old)
@@ -54,10 +54,10 @@ module _ (z : Sizes) (m : List Float) (l : List ℕ) (r : List (List ℕ)) (ws :
       filled-whole n new h g =
           g ∙ rw h (ap (λ k. replicate (length l) 0 ++ k) (drop-length l) ∙ append-nil (replicate (length l) 0) ∙ ap (λ k. replicate k 0) (checked-then .fit .buffers .lists-fit))
 
-      pub accepted : (n : ℕ) (l' : List ℕ) (r' : List (List ℕ)) (ws' : List Worker) (count' : ℕ) → n ≡ length l → l' ≡ withPart 0 n (replicate n 0) l
-          → recordsFrom r' ≡ map recordOf (tasks (z .tiles)) → crew ws' count' ≡ replicate count idle
-          → _≡_ {A = Reply} (record { answer = a; left = lent m l' r' ws' count' }) (openCall z old)
+      pub accepted : (n : ℕ) (l' : List ℕ) (r' : List (List ℕ)) (ws' : List Worker) (count' number' : ℕ) → n ≡ length l → l' ≡ withPart 0 n (replicate n 0) l
+          → recordsFrom r' ≡ map recordOf (tasks (z .tiles)) → crew ws' count' ≡ replicate count idle → number' ≡ 0
+          → _≡_ {A = Reply} (record { answer = a; left = lent m l' r' ws' count' number' }) (openCall z old)
       unfolding openCall openAnswer replied lent opened start plan
-      accepted n l' r' ws' count' h g i j =
-          (λ t. record { answer = is-accepted a b f q t; left = record { buffers = record { matrix = m; lists = filled-whole n l' h g t }; records = i t; workers = (j ∙ ap (λ (k : ℕ). replicate k idle) (checked-then .counted)) t } })
+      accepted n l' r' ws' count' number' h g i j o =
+          (λ t. record { answer = is-accepted a b f q t; left = record { buffers = record { matrix = m; lists = filled-whole n l' h g t }; records = i t; workers = (j ∙ ap (λ (k : ℕ). replicate k idle) (checked-then .counted)) t; number = o t } })
           ∙ ap (λ k. replied k old (opened (planOf z) (z .workers) m)) (sym (is-accepted a b f q) ∙ e)

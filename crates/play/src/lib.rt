@@ -55,6 +55,7 @@ pub fn play(
     let workers = Workers {
         slots: [Worker::idle(); SLOTS],
         count: 0,
+        number: 0,
     };
     let mut lent = Lent {
         matrix: 0,

@@ -42,7 +42,11 @@ pub fn put_numbers(out: &mut [u8], at: usize, m: &[f64])
 fn mixed_record(h: u64, task: TaskRecord) -> u64 {
     let a = mixed(mixed(h, task.kind as u64), task.k as u64);
     let b = mixed(mixed(a, task.i as u64), task.j as u64);
-    mixed(mixed(b, task.mark as u64), task.ties as u64)
+    let c = mixed(mixed(b, task.mark as u64), task.ties as u64);
+    mixed(
+        mixed(mixed(c, task.worker as u64), task.took as u64),
+        task.ended as u64,
+    )
 }
 
 fn mixed_records(h: u64, records: &[Record]) -> u64 {
@@ -65,7 +69,7 @@ fn mixed_worker(h: u64, w: Worker) -> u64 {
 
 fn mixed_workers(h: u64, workers: Workers) -> u64 {
     let slots = workers.slots;
-    let mut r = mixed(h, workers.count as u64);
+    let mut r = mixed(mixed(h, workers.count as u64), workers.number as u64);
     let mut k = 0;
     while k < SLOTS {
         r = mixed_worker(r, slots[k]);

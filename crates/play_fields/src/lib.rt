@@ -105,23 +105,28 @@ fn record(line: &[u8], at: usize) -> TaskRecord
     requires { ⌜ at ≤ 33554432 ⌝ }
 {
     let ties = number(line, at + 10, 4) % 65536;
+    let took = number(line, at + 16, 8) % 4294967296;
+    let ended = number(line, at + 24, 8) % 4294967296;
     TaskRecord {
         kind: two(line, at),
         k: two(line, at + 2),
         i: two(line, at + 4),
         j: two(line, at + 6),
         mark: two(line, at + 8),
+        worker: two(line, at + 14),
         ties: ties as u16,
+        took: took as u32,
+        ended: ended as u32,
     }
 }
 
-// Records of 14 digits each, to the first n places.
+// Records of 32 digits each, to the first n places.
 pub fn read_records(line: &[u8], at: usize, n: usize, records: &mut [Record])
     requires { ⌜ (at ≤ 16777216) × (n ≤ 65600) × (n ≤ length (now records)) ⌝ }
 {
     let mut k = 0;
     while k < n {
-        put_record(records, k, record(line, at + k * 14));
+        put_record(records, k, record(line, at + k * 32));
         k += 1;
     }
 }
@@ -138,18 +143,20 @@ fn worker(line: &[u8], at: usize) -> Worker
     }
 }
 
-// The workers from a place of the line on: a count of eight digits, and the slots.
+// The workers from a place of the line on: a count and the run's number, eight digits each, and the slots.
 pub fn read_workers(line: &[u8], at: usize) -> Workers
     requires { ⌜ at ≤ 16777216 ⌝ }
 {
     let mut slots = [Worker::idle(); SLOTS];
     let mut k = 0;
     while k < SLOTS {
-        slots[k] = worker(line, at + 8 + k * 8);
+        slots[k] = worker(line, at + 16 + k * 8);
         k += 1;
     }
+    let calls = number(line, at + 8, 8) % 4294967296;
     Workers {
         slots,
         count: number(line, at, 8) as usize,
+        number: calls as u32,
     }
 }

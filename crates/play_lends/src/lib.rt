@@ -78,7 +78,7 @@ pub fn lend(
     let b = lend_bytes(line, p, lists);
     let q = p + 8 + b * 2;
     let c = lend_records(line, q, records);
-    let workers = read_workers(line, q + 8 + c * 14);
+    let workers = read_workers(line, q + 8 + c * 32);
     Lent {
         matrix: a,
         lists: b,

@@ -18,9 +18,9 @@ use Rattle.answers.proofs.Refusals.{refuses, passes, is-accepted}
 use Rattle.states.specs.States.{stateAnswer}
 use Rattle.states.proofs.Laws.{goes-on, stops}
 
-module _ (z : Sizes) (m : List Float) (l : List ℕ) (r : List (List ℕ)) (ws : List Worker) (count : ℕ) where
+module _ (z : Sizes) (m : List Float) (l : List ℕ) (r : List (List ℕ)) (ws : List Worker) (count number : ℕ) where
   abbrev s : Lent
-  s = lent m l r ws count
+  s = lent m l r ws count number
 
   abbrev bad : Bool
   bad = damaged (planOf z) s || not (allFinite m)

@@ -63,16 +63,16 @@ unfolding firstOr
 some-first [] g p e q = let y : _≡_ {A = ℕ} 0 1 = cc in absurd (omega arith)
 some-first (x ∷ xs) g p e q = let y : x ≡ p = cc in (ne-eqb (length (x ∷ xs)) 0 (λ h. omega arith), y)
 
-module _ (z : Sizes) (m : List Float) (l : List ℕ) (r : List (List ℕ)) (ws : List Worker) (count : ℕ) (y : List Float) (fit : RecordsFit z r) where
+module _ (z : Sizes) (m : List Float) (l : List ℕ) (r : List (List ℕ)) (ws : List Worker) (count number : ℕ) (y : List Float) (fit : RecordsFit z r) where
   abbrev s : Lent
-  s = lent m l r ws count
+  s = lent m l r ws count number
 
   abbrev open-tasks : ℕ → Bool
   open-tasks k = not (finished (mark (marksFrom r) k))
 
   module _ (g : Lowest) (e : g ≡ firstOr (keep open-tasks (below (length r))) At None) where
     found-is : g ≡ firstOr (unfinished (planOf z) s) At None
-    found-is = e ∙ ap (λ xs. firstOr xs At None) (unfinished-is z m l r ws count fit)
+    found-is = e ∙ ap (λ xs. firstOr xs At None) (unfinished-is z m l r ws count number fit)
 
     pub rest-8 : (p : ℕ) → g ≡ At p → Refused 8 p ≡ restAnswer z s y
     unfolding restAnswer
@@ -100,9 +100,9 @@ module _ (z : Sizes) (m : List Float) (l : List ℕ) (r : List (List ℕ)) (ws :
 
 -- ---- 1, 2 and 4
 
-module _ (z : Sizes) (m : List Float) (l : List ℕ) (r : List (List ℕ)) (ws : List Worker) (count : ℕ) (y x : List Float) where
+module _ (z : Sizes) (m : List Float) (l : List ℕ) (r : List (List ℕ)) (ws : List Worker) (count number : ℕ) (y x : List Float) where
   abbrev lent-now : Lent
-  lent-now = lent m l r ws count
+  lent-now = lent m l r ws count number
 
   abbrev bad-right : Bool
   bad-right = not (eqb (length y) (order (planOf z)) && eqb (length x) (order (planOf z)))
@@ -122,7 +122,7 @@ module _ (z : Sizes) (m : List Float) (l : List ℕ) (r : List (List ℕ)) (ws :
 
     module _ (b : Bool) (f : b ≡ badLengths (planOf z) (z .workers) lent-now) (p : b ≡ false) where
       pub checked : Sized z × LentFits z m l r
-      checked = (sized z (sym e ∙ q), lengths-fit z m l r ws count (sym f ∙ p))
+      checked = (sized z (sym e ∙ q), lengths-fit z m l r ws count number (sym f ∙ p))
 
       pub solve-right : (length y ≡ z .tiles * z .side → ⊥) → Refused 2 0 ≡ solveAnswer z lent-now y x
       unfolding refuse order plan
@@ -140,10 +140,10 @@ module _ (z : Sizes) (m : List Float) (l : List ℕ) (r : List (List ℕ)) (ws :
 
           -- damage of as many workers as the sizes say
           abbrev Damage : Bool → Type 0
-          Damage d = d ≡ damaged (planOf z) (lent m l r ws (z .workers))
+          Damage d = d ≡ damaged (planOf z) (lent m l r ws (z .workers) number)
 
           counted : (d : Bool) → Damage d → d ≡ damaged (planOf z) lent-now
-          counted d g = g ∙ ap (λ (n : ℕ). damaged (planOf z) (lent m l r ws n)) (sym (count-fits z m l r ws count (sym f ∙ p)))
+          counted d g = g ∙ ap (λ (n : ℕ). damaged (planOf z) (lent m l r ws n number)) (sym (count-fits z m l r ws count number (sym f ∙ p)))
 
           pub solve-4 : (d : Bool) → Damage d → d ≡ true → Refused 4 0 ≡ solveAnswer z lent-now y x
           unfolding refuse

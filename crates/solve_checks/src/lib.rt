@@ -40,8 +40,8 @@ fn right_answer(right: &[f64]) -> Answer
 // Refusals 8, 9, 10 and 3.
 fn rest_answer(z: Sizes, matrix: &[f64], records: &[Record], right: &[f64]) -> Answer
     requires { ⌜ Sized z × MatrixFits z (now matrix) × RecordsFit z (now records) ⌝ }
-    ensures { λ r. ⌜ ((lists : List ℕ) (slots : List SomeWorker) (count : ℕ) → r
-        ≡ restAnswer z (lent (now (matrix .entry)) lists (now (records .entry)) slots count) (now (right .entry))) ⌝ }
+    ensures { λ r. ⌜ ((lists : List ℕ) (slots : List SomeWorker) (count number : ℕ) → r
+        ≡ restAnswer z (lent (now (matrix .entry)) lists (now (records .entry)) slots count number) (now (right .entry))) ⌝ }
 {
     let task = first_unfinished(records);
     if let Lowest::At(p) = task {
@@ -81,7 +81,7 @@ pub fn solve_answer(
         return Answer::Refused(2, 0);
     }
     let slots = workers.slots;
-    if damaged(z, lists, records, slots) {
+    if damaged(z, lists, records, slots, workers.number) {
         return Answer::Refused(4, 0);
     }
     if !all_finite(matrix) {

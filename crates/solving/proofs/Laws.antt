@@ -43,9 +43,9 @@ is-good Good a e = e
 is-good (Overflow p) a e = let y : _≡_ {A = ℕ} 0 1 = cc in absurd (omega arith)
 is-good (Singular x) a e = let y : _≡_ {A = ℕ} 0 1 = cc in absurd (omega arith)
 
-module _ (z : Sizes) (m : List Float) (l : List ℕ) (r : List (List ℕ)) (ws : List Worker) (count : ℕ) (y x : List Float) where
+module _ (z : Sizes) (m : List Float) (l : List ℕ) (r : List (List ℕ)) (ws : List Worker) (count number : ℕ) (y x : List Float) where
   abbrev s : Lent
-  s = lent m l r ws count
+  s = lent m l r ws count number
 
   -- list entries, where nothing is damaged
   module _ (sizes : Sized z) (fine : damaged (planOf z) s ≡ false) where
@@ -74,7 +74,7 @@ module _ (z : Sizes) (m : List Float) (l : List ℕ) (r : List (List ℕ)) (ws :
       let d = passed 8 _ (not (eqb (length (unfinished (planOf z) s)) 0)) _ (c .1) in
       let g = passed 3 _ (not (allFinite y)) Accepted (is-good (outcome (planOf z) (stateOf s)) _ (d .1)) in
       let sizes = sized z (a .0) in
-      let fit = lengths-fit z m l r ws count (or-false-left bad (not (Y && X)) (b .0)) in
+      let fit = lengths-fit z m l r ws count number (or-false-left bad (not (Y && X)) (b .0)) in
       let both = not-false (Y && X) (or-false-right bad (not (Y && X)) (b .0)) in
       let fine = or-false-left (damaged (planOf z) s) (not (allFinite (s .buffers .matrix))) (c .0) in
       record {

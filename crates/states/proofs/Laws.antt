@@ -23,9 +23,9 @@ use Rattle.states.specs.States.{stateAnswer, Undamaged}
 
 -- ---- one by one
 
-module _ (z : Sizes) (m : List Float) (l : List ℕ) (r : List (List ℕ)) (ws : List Worker) (count : ℕ) where
+module _ (z : Sizes) (m : List Float) (l : List ℕ) (r : List (List ℕ)) (ws : List Worker) (count number : ℕ) where
   abbrev old : Lent
-  old = lent m l r ws count
+  old = lent m l r ws count number
 
   pub answer-1 : (a : Bool) → a ≡ badSizes z → a ≡ true → Refused 1 0 ≡ stateAnswer z old
   unfolding stateAnswer
@@ -42,11 +42,11 @@ module _ (z : Sizes) (m : List Float) (l : List ℕ) (r : List (List ℕ)) (ws :
       last = sym (passes 1 0 (badSizes z) _ (sym e ∙ q) ∙ passes 2 0 (badLengths (planOf z) (z .workers) old) _ (sym f ∙ k))
 
       pub checked : Sized z × LentFits z m l r
-      checked = (sized z (sym e ∙ q), lengths-fit z m l r ws count (sym f ∙ k))
+      checked = (sized z (sym e ∙ q), lengths-fit z m l r ws count number (sym f ∙ k))
 
-      module _ (d : Bool) (g : d ≡ damaged (planOf z) (lent m l r ws (z .workers))) where
+      module _ (d : Bool) (g : d ≡ damaged (planOf z) (lent m l r ws (z .workers) number)) where
         same : d ≡ damaged (planOf z) old
-        same = g ∙ ap (λ (n : ℕ). damaged (planOf z) (lent m l r ws n)) (sym (count-fits z m l r ws count (sym f ∙ k)))
+        same = g ∙ ap (λ (n : ℕ). damaged (planOf z) (lent m l r ws n number)) (sym (count-fits z m l r ws count number (sym f ∙ k)))
 
         pub answer-4 : d ≡ true → Refused 4 0 ≡ stateAnswer z old
         answer-4 h = sym (refuses 4 0 (damaged (planOf z) old) Accepted (sym same ∙ h)) ∙ last
@@ -56,18 +56,18 @@ module _ (z : Sizes) (m : List Float) (l : List ℕ) (r : List (List ℕ)) (ws :
 
   -- ---- all passed
 
-  pub sound : stateAnswer z old ≡ Accepted → (count ≡ z .workers) × Undamaged z m l r ws
+  pub sound : stateAnswer z old ≡ Accepted → (count ≡ z .workers) × Undamaged z m l r ws number
   unfolding stateAnswer
   sound e =
       let a = passed 1 0 (badSizes z) _ e in
       let b = passed 2 0 (badLengths (planOf z) (z .workers) old) _ (a .1) in
       let c = passed 4 0 (damaged (planOf z) old) Accepted (b .1) in
-      let n = count-fits z m l r ws count (b .0) in (
+      let n = count-fits z m l r ws count number (b .0) in (
         n,
         record {
           sizes = sized z (a .0);
-          lengths = lengths-fit z m l r ws count (b .0);
-          undamaged = subst (λ (k : ℕ). damaged (planOf z) (lent m l r ws k) ≡ false) n (c .0);
+          lengths = lengths-fit z m l r ws count number (b .0);
+          undamaged = subst (λ (k : ℕ). damaged (planOf z) (lent m l r ws k number) ≡ false) n (c .0);
         },
       )
 

@@ -24,7 +24,7 @@ stateAnswer z s =
     otherwise Accepted
 
 -- sizes in their ranges, lengths as stated, and nothing damaged
-pub record Undamaged (z : Sizes) (m : List Float) (l : List ℕ) (r : List (List ℕ)) (ws : List Worker) : Type 0 where
+pub record Undamaged (z : Sizes) (m : List Float) (l : List ℕ) (r : List (List ℕ)) (ws : List Worker) (number : ℕ) : Type 0 where
   pub sizes : Sized z
   pub lengths : LentFits z m l r
-  pub undamaged : damaged (planOf z) (lent m l r ws (z .workers)) ≡ false
+  pub undamaged : damaged (planOf z) (lent m l r ws (z .workers) number) ≡ false

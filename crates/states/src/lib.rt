@@ -27,7 +27,7 @@ pub fn state_answer(
         return Answer::Refused(2, 0);
     }
     let slots = workers.slots;
-    if damaged(z, lists, records, slots) {
+    if damaged(z, lists, records, slots, workers.number) {
         return Answer::Refused(4, 0);
     }
     Answer::Accepted

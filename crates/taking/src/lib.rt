@@ -5,7 +5,7 @@ ghost use Rattle.records.specs.Records.{allLent, OthersKept};
 use answers::accepted;
 use model::CallReply;
 use model::Sizes;
-use record_changes::set_mark;
+use record_changes::take_record;
 use records::Record;
 use take_checks::take_answer;
 use worker::Workers;
@@ -30,13 +30,15 @@ pub fn take(
     if !accepted(answer) {
         return CallReply { answer, workers };
     }
-    set_mark(records, p, 1);
+    let number = workers.number + 1;
+    take_record(records, p, number);
     let mut slots = workers.slots;
     let h = slots[w];
     slots[w] = h.take(p as u16);
     let left = Workers {
         slots,
         count: workers.count,
+        number,
     };
     CallReply {
         answer,

@@ -17,9 +17,9 @@ use Rattle.model.specs.Calls.{Lent, marksOf, columnOf}
 use Rattle.records.specs.Records.{marksFrom, lent}
 use Rattle.checks.specs.Checks.{taskFrom}
 
-module _ (z : Sizes) (m : List Float) (l : List ℕ) (r : List (List ℕ)) (ws : List Worker) (p c : ℕ) where
+module _ (z : Sizes) (m : List Float) (l : List ℕ) (r : List (List ℕ)) (ws : List Worker) (number p c : ℕ) where
   abbrev s : Lent
-  s = lent m l r ws (z .workers)
+  s = lent m l r ws (z .workers) number
 
   abbrev buffers : Buffers
   buffers = record { matrix = m; lists = l }

@@ -1,6 +1,7 @@
 // A column of a task by its record: worked, or filled where the task is spoiled.
 ghost use mathlib.Core.Path.{_≡_};
 ghost use mathlib.Core.List.{List};
+ghost use Prim.Native.Nat.{ℕ};
 ghost use Rattle.worker.specs.declared.Worker.{Worker as SomeWorker};
 ghost use Rattle.model.specs.Plan.{planOf};
 ghost use Rattle.model.specs.Buffer.{endedWith};
@@ -25,8 +26,8 @@ pub fn work_task(
     c: usize,
 ) -> ColumnEnd
     requires { ⌜ ColumnDue z p c (now matrix) (now lists) (now records) ⌝ }
-    ensures { λ r. ⌜ ((slots : List SomeWorker) → endedWith r (record { matrix = now (matrix .exit); lists = now (lists .exit) })
-        ≡ columnOf (planOf z) (lent (now (matrix .entry)) (now (lists .entry)) (now (records .entry)) slots (z .workers)) p c) ⌝ }
+    ensures { λ r. ⌜ ((slots : List SomeWorker) (number : ℕ) → endedWith r (record { matrix = now (matrix .exit); lists = now (lists .exit) })
+        ≡ columnOf (planOf z) (lent (now (matrix .entry)) (now (lists .entry)) (now (records .entry)) slots (z .workers) number) p c) ⌝ }
 {
     let task = record_at(records, p);
     if spoiled_at(z, records, p, c) {

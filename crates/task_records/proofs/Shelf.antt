@@ -55,11 +55,11 @@ module _ {M : Type 1} (𝓤 : URA M) (H : Heap 𝓤) (A : Atoms 𝓤) where
 
 -- the bytes of a copy, `records::RECORD`
 abbrev pub bytes : ℕ
-bytes = 7
+bytes = 16
 
 -- the bytes from a record to the next in a slice of structs
 abbrev pub width : ℕ
-width = 8
+width = 16
 
 pub place-at : (o p : ℕ) → place width o p ≡ p * width + o
 place-at o p = place-is width o p

@@ -18,7 +18,7 @@ use unfinished::answer_after;
 use worker::Worker;
 use worker::Workers;
 
-// Workers take turns until every task is finished or the budget is spent, once `made` calls are made and the turn is worker `turn`'s. Below `low`,
+// Workers take turns until every task is finished or the budget is spent, once `made` calls are made and the turn is worker `turn`'s. `number` is the run's number. Below `low`,
 // and then below `from`, no task is ready, so a search begins there. The search for the next busy worker stands here, since a call would copy all workers.
 pub fn turns_from(
     z: Sizes,
@@ -39,13 +39,15 @@ pub fn turns_from(
     ensures { λ r. ⌜ OthersKept workers (r .workers) ⌝ }
 {
     let mut left = workers.slots;
+    let mut number = workers.number;
     let mut n = made;
     let mut w = turn;
     let mut from = low;
     'turns: while n < budget {
         let h = left[w];
         if h.busy {
-            let g = advance(z, matrix, lists, records, h);
+            number += 1;
+            let g = advance(z, matrix, lists, records, h, w, number);
             left[w] = Worker {
                 busy: g.busy,
                 task: g.task,
@@ -58,7 +60,8 @@ pub fn turns_from(
         }
         from = lowest_ready(z.tiles, records, from);
         if from < records.len() {
-            left[w] = take_task(records, h, from);
+            number += 1;
+            left[w] = take_task(records, h, from, number);
             from += 1;
             n += 1;
             w = worker_after(z.workers, w);
@@ -87,6 +90,7 @@ pub fn turns_from(
             workers: Workers {
                 slots: left,
                 count: workers.count,
+                number,
             },
         };
     }
@@ -95,6 +99,7 @@ pub fn turns_from(
         workers: Workers {
             slots: left,
             count: workers.count,
+            number,
         },
     }
 }

@@ -17,7 +17,10 @@ pub fn record_of(a: Triple) -> TaskRecord
                 i: 0,
                 j: 0,
                 mark: 0,
+                worker: 0,
                 ties: 0,
+                took: 0,
+                ended: 0,
             };
         }
         return TaskRecord {
@@ -26,7 +29,10 @@ pub fn record_of(a: Triple) -> TaskRecord
             i: 0,
             j: a.j,
             mark: 0,
+            worker: 0,
             ties: 0,
+            took: 0,
+            ended: 0,
         };
     }
     if a.j == a.k {
@@ -36,7 +42,10 @@ pub fn record_of(a: Triple) -> TaskRecord
             i: a.i,
             j: 0,
             mark: 0,
+            worker: 0,
             ties: 0,
+            took: 0,
+            ended: 0,
         };
     }
     TaskRecord {
@@ -45,6 +54,9 @@ pub fn record_of(a: Triple) -> TaskRecord
         i: a.i,
         j: a.j,
         mark: 0,
+        worker: 0,
         ties: 0,
+        took: 0,
+        ended: 0,
     }
 }

@@ -13,6 +13,7 @@ pub enum Command {
     Solve { system: PathBuf, right: PathBuf, bits: bool, workers: usize, output: Option<PathBuf> },
     Verify { system: PathBuf, result: PathBuf, workers: usize },
     Tasks { system: PathBuf, workers: usize, output: Option<PathBuf> },
+    History { system: PathBuf, workers: usize, output: Option<PathBuf> },
     Show { file: PathBuf, exact: bool },
 }
 
@@ -33,7 +34,7 @@ struct Told {
 /// Reads all words, the command's name first.
 pub fn command(words: &[OsString]) -> Result<Command, Failure> {
     let Some(first) = words.first() else {
-        return usage("a command is missing: factor, solve, verify, tasks or show".to_string());
+        return usage("a command is missing: factor, solve, verify, tasks, history or show".to_string());
     };
     let name = first.to_string_lossy();
     let asks = |word: &OsString| word == "--help" || word == "-h";
@@ -64,13 +65,18 @@ pub fn command(words: &[OsString]) -> Result<Command, Failure> {
             let (workers, system) = (told.workers.unwrap_or(1), told.files[0].clone());
             Ok(Command::Tasks { system, workers, output: told.output })
         }
+        "history" => {
+            let told = told(rest, "history", &["SYSTEM"], &["--workers", "--output"])?;
+            let (workers, system) = (told.workers.unwrap_or(1), told.files[0].clone());
+            Ok(Command::History { system, workers, output: told.output })
+        }
         "show" => {
             let told = told(rest, "show", &["FILE"], &["--exact"])?;
             Ok(Command::Show { file: told.files[0].clone(), exact: told.exact })
         }
-        _ => {
-            usage(format!("there is no command '{name}': factor, solve, verify, tasks and show are the ones"))
-        }
+        _ => usage(format!(
+            "there is no command '{name}': factor, solve, verify, tasks, history and show are the ones"
+        )),
     }
 }
 

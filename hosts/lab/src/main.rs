@@ -1,4 +1,5 @@
-//! The laboratory's command: factors systems on threads, solves them, checks archived results, lists tasks and shows files. `lab --help` tells how.
+//! The laboratory's command: factors systems on threads, solves them, checks archived results, lists tasks and the history of
+//! a run, and shows files. `lab --help` tells how.
 
 mod arguments;
 mod closed;
@@ -62,6 +63,12 @@ fn run(command: Command) -> Result<u8, Failure> {
             let system = files::system(&system)?;
             let done = work::factor(&system, workers)?;
             output::write(output.as_deref(), words::task_lines(system.tiles, &done.records).as_bytes())?;
+        }
+        Command::History { system, workers, output } => {
+            let system = files::system(&system)?;
+            let done = work::factor(&system, workers)?;
+            let lines = words::history_lines(system.tiles, workers, done.number, &done.records);
+            output::write(output.as_deref(), lines.as_bytes())?;
         }
         Command::Show { file, exact } => {
             let form = if exact { decimals::exact } else { decimals::short };

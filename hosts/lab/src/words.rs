@@ -1,4 +1,4 @@
-//! What the command says: its help, outcomes, tasks, refusals' lines and answers.
+//! What the command says: its help, outcomes, tasks, the history of a run, refusals' lines and answers.
 
 use std::fmt::Write;
 
@@ -7,7 +7,7 @@ use solumivaf::{Outcome, Record, Refusal};
 use crate::decimals::short;
 
 pub const HELP: &str = "\
-lab: factors systems on threads, solves them, checks archived results, lists tasks and shows files
+lab: factors systems on threads, solves them, checks archived results, lists tasks and the history of a run, and shows files
 
   lab factor SYSTEM --workers W [--output FILE]
       prints the result file of a system file, or writes it to FILE
@@ -17,12 +17,16 @@ lab: factors systems on threads, solves them, checks archived results, lists tas
       works a system again and compares every bit with its archived result: prints 'equal', or the first difference
   lab tasks SYSTEM [--workers W] [--output FILE]
       prints a line for each task of a system: its number from 0 on, its name, done, failed or spoiled, and the sum of its ties
+  lab history SYSTEM [--workers W] [--output FILE]
+      factors a system and prints who did what when: a line for each take and each end of a task, by the numbers of the calls from 1 on
   lab show FILE [--exact]
       prints a system, a result or a refusal's line as a table, with the fewest digits that stand for the same bits, or with exact decimals
   lab --help
       prints this
 
-W, from 1 to 32, is the number of workers, each a thread of its own; solve and tasks have 1 where none is told. No number of workers changes a bit.
+W, from 1 to 32, is the number of workers, each a thread of its own; solve, tasks and history have 1 where none is told. No number of workers
+changes a bit of what factor, solve, verify and tasks print. A history tells the order of work: with one worker it is always the same, with more it
+may be another one each time. A task has a call for each column besides its take; those that neither take nor end a task have no line.
 Ties show where a pivot could have come from another row: every other candidate of its magnitude is one, and a pivot of zero has none.
 RIGHT-SIDE has a number for each row, parted by blanks, commas or line ends; from # to the end of its line is comment. A number is a decimal
 such as 0.25 or -1e-3, or with --bits the 16 hexadecimal digits of its bits. 16 digits without --bits and without a point are refused.
@@ -72,18 +76,41 @@ pub fn outcome(tiles: usize, outcome: Outcome) -> String {
     }
 }
 
+/// How a finished task ended.
+fn mark_name(record: &Record) -> &'static str {
+    match record.mark {
+        2 => "done",
+        3 => "failed",
+        _ => "spoiled",
+    }
+}
+
 /// A line for each task of a finished system: its number, its name, how it ended, and the sum of its ties.
 pub fn task_lines(tiles: usize, records: &[Record]) -> String {
     let mut text = String::new();
     for (number, record) in records.iter().enumerate() {
         let name = task_name(tiles, number).unwrap_or_default();
-        let ended = match record.mark {
-            2 => "done",
-            3 => "failed",
-            _ => "spoiled",
-        };
-        let _ = writeln!(text, "{number} {name} {ended} {}", record.ties());
+        let _ = writeln!(text, "{number} {name} {} {}", mark_name(record), record.ties());
     }
+    text
+}
+
+/// A line for each take and each end of a task of a finished system, in the order of the calls, and one for how many calls there were. A task stays
+/// with the worker that took it.
+pub fn history_lines(tiles: usize, workers: usize, calls: u32, records: &[Record]) -> String {
+    let mut lines = Vec::new();
+    for (number, record) in records.iter().enumerate() {
+        let (worker, name) = (record.worker, task_name(tiles, number).unwrap_or_default());
+        lines.push((record.took(), format!("worker {worker} takes {number} {name}")));
+        lines.push((record.ended(), format!("worker {worker} ends {number} {name}: {}", mark_name(record))));
+    }
+    lines.sort();
+    let mut text = String::new();
+    for (call, line) in lines {
+        let _ = writeln!(text, "{call} {line}");
+    }
+    let plural = if workers == 1 { "" } else { "s" };
+    let _ = writeln!(text, "{calls} calls by {workers} worker{plural}");
     text
 }
 

@@ -21,6 +21,8 @@ pub struct Factored {
     pub matrix: Vec<f64>,
     pub lists: Vec<u8>,
     pub records: Vec<Record>,
+    /// The run's number: how many calls it took.
+    pub number: u32,
     pub outcome: Outcome,
 }
 
@@ -172,7 +174,8 @@ pub fn factor(system: &System, workers: usize) -> Result<Factored, Failure> {
                 let _ =
                     writeln!(io::stderr(), "lab: the outcome is {}", words::outcome(system.tiles, outcome));
             }
-            Ok(Factored { matrix: lent.matrix, lists: lent.lists, records: lent.records, outcome })
+            let Lent { matrix, lists, records, workers } = lent;
+            Ok(Factored { matrix, lists, records, number: workers.number, outcome })
         }
         Ending::Unfinished(task) => Err(Failure::of(Refusal { number: 8, place: task })),
     }

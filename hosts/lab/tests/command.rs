@@ -12,8 +12,8 @@ fn help() {
     let help = lab(&["--help"]);
     assert_eq!((help.status, help.err.as_str()), (0, ""));
     for word in [
-        "factor", "solve", "verify", "tasks", "show", "--workers", "--output", "--bits", "--exact",
-        "Status: 0", "RIGHT-SIDE", "ties",
+        "factor", "solve", "verify", "tasks", "history", "show", "--workers", "--output", "--bits",
+        "--exact", "Status: 0", "RIGHT-SIDE", "ties",
     ] {
         assert!(help.out.contains(word), "{word}");
     }
@@ -45,6 +45,10 @@ fn wrong_uses() {
         (&["tasks"], "tasks takes SYSTEM; files told: 0"),
         (&["tasks", &system, "--workers", "0"], "--workers is 1 to 32, not '0'"),
         (&["tasks", &system, "--exact"], "tasks has no option '--exact'"),
+        (&["history"], "history takes SYSTEM; files told: 0"),
+        (&["history", &system, &result], "history takes SYSTEM; files told: 2"),
+        (&["history", &system, "--workers", "33"], "--workers is 1 to 32, not '33'"),
+        (&["history", &system, "--bits"], "history has no option '--bits'"),
         (&["show"], "show takes FILE; files told: 0"),
         (&["show", &system, "--hex"], "show has no option '--hex'"),
         (&["--show", &system], "there is no command '--show'"),
@@ -72,13 +76,14 @@ fn unreadable_files() {
 }
 
 /// Each command, with words to which it has an answer.
-fn answering() -> [Vec<String>; 6] {
+fn answering() -> [Vec<String>; 7] {
     let (system, right, result) = ("small.system", "small.right", "small.result");
     [
         vec!["factor".into(), example("reel.system"), "--workers".into(), "2".into()],
         vec!["solve".into(), example(system), example(right)],
         vec!["verify".into(), example(system), example(result), "--workers".into(), "1".into()],
         vec!["tasks".into(), example(system)],
+        vec!["history".into(), example(system), "--workers".into(), "2".into()],
         vec!["show".into(), example(system)],
         vec!["--help".into()],
     ]
@@ -157,6 +162,7 @@ fn floating_point_mode() {
             &["solve", &example("small.system"), &example("small.right")],
             &["verify", &example("small.system"), &example("small.result"), "--workers", "1"],
             &["tasks", &example("small.system")],
+            &["history", &example("small.system")],
             &["show", &example("small.system")],
         ] {
             let ended = ended(command(words).env("LD_PRELOAD", &library).output().unwrap());

@@ -1,7 +1,8 @@
 //! The proved library for Rust hosts: what is lent to the calls, and each call as a safe function.
 //!
 //! A system of n = N t equations is factored by tasks, which W workers take and do column by column, in any order: the bits that are left are
-//! always the same. hosts/solumivaf.h says what each buffer holds and what each refusal means.
+//! always the same. A task's record tells who did it and when ([`Record::took`], [`Record::ended`]), which two runs may tell differently.
+//! hosts/solumivaf.h says what each buffer holds and what each refusal means.
 //!
 //! ```
 //! use solumivaf::{Ending, Lent, Outcome, Sizes};
@@ -45,7 +46,7 @@ pub use lengths::{lists_length, matrix_length, records_length, result_length, sy
 pub use refusal::{Error, Refusal};
 
 /// The version of the interface, as hosts/solumivaf.h has it.
-pub const VERSION: u32 = 4;
+pub const VERSION: u32 = 5;
 
 /// The number of worker slots, and the most workers.
 pub const SLOTS: usize = 32;
@@ -61,7 +62,9 @@ pub struct Sizes {
     pub workers: usize,
 }
 
-/// A task: its kind, its k, i and j (0 where the kind has none), its mark, and the sum of its [`ties`](Record::ties).
+/// A task: its kind, its k, i and j (0 where the kind has none), its mark, the sum of its [`ties`](Record::ties), the worker that ended it, and the
+/// numbers of the calls that [`took`](Record::took) and [`ended`](Record::ended) it. Worker and calls tell the order of work: all else that
+/// two runs of a system leave is the same.
 #[repr(C)]
 #[derive(Clone, Copy, Default, PartialEq, Eq)]
 pub struct Record {
@@ -75,8 +78,14 @@ pub struct Record {
     pub j: u8,
     /// 0 while it waits, 1 once taken, 2 when done, 3 when failed, 4 when spoiled.
     pub mark: u8,
+    /// The worker that ended the task, 0 before that.
+    pub worker: u8,
     /// The sum as it crosses, the low byte first.
     ties: [u8; 2],
+    /// The number of the take, in the same order.
+    took: [u8; 4],
+    /// The number of the last column, in the same order.
+    ended: [u8; 4],
 }
 
 impl Record {
@@ -102,9 +111,45 @@ impl Record {
     pub fn set_ties(&mut self, sum: u16) {
         self.ties = sum.to_le_bytes();
     }
+
+    /// The number of the take that gave it to a worker, 0 while it waits. The takes and columns that are accepted since the opening have the numbers
+    /// from 1 on, those inside a run too.
+    ///
+    /// ```
+    /// use solumivaf::{Lent, Sizes};
+    ///
+    /// // Task 0 is taken by call 1, and ended by worker 1 with call 2.
+    /// let sizes = Sizes { tiles: 1, side: 1, workers: 2 };
+    /// let mut lent = Lent::of(sizes, vec![2.0]);
+    /// lent.open(sizes)?;
+    /// lent.take(sizes, 1, 0)?;
+    /// lent.column(sizes, 1)?;
+    /// let record = lent.records[0];
+    /// assert_eq!((record.took(), record.ended(), record.worker), (1, 2, 1));
+    /// assert_eq!(lent.workers.number, 2);
+    /// # Ok::<(), solumivaf::Error>(())
+    /// ```
+    pub fn took(&self) -> u32 {
+        u32::from_le_bytes(self.took)
+    }
+
+    /// Sets that number, in a record that a host has stored and brings back.
+    pub fn set_took(&mut self, call: u32) {
+        self.took = call.to_le_bytes();
+    }
+
+    /// The number of the column that ended it, done, failed or spoiled, 0 before that. A task that had to wait for this one was taken later.
+    pub fn ended(&self) -> u32 {
+        u32::from_le_bytes(self.ended)
+    }
+
+    /// Sets that number, in a record that a host has stored and brings back.
+    pub fn set_ended(&mut self, call: u32) {
+        self.ended = call.to_le_bytes();
+    }
 }
 
-/// The tie sum is shown as a number.
+/// Tie sum and calls are shown as numbers.
 impl fmt::Debug for Record {
     fn fmt(&self, out: &mut fmt::Formatter) -> fmt::Result {
         out.debug_struct("Record")
@@ -113,17 +158,22 @@ impl fmt::Debug for Record {
             .field("i", &self.i)
             .field("j", &self.j)
             .field("mark", &self.mark)
+            .field("worker", &self.worker)
             .field("ties", &self.ties())
+            .field("took", &self.took())
+            .field("ended", &self.ended())
             .finish()
     }
 }
 
 /// The worker slots: slot v is idle, or holds a task and its next column. The first `count` are the workers that are lent, and a call told another W
-/// is refused 2. The other slots are not looked at and stay as they are.
+/// is refused 2. The other slots are not looked at and stay as they are. With the workers goes the run's number.
 #[derive(Clone, Debug, Default, PartialEq, Eq)]
 pub struct Workers {
     /// How many workers are lent.
     pub count: usize,
+    /// The run's number: how many takes and columns were accepted since the opening, those inside a run among them.
+    pub number: u32,
     /// 0 for an idle worker, any other byte for a busy one. A worker that gets busy gets 1; one that stays busy keeps its byte.
     pub busy: [u8; SLOTS],
     /// The task that a busy worker holds.
@@ -241,12 +291,23 @@ fn version() -> Result<(), Error> {
 
 // ---- the calls on what is lent
 
+/// The run's number as it crosses: by its address where the records are written, else by value.
+macro_rules! number {
+    ($lent:expr, as_mut_ptr) => {
+        &mut $lent.workers.number
+    };
+    ($lent:expr, as_ptr) => {
+        $lent.workers.number
+    };
+}
+
 /// A call with the sizes and everything lent. A buffer is lent by `as_ptr` to be read, or by `as_mut_ptr` to be written; the worker slots
-/// are lent like the records.
+/// and the run's number are lent like the records.
 macro_rules! call {
     ($function:ident, $sizes:expr, $lent:expr, $matrix:ident, $lists:ident, $records:ident $(, $more:expr)*) => {
-        // SAFETY: the header's conditions hold. Each pointer is of a Vec, an array or a slice with the length that goes with it, which the
-        // borrow of `$lent` and of what else is passed keeps alive, and which no one else writes during the call. Buffers do not overlap.
+        // SAFETY: the header's conditions hold. Each pointer is of a Vec, an array or a slice with the length that goes with it, or of the run's
+        // number, which the borrow of `$lent` and of what else is passed keeps alive, and which no one else writes during the call. Buffers do
+        // not overlap.
         // `Record` is laid out as in C, any byte may be in `busy`, and wrong sizes and lengths are refused.
         unsafe {
             raw::$function(
@@ -263,6 +324,7 @@ macro_rules! call {
                 $lent.workers.task.$records(),
                 $lent.workers.column.$records(),
                 $lent.workers.count,
+                number!($lent, $records),
                 $($more),*
             )
         }
@@ -282,7 +344,8 @@ impl Lent {
         }
     }
 
-    /// Starts the work on the matrix: lists of 0, every task waiting and without ties, every worker idle. Tests the version of the library too.
+    /// Starts the work on the matrix: lists of 0, every task waiting and without ties, worker and calls, every worker idle, the run's number 0. Tests
+    /// the version of the library too.
     pub fn open(&mut self, sizes: Sizes) -> Result<(), Error> {
         version()?;
         arithmetic()?;
@@ -290,13 +353,14 @@ impl Lent {
         Ok(accepted(told.number, told.place)?)
     }
 
-    /// A worker takes a task that is ready.
+    /// A worker takes a task that is ready. The run's number grows by 1, and the task's record gets it.
     pub fn take(&mut self, sizes: Sizes, worker: usize, task: usize) -> Result<(), Error> {
         let told = call!(solumivaf_take, sizes, self, as_ptr, as_ptr, as_mut_ptr, worker, task);
         Ok(accepted(told.number, told.place)?)
     }
 
-    /// A busy worker does the next column of its task. The task's mark tells how it goes on; the ties of a completed column join its sum.
+    /// A busy worker does the next column of its task. The task's mark tells how it goes on; the ties of a completed column join its sum. The run's
+    /// number grows by 1, and where the task ends, its record gets it and the worker.
     pub fn column(&mut self, sizes: Sizes, worker: usize) -> Result<(), Error> {
         arithmetic()?;
         let told = call!(solumivaf_column, sizes, self, as_mut_ptr, as_mut_ptr, as_mut_ptr, worker);

@@ -19,6 +19,7 @@ extern "C" {
         task: *mut u16,
         column: *mut u8,
         count: usize,
+        number: *mut u32,
     ) -> Told;
 
     pub fn solumivaf_take(
@@ -35,6 +36,7 @@ extern "C" {
         task: *mut u16,
         column: *mut u8,
         count: usize,
+        number: *mut u32,
         w: usize,
         p: usize,
     ) -> Told;
@@ -53,6 +55,7 @@ extern "C" {
         task: *mut u16,
         column: *mut u8,
         count: usize,
+        number: *mut u32,
         w: usize,
     ) -> Told;
 
@@ -70,6 +73,7 @@ extern "C" {
         task: *mut u16,
         column: *mut u8,
         count: usize,
+        number: *mut u32,
         budget: u64,
     ) -> Told;
 
@@ -87,6 +91,7 @@ extern "C" {
         task: *const u16,
         column: *const u8,
         count: usize,
+        number: u32,
     ) -> Told;
 
     pub fn solumivaf_solve(
@@ -103,6 +108,7 @@ extern "C" {
         task: *const u16,
         column: *const u8,
         count: usize,
+        number: u32,
         right: *const f64,
         right_length: usize,
         answers: *mut f64,

@@ -30,7 +30,7 @@ fn with_bytes(lent: &Lent, byte: u8) -> Lent {
 fn same_left(before: &Lent, after: &Lent, twin: &Lent) {
     assert_eq!(bits(&after.matrix), bits(&twin.matrix));
     assert_eq!((&after.lists, &after.records), (&twin.lists, &twin.records));
-    assert_eq!(after.workers.count, twin.workers.count);
+    assert_eq!((after.workers.count, after.workers.number), (twin.workers.count, twin.workers.number));
     for slot in 0..SLOTS {
         let (old, new) = (before.workers.busy[slot], after.workers.busy[slot]);
         let held = (after.workers.task[slot], after.workers.column[slot]);

@@ -15,7 +15,7 @@ fn same_answers_and_states() {
     let mut calls = 0;
     let mut seed = 1;
     while calls < 20_000 {
-        calls += compare::calls_of(seed, 4600);
+        calls += compare::calls_of(seed, 5900);
         seed += 1;
     }
 }
@@ -49,6 +49,7 @@ fn specimens() {
     assert_eq!(lent.take(sizes, 0, 1), Err(refused(7, 1)));
     assert_eq!(lent.run(sizes, 0), Ok(Run::Spent(0)));
     assert_eq!(lent.run(sizes, u64::MAX), Ok(Run::Finished(10)));
+    assert_eq!(lent.workers.number, 10);
     assert_eq!(lent.matrix, [4.0, 4.0, 0.25, 1.0]);
     assert_eq!(lent.lists, [0, 0, 1, 0]);
     assert_eq!(lent.outcome(sizes), Ok(Ending::Ended(Outcome::Good)));
@@ -85,6 +86,7 @@ fn couple_before_apply() {
         assert_eq!(marks, last.marks);
         let sums: Vec<u16> = lent.records.iter().map(Record::ties).collect();
         assert_eq!(sums, last.tie_sums);
+        assert!(lent.records[2].ended() < lent.records[1].took());
         assert_eq!(lent.outcome(sizes), Ok(Ending::Ended(compare::outcome_of(last.outcome))));
     }
 }

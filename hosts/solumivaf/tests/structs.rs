@@ -1,8 +1,9 @@
 //! The calls over task records as structs beside the reference program, through what crates/bench_structs exports: every call of a script, refused
 //! ones too. Those functions make the workers themselves: all idle, or for a column worker 0 with its task. So each call is made on a copy of
-//! what the script has lent, with such workers, and once more with no task marked as taken. Compared are the refusal's number, a
-//! run's count, an outcome's kind, and every bit of what is left.
+//! what the script has lent, with such workers, and once more with no task marked as taken and with call numbers that fit. Compared are the refusal's
+//! number, a run's count, an outcome's kind, and every bit of what is left.
 
+use reference::checks::{accept_sizes, largest_number};
 use reference::hex::Fields;
 use reference::lent::{Lent, Refusal, Worker, IDLE, SLOTS, TAKEN, WAITING};
 use reference::numbers::bits;
@@ -27,8 +28,11 @@ struct TaskRecord {
     k: u8,
     i: u8,
     j: u8,
-    ties: u16,
     mark: u8,
+    worker: u8,
+    ties: u16,
+    took: u32,
+    ended: u32,
 }
 
 // A slice is its start and its length. To be safe a call needs starts and lengths that belong together, of buffers that do not overlap and that
@@ -36,12 +40,12 @@ struct TaskRecord {
 #[rustfmt::skip]
 #[link(name = "bench_structs", kind = "static")]
 extern "C" {
-    fn bench_open(z: Sizes, matrix: *const f64, matrix_length: usize, lists: *mut u8, lists_length: usize, records: *mut TaskRecord, records_length: usize) -> u8;
-    fn bench_take(z: Sizes, matrix: *const f64, matrix_length: usize, lists: *const u8, lists_length: usize, records: *mut TaskRecord, records_length: usize, w: usize, p: usize) -> u8;
-    fn bench_column(z: Sizes, matrix: *mut f64, matrix_length: usize, lists: *mut u8, lists_length: usize, records: *mut TaskRecord, records_length: usize, w: usize, p: u16, c: u8) -> u8;
-    fn bench_run(z: Sizes, matrix: *mut f64, matrix_length: usize, lists: *mut u8, lists_length: usize, records: *mut TaskRecord, records_length: usize, budget: u64) -> u64;
-    fn bench_outcome(z: Sizes, matrix: *const f64, matrix_length: usize, lists: *const u8, lists_length: usize, records: *const TaskRecord, records_length: usize) -> u8;
-    fn bench_solve(z: Sizes, matrix: *const f64, matrix_length: usize, lists: *const u8, lists_length: usize, records: *const TaskRecord, records_length: usize, right: *const f64, right_length: usize, answers: *mut f64, answers_length: usize) -> u8;
+    fn bench_open(z: Sizes, matrix: *const f64, matrix_length: usize, lists: *mut u8, lists_length: usize, records: *mut TaskRecord, records_length: usize, number: u32) -> u8;
+    fn bench_take(z: Sizes, matrix: *const f64, matrix_length: usize, lists: *const u8, lists_length: usize, records: *mut TaskRecord, records_length: usize, number: u32, w: usize, p: usize) -> u8;
+    fn bench_column(z: Sizes, matrix: *mut f64, matrix_length: usize, lists: *mut u8, lists_length: usize, records: *mut TaskRecord, records_length: usize, number: u32, w: usize, p: u16, c: u8) -> u8;
+    fn bench_run(z: Sizes, matrix: *mut f64, matrix_length: usize, lists: *mut u8, lists_length: usize, records: *mut TaskRecord, records_length: usize, number: u32, budget: u64) -> u64;
+    fn bench_outcome(z: Sizes, matrix: *const f64, matrix_length: usize, lists: *const u8, lists_length: usize, records: *const TaskRecord, records_length: usize, number: u32) -> u8;
+    fn bench_solve(z: Sizes, matrix: *const f64, matrix_length: usize, lists: *const u8, lists_length: usize, records: *const TaskRecord, records_length: usize, number: u32, right: *const f64, right_length: usize, answers: *mut f64, answers_length: usize) -> u8;
 }
 
 /// A call's own numbers.
@@ -74,21 +78,37 @@ fn told(line: &str) -> Told {
 }
 
 /// What is lent with workers that the library's functions make, as many as they are told; without taken tasks but for the held one where that is
-/// asked for.
-fn with_workers(lent: &Lent, workers: u64, held: Option<Worker>, no_other: bool) -> Lent {
+/// asked for, and then with calls that the other tasks allow.
+fn with_workers(lent: &Lent, sizes: reference::lent::Sizes, held: Option<Worker>, no_other: bool) -> Lent {
     let mut copy = lent.clone();
-    copy.count = workers;
+    copy.count = sizes.workers;
     copy.workers = [IDLE; SLOTS];
     if let Some(held) = held {
         copy.workers[0] = Worker { busy: true, ..held };
     }
+    let mut dropped = false;
     for (task, record) in copy.records.iter_mut().enumerate() {
         let own = held.is_some_and(|held| held.task as usize == task);
         if no_other && !own && record.mark == TAKEN {
             record.mark = WAITING;
+            dropped = true;
         }
     }
+    if dropped {
+        lower_calls(sizes, &mut copy);
+    }
     copy
+}
+
+/// The run's number and the calls in the records at most what the marks allow.
+fn lower_calls(sizes: reference::lent::Sizes, lent: &mut Lent) {
+    let Ok((shape, workers)) = accept_sizes(sizes) else { return };
+    let most = largest_number(shape, workers, lent) as u32;
+    lent.run_number = lent.run_number.min(most);
+    for record in &mut lent.records {
+        record.took = record.took.min(most);
+        record.ended = record.ended.min(most);
+    }
 }
 
 fn records_of(lent: &Lent) -> Vec<TaskRecord> {
@@ -98,7 +118,10 @@ fn records_of(lent: &Lent) -> Vec<TaskRecord> {
         i: r.i,
         j: r.j,
         mark: r.mark,
+        worker: r.worker,
         ties: r.tie_sum,
+        took: r.took,
+        ended: r.ended,
     };
     lent.records.iter().map(of).collect()
 }
@@ -144,17 +167,17 @@ fn ours(told: &Told, held: Worker, lent: &mut Lent, records: &mut [TaskRecord], 
     let (ml, ll, rl, bl, al) =
         (lent.matrix.len(), lent.lists.len(), records.len(), told.right.len(), answers.len());
     let (m, l, r) = (lent.matrix.as_mut_ptr(), lent.lists.as_mut_ptr(), records.as_mut_ptr());
-    let (w, p) = (told.first as usize, told.second as usize);
+    let (n, w, p) = (lent.run_number, told.first as usize, told.second as usize);
     // SAFETY: as above the functions' declarations.
     unsafe {
         match told.command {
-            OPENING => bench_open(z, m, ml, l, ll, r, rl) as u64,
-            TAKE => bench_take(z, m, ml, l, ll, r, rl, w, p) as u64,
-            COLUMN => bench_column(z, m, ml, l, ll, r, rl, w, held.task, held.column) as u64,
-            RUN => bench_run(z, m, ml, l, ll, r, rl, told.first),
-            OUTCOME => bench_outcome(z, m, ml, l, ll, r, rl) as u64,
+            OPENING => bench_open(z, m, ml, l, ll, r, rl, n) as u64,
+            TAKE => bench_take(z, m, ml, l, ll, r, rl, n, w, p) as u64,
+            COLUMN => bench_column(z, m, ml, l, ll, r, rl, n, w, held.task, held.column) as u64,
+            RUN => bench_run(z, m, ml, l, ll, r, rl, n, told.first),
+            OUTCOME => bench_outcome(z, m, ml, l, ll, r, rl, n) as u64,
             _ => {
-                bench_solve(z, m, ml, l, ll, r, rl, told.right.as_ptr(), bl, answers.as_mut_ptr(), al) as u64
+                bench_solve(z, m, ml, l, ll, r, rl, n, told.right.as_ptr(), bl, answers.as_mut_ptr(), al) as u64
             }
         }
     }
@@ -179,7 +202,7 @@ fn same_calls_over_structs() {
     let mut met = std::collections::BTreeMap::new();
     for seed in 1..=3 {
         let mut player = Player::new();
-        for line in script(Options { seed, calls: 4300, max_bytes: 2_048_000 }).lines() {
+        for line in script(Options { seed, calls: 5600, max_bytes: 2_900_000 }).lines() {
             if !line.starts_with(&format!("{LEND:X}")) {
                 let mut told = told(line);
                 let held = player.lent.workers.get(told.first as usize).copied().unwrap_or(IDLE);
@@ -188,8 +211,7 @@ fn same_calls_over_structs() {
                     told.first = if held.busy { 0 } else { 1 };
                 }
                 for no_other in [false, true] {
-                    let lent =
-                        with_workers(&player.lent, told.sizes.workers, column.then_some(held), no_other);
+                    let lent = with_workers(&player.lent, told.sizes, column.then_some(held), no_other);
                     let answer = same(&told, held, &lent);
                     *met.entry((told.command, if told.command == RUN { answer.min(1) } else { answer }))
                         .or_insert(0) += 1;

@@ -1,10 +1,15 @@
 //! Eight threads, one for each worker, share what is lent behind one lock. In whatever order the system schedules them, what is left
-//! is what the old loops of the reference leave, bit by bit. Its own tests show that its published loops leave the same.
+//! is what the old loops of the reference leave, bit by bit. Its own tests show that its published loops leave the same. And the records tell the
+//! order in which the threads worked.
+
+#[allow(dead_code)]
+mod order;
 
 use std::sync::Mutex;
 use std::thread;
 use std::time::Duration;
 
+use order::told_in_order;
 use reference::families::numbers;
 use reference::loops::old_loops;
 use reference::numbers::bits;
@@ -19,12 +24,20 @@ const IDLE: Duration = Duration::from_micros(200);
 fn work(sizes: Sizes, shared: &Mutex<Lent>, worker: usize) {
     loop {
         let mut lent = shared.lock().unwrap();
+        let (number, count) = (lent.workers.number, lent.records.len());
         if lent.workers.is_busy(worker) {
+            let task = lent.workers.task[worker] as usize;
             lent.column(sizes, worker).unwrap();
+            let (record, call) = (lent.records[task], number + 1);
+            let due = if record.mark == 1 { (0, 0, call) } else { (worker as u8, call, call) };
+            assert_eq!((record.worker, record.ended(), lent.workers.number), due, "{sizes:?}, task {task}");
         } else {
-            let count = lent.records.len();
-            let taken = (0..count).any(|step| lent.take(sizes, worker, (worker * 7 + step) % count).is_ok());
-            if !taken && lent.records.iter().all(|record| record.mark >= 2) {
+            let tried = |step| (worker * 7 + step) % count;
+            let taken = (0..count).map(tried).find(|&task| lent.take(sizes, worker, task).is_ok());
+            if let Some(task) = taken {
+                let (record, call) = (lent.records[task], number + 1);
+                assert_eq!((record.took(), record.ended(), lent.workers.number), (call, 0, call));
+            } else if lent.records.iter().all(|record| record.mark >= 2) {
                 return;
             }
         }
@@ -64,6 +77,7 @@ fn any_order_ends_like_the_loops() {
             assert_eq!(marks, last.marks, "marks of {shape:?}, family {family}");
             let sums: Vec<u16> = lent.records.iter().map(Record::ties).collect();
             assert_eq!(sums, last.tie_sums, "tie sums of {shape:?}, family {family}");
+            told_in_order(sizes, &lent);
         }
     }
 }

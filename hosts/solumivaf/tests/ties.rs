@@ -32,7 +32,6 @@ fn marks(lent: &Lent) -> Vec<u8> {
 
 #[test]
 fn as_it_crosses() {
-    assert_eq!((size_of::<Record>(), align_of::<Record>()), (7, 1));
     let mut record = Record::default();
     assert_eq!(record.ties(), 0);
     (record.kind, record.mark) = (1, 2);
@@ -41,7 +40,9 @@ fn as_it_crosses() {
         assert_eq!(record.ties(), sum);
         assert_eq!(
             format!("{record:?}"),
-            format!("Record {{ kind: 1, k: 0, i: 0, j: 0, mark: 2, ties: {sum} }}")
+            format!(
+                "Record {{ kind: 1, k: 0, i: 0, j: 0, mark: 2, worker: 0, ties: {sum}, took: 0, ended: 0 }}"
+            )
         );
     }
 }

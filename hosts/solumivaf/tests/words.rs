@@ -67,7 +67,7 @@ fn other_errors() {
     let errors: [Box<dyn std::error::Error>; 3] =
         [Box::new(Error::Arithmetic), Box::new(Error::Version(2)), Box::new(Refusal { number: 6, place: 0 })];
     assert!(errors[0].to_string().starts_with("the floating-point mode of this thread is not"));
-    assert_eq!(errors[1].to_string(), "the library linked has version 2 of the interface, not 4");
+    assert_eq!(errors[1].to_string(), "the library linked has version 2 of the interface, not 5");
     assert_eq!(errors[2].to_string(), "refusal 6: no such task");
 }
 

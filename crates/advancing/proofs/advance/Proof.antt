@@ -26,14 +26,17 @@ work-task-requires c κs = search needs
 mark-after-requires : tie.Need-mark-after-requires
 mark-after-requires c κs = tt
 
+cast-add-column : tie.Need-cast-add-column
+cast-add-column c = omega (arith, c .before .before .before .before .before .before .before .before .before .before .before .before .before .before .pre .1)
+
 ties-after-requires : tie.Need-ties-after-requires
 ties-after-requires c κs = tt
 
 add-column-requires : tie.Need-add-column-requires
 add-column-requires c κs =
     let a = c .before .before .before .before .before .before .before .before .before .before .before .before .before .before .before .args in
-    let d = c .before .before .before .before .before .before .before .before .before .before .before .before .before .before .before .pre in
-    let e = few-more (a .z) (a .h) (now (a .matrix)) (now (a .lists)) (now (a .records)) d (c .before .before .before .before .before .before .before .work-task .result) _ (c .before .before .before .before .before .before .before .work-task .ensures []) in
+    let d = c .before .before .before .before .before .before .before .before .before .before .before .before .before .before .before .pre .0 in
+    let e = few-more (a .z) (a .h) (now (a .matrix)) (now (a .lists)) (now (a .records)) d (c .before .before .before .before .before .before .before .work-task .result) _ (c .before .before .before .before .before .before .before .work-task .ensures [] 0) in
     (omega (arith, d .recorded .long, d .recorded .below), omega (arith, e, c .ties-after .ensures))
 
 moved-on-requires : tie.Need-moved-on-requires
@@ -55,7 +58,7 @@ returns c =
     let n = c .before .before .before .ties-after .ensures in record {
       end = c .before .before .before .before .before .before .before .before .before .before .work-task .result;
       ends = c .before .before .before .before .before .before .before .before .before .before .work-task .ensures;
-      records = c .before .before .add-column .ensures .0 ∙ (λ i. changed (a .h .task) (withColumn (m i) (n i)) (recordsFrom (now (a .records))));
+      records = c .before .before .add-column .ensures .0 ∙ (λ i. changed (a .h .task) (withColumn (a .w) (a .number) (m i) (n i)) (recordsFrom (now (a .records))));
       worker = c .moved-on .ensures ∙ ap (λ (k : ℕ). cond (finished k) idle (holding (a .h .task) (suc (a .h .column)))) m;
     }
 
@@ -67,6 +70,7 @@ advance-spec =
     cast-work-task
     work-task-requires
     mark-after-requires
+    cast-add-column
     ties-after-requires
     add-column-requires
     moved-on-requires

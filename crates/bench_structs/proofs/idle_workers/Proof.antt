@@ -11,7 +11,7 @@ idle-requires c κs = search needs
 
 returns : tie.Need-returns
 unfolding idles
-returns c = λ i. record { slots = ap (replicate 32) (c .idle .ensures) i; count = c .before .args .z .workers }
+returns c = λ i. record { slots = ap (replicate 32) (c .idle .ensures) i; count = c .before .args .z .workers; number = c .before .args .number }
 
 pub idle-workers-spec : {M : Type 1} → statement M
 idle-workers-spec = tie.close (tie.spec idle-requires returns)

@@ -18,6 +18,7 @@ unfolding oneHolding
 returns c = λ i. record {
   slots = ap (λ h. set (replicate 32 h) 0 (holding (c .before .args .p) (c .before .args .c))) (c .idle .ensures) i;
   count = c .before .args .z .workers;
+  number = c .before .args .number;
 }
 
 pub one-holding-spec : {M : Type 1} → statement M

@@ -18,7 +18,7 @@ task-count-requires : tie.Need-task-count-requires
 task-count-requires c κs = search needs
 
 returns : tie.Need-returns
-returns c = λ slots. lengths-are _ _ _ _ slots _ (c .before .task-count .ensures)
+returns c = λ slots n. lengths-are _ _ _ _ slots _ n (c .before .task-count .ensures)
 
 pub bad-lengths-spec : {M : Type 1} → statement M
 bad-lengths-spec =

@@ -1,29 +1,41 @@
--- The triple kept beside p is that of task p; what is left to search gives the whole search's answer. Assumes nothing.
-use Prim.Native.Nat.{ℕ, _+_, _-_, _≤_, _<_}
-use mathlib.Core.Bool.{true, false}
+-- The triple kept beside p is that of task p; what is left to search gives the whole search's answer, and the calls are the sum of the limits so far.
+-- Assumes nothing.
+use Prim.Native.Nat.{ℕ, _+_, _-_, _*_, _≤_, _<_}
+use mathlib.Core.Bool.{Bool, true, false, not, _||_}
 use mathlib.Core.Logic.{⊎-elim}
-use mathlib.Core.Path.{_≡_, sym, ap, _∙_}
+use mathlib.Core.Path.{_≡_, refl, sym, ap, _∙_, subst}
+use mathlib.Core.List.{map}
+use native.Mathlib.Numerals.{add-one}
 use native.Mathlib.Omega.{arith}
 use denote.Ref.{now}
+use lib.Dec.{ltb}
 use lib.ListN.{length}
 use borrow.Author.Needs.{needs}
 use Rattle.model.specs.declared.TaskRecord.{TaskRecord}
 use Rattle.model.specs.Task.{tasks}
-use Rattle.model.specs.Lists.{run, below, some}
+use Rattle.model.specs.Plan.{planOf}
+use Rattle.model.specs.Links.{mark}
+use Rattle.model.specs.Refusal.{callLimit}
+use Rattle.model.specs.Lists.{run, below, some, total}
 use Rattle.links.specs.Closed.{key, In, number}
 use Rattle.laws.proofs.Searches.{some-begins, some-stops, some-goes-on, some-ends}
-use Rattle.records.proofs.Laws.{get-mark, get-ties}
-use Rattle.damage.proofs.Laws.{record-bad, bad, bad-record, bad-by, quiet, three, number-first}
+use Rattle.laws.proofs.Totals.{total-zero, total-last}
+use Rattle.task_counts.proofs.Laws.{few-tasks}
+use Rattle.records.specs.Records.{marksFrom}
+use Rattle.records.proofs.Laws.{get-mark}
+use Rattle.holds.specs.Allowed.{Allowed}
+use Rattle.damage.proofs.Laws.{record-bad, state, bad, outer, inner, bad-outer, bad-inner, not-bad, calls-bad, hold-by, ties-by, calls-by, found-bad, found-none, number-first}
 use Rattle.damage.proofs.bad_records.Statement.{statement}
 use Rattle.damage.proofs.bad_records.Tie as tie
 
 abbrev Inv-loop : tie.InvT-loop
-Inv-loop z records workers count a₀ p₀ a p =
+Inv-loop z records workers n count a₀ p₀ calls₀ a p calls =
     (p ≤ count) × (number (z .tiles) (key (a .k) (a .i) (a .j)) ≡ p) × (p < count → In (z .tiles) (key (a .k) (a .i) (a .j)))
-    × (some (bad z records workers) (run p (count - p)) ≡ some (bad z records workers) (below (length (tasks (z .tiles)))))
+    × (some (bad z records workers n) (run p (count - p)) ≡ some (bad z records workers n) (below (length (tasks (z .tiles)))))
+    × (calls ≡ total (map (callLimit (planOf z) (state z records workers n)) (below p))) × (calls ≤ p * 8161)
 
 abbrev μ-loop : tie.MeasureT-loop
-μ-loop z records workers count a₀ p₀ a p = count - p
+μ-loop z records workers n count a₀ p₀ calls₀ a p calls = count - p
 
 task-count-requires : tie.Need-task-count-requires Inv-loop μ-loop
 task-count-requires c κs = c .pre .0 .few-tiles
@@ -34,7 +46,9 @@ loop-holds c =
       omega arith,
       number-first _,
       λ h. record { row = omega arith; column = omega arith; row-fits = c .before .pre .0 .some-tiles; column-fits = c .before .pre .0 .some-tiles },
-      some-begins _ _ ∙ ap (λ (n : ℕ). some (bad (a .z) (now (a .records)) (a .workers)) (below n)) (c .task-count .ensures),
+      some-begins _ _ ∙ ap (λ (n : ℕ). some (bad (a .z) (now (a .records)) (a .workers) (a .number)) (below n)) (c .task-count .ensures),
+      sym (total-zero _),
+      omega arith,
     )
 
 record-of-requires : tie.Need-record-of-requires Inv-loop μ-loop
@@ -46,64 +60,108 @@ record-at-requires c κs = omega (arith, c .before .before .before .task-count .
 differs-requires : tie.Need-differs-requires Inv-loop μ-loop
 differs-requires c κs = search needs
 
+bad-calls-requires : tie.Need-bad-calls-requires Inv-loop μ-loop
+bad-calls-requires c κs = search needs
+
+-- ---- the first two tests, and the limits
+
+module _ (c : tie.After-bad-calls Inv-loop μ-loop) where
+  long : c .before .before .before .before .before .loop .p < length (now (c .before .before .before .before .before .before .before .args .records))
+  long = omega (arith, c .before .before .before .before .loop-test .taken, c .before .before .before .before .before .before .task-count .ensures, c .before .before .before .before .before .before .before .pre .1)
+
+  outer-tested : (c .before .differs .result || c .bad-calls .result)
+      ≡ outer (c .before .before .before .before .before .before .before .args .z) (now (c .before .before .before .before .before .before .before .args .records)) (c .before .before .before .before .before .before .before .args .workers) (c .before .before .before .before .before .before .before .args .number) (c .before .before .before .before .before .loop .p)
+  outer-tested =
+      let a = c .before .before .before .before .before .before .before .args in
+      let x = record-bad (a .z) (now (a .records)) _ _ _ _ long (c .before .before .before .before .before .loop .inv .2 (c .before .before .before .before .loop-test .taken)) (c .before .before .before .before .before .loop .inv .1)
+      _ _ (c .before .before .record-at .ensures) (c .before .before .before .record-of .ensures) _ (c .before .differs .ensures) (a .workers) (a .number) in
+      let y = calls-bad (a .z) (now (a .records)) (a .workers) (a .number) _ long _ (c .before .before .record-at .ensures) _ (c .bad-calls .ensures) in
+      λ i. x i || y i
+
+allowed : (c : tie.Joined2 Inv-loop μ-loop) → Allowed (c .before .before .before .before .before .before .before .before .before .before .before .args .z) (now (c .before .before .before .before .before .before .before .before .before .before .before .args .records)) (c .before .before .before .before .before .before .before .before .before .before .before .args .workers) (c .before .before .before .before .before .before .before .before .before .loop .p) (c .if2 .most)
+allowed c =
+    let a = c .before .before .before .before .before .before .before .before .before .before .before .args in
+    let p = c .before .before .before .before .before .before .before .before .before .loop .p in
+    let m : c .before .before .before .before .before .before .record-at .result .mark ≡ mark (marksFrom (now (a .records))) p = ap (λ (x : TaskRecord). x .mark) (c .before .before .before .before .before .before .record-at .ensures) ∙ sym (get-mark (now (a .records)) p) in
+    ⊎-elim
+    (λ u. subst (Allowed (a .z) (now (a .records)) (a .workers) p) (sym (u .2)) (u .1 .ensures (now (a .records)) (sym (u .0 .taken) ∙ m)))
+    (λ u. subst (Allowed (a .z) (now (a .records)) (a .workers) p) (sym (u .1)) (c .before .before .free-limits .ensures (now (a .records)) (a .workers) p m (u .0 .left)))
+    (c .if2 .came)
+
 returns : tie.Need-returns Inv-loop μ-loop
 returns c =
-    let a = c .before .before .before .before .before .before .before .args in
-    three (a .z) (now (a .records)) (a .workers) (below (length (tasks (a .z .tiles)))) true
-    (some-stops _ _ _ _ (c .before .before .before .before .loop-test .taken) (c .before .before .before .before .before .loop .inv .3)
-    (bad-record (a .z) (now (a .records)) (a .workers) _ (sym (record-bad (c .before .before .before .before .before .before .before .args .z) _ _ _ _ _ (omega (arith, c .before .before .before .before .before .before .task-count .ensures, c .before .before .before .before .before .before .before .pre .1)) (c .before .before .before .before .before .loop .inv .2 (c .before .before .before .before .loop-test .taken)) (c .before .before .before .before .before .loop .inv .1) _ _ (c .before .before .record-at .ensures) (c .before .before .before .record-of .ensures) _ (c .before .differs .ensures) (c .before .before .before .before .before .before .before .args .workers)) ∙ c .if1 .taken)))
+    let a = c .before .before .before .before .before .before .before .before .args in
+    found-bad (a .z) (now (a .records)) (a .workers) (a .number)
+    (some-stops _ _ _ _ (c .before .before .before .before .before .loop-test .taken) (c .before .before .before .before .before .before .loop .inv .3)
+    (bad-outer (a .z) (now (a .records)) (a .workers) (a .number) _ (sym (outer-tested (c .before)) ∙ c .if1 .taken)))
 
-bad-hold-requires : tie.Need-bad-hold-requires Inv-loop μ-loop
-bad-hold-requires c κs = c .before .before .before .before .before .before .before .before .before .before .pre .0
+free-limits-requires : tie.Need-free-limits-requires Inv-loop μ-loop
+free-limits-requires c κs = c .before .before .before .before .before .before .before .before .pre .0
+
+held-limits-requires : tie.Need-held-limits-requires Inv-loop μ-loop
+held-limits-requires c κs = c .before .before .before .before .before .before .before .before .before .before .before .pre .0
+
+cast-if3 : tie.Need-cast-if3 Inv-loop μ-loop
+cast-if3 c = search needs
+
+-- the tests by the limits
+inner-tested : (c : tie.After-struct-known4 Inv-loop μ-loop)
+    → (not (c .before .before .before .if2 .most .held) || ltb (c .before .before .before .if2 .most .ties) (c .before .before .before .before .before .before .before .before .before .record-at .result .ties))
+    ≡ inner (c .before .before .before .before .before .before .before .before .before .before .before .before .before .before .args .z) (now (c .before .before .before .before .before .before .before .before .before .before .before .before .before .before .args .records)) (c .before .before .before .before .before .before .before .before .before .before .before .before .before .before .args .workers) (c .before .before .before .before .before .before .before .before .before .before .before .before .before .before .args .number) (c .before .before .before .before .before .before .before .before .before .before .before .before .loop .p)
+inner-tested c =
+    let a = c .before .before .before .before .before .before .before .before .before .before .before .before .before .before .args in
+    let x = hold-by (a .z) (now (a .records)) (a .workers) (a .number) _ _ (allowed (c .before .before .before)) in
+    let y = ties-by (a .z) (now (a .records)) (a .workers) (a .number) _ _ (allowed (c .before .before .before)) _ (c .before .before .before .before .before .before .before .before .before .record-at .ensures) in
+    λ i. x i || y i
 
 returns-2 : tie.Need-returns-2 Inv-loop μ-loop
 returns-2 c =
-    let a = c .before .before .before .before .before .before .before .before .before .before .before .before .args in
-    let f = c .before .before .before .before .before .before .before .record-at .ensures in
-    let p = c .before .before .before .before .before .before .before .before .before .before .loop .p in
-    three (a .z) (now (a .records)) (a .workers) (below (length (tasks (a .z .tiles)))) true
-    (some-stops _ _ _ _ (c .before .before .before .before .before .before .before .before .before .loop-test .taken) (c .before .before .before .before .before .before .before .before .before .before .loop .inv .3)
-    (bad-by (a .z) (now (a .records)) (a .workers) p _ (sym (record-bad (c .before .before .before .before .before .before .before .before .before .before .before .before .args .z) _ _ _ _ _ (omega (arith, c .before .before .before .before .before .before .before .before .before .before .before .task-count .ensures, c .before .before .before .before .before .before .before .before .before .before .before .before .pre .1)) (c .before .before .before .before .before .before .before .before .before .before .loop .inv .2 (c .before .before .before .before .before .before .before .before .before .loop-test .taken)) (c .before .before .before .before .before .before .before .before .before .before .loop .inv .1) _ _ (c .before .before .before .before .before .before .before .record-at .ensures) (c .before .before .before .before .before .before .before .before .record-of .ensures) _ (c .before .before .before .before .before .before .differs .ensures) (c .before .before .before .before .before .before .before .before .before .before .before .before .args .workers)) ∙ c .before .before .before .before .before .if1 .left)
-    (c .before .bad-hold .ensures (now (a .records)) (ap (λ (x : TaskRecord). x .mark) f ∙ sym (get-mark (now (a .records)) p)) (ap (λ (x : TaskRecord). x .ties) f ∙ sym (get-ties (now (a .records)) p)))
-    ∙ c .if3 .taken))
+    let a = c .before .before .before .before .before .before .before .before .before .before .before .before .before .before .before .args in
+    found-bad (a .z) (now (a .records)) (a .workers) (a .number)
+    (some-stops _ _ _ _ (c .before .before .before .before .before .before .before .before .before .before .before .before .loop-test .taken) (c .before .before .before .before .before .before .before .before .before .before .before .before .before .loop .inv .3)
+    (bad-inner (a .z) (now (a .records)) (a .workers) (a .number) _ (sym (inner-tested (c .before)) ∙ c .if3 .taken)))
+
+add-calls : tie.Need-add-calls Inv-loop μ-loop
+add-calls c =
+    omega (arith, allowed (c .before .before .before .before .before) .few, c .before .before .before .before .before .before .before .before .before .before .before .before .before .before .loop .inv .5, c .before .before .before .before .before .before .before .before .before .before .before .before .before .loop-test .taken, c .before .before .before .before .before .before .before .before .before .before .before .before .before .before .before .task-count .ensures, few-tasks (c .before .before .before .before .before .before .before .before .before .before .before .before .before .before .before .before .args .z .tiles) (c .before .before .before .before .before .before .before .before .before .before .before .before .before .before .before .before .pre .0 .few-tiles))
 
 cast-next : tie.Need-cast-next Inv-loop μ-loop
-cast-next c = omega (arith, c .before .before .before .before .before .before .before .before .before .before .before .pre .0 .few-tiles)
+cast-next c = omega (arith, c .before .before .before .before .before .before .before .before .before .before .before .before .before .before .before .before .before .pre .0 .few-tiles)
 
 next-requires : tie.Need-next-requires Inv-loop μ-loop
-next-requires c κs = (c .before .before .before .before .before .before .before .before .before .before .before .pre .0 .few-tiles, c .before .before .before .before .before .before .before .before .before .loop .inv .2 (c .before .before .before .before .before .before .before .before .loop-test .taken))
+next-requires c κs = (c .before .before .before .before .before .before .before .before .before .before .before .before .before .before .before .before .before .pre .0 .few-tiles, c .before .before .before .before .before .before .before .before .before .before .before .before .before .before .before .loop .inv .2 (c .before .before .before .before .before .before .before .before .before .before .before .before .before .before .loop-test .taken))
 
 add-p : tie.Need-add-p Inv-loop μ-loop
-add-p c = omega (arith, c .before .before .before .before .before .before .before .before .before .loop-test .taken, c .before .before .before .before .before .before .before .before .before .before .before .before .good)
+add-p c = omega (arith, c .before .before .before .before .before .before .before .before .before .before .before .before .before .before .before .loop-test .taken, c .before .before .before .before .before .before .before .before .before .before .before .before .before .before .before .before .loop .inv .0, c .before .before .before .before .before .before .before .before .before .before .before .before .before .before .before .before .before .task-count .ensures, c .before .before .before .before .before .before .before .before .before .before .before .before .before .before .before .before .before .before .pre .1, c .before .before .before .before .before .before .before .before .before .before .before .before .before .before .before .before .before .before .good)
 
 loop-less : tie.Need-loop-less Inv-loop μ-loop
-loop-less c = omega (arith, c .before .before .before .before .before .before .before .before .before .loop-test .taken)
-
--- task p passes
-passes : (c : tie.After-next Inv-loop μ-loop) → bad (c .before .before .before .before .before .before .before .before .before .before .before .before .args .z) (now (c .before .before .before .before .before .before .before .before .before .before .before .before .args .records)) (c .before .before .before .before .before .before .before .before .before .before .before .before .args .workers) (c .before .before .before .before .before .before .before .before .before .before .loop .p) ≡ false
-passes c =
-    let a = c .before .before .before .before .before .before .before .before .before .before .before .before .args in
-    let f = c .before .before .before .before .before .before .before .record-at .ensures in
-    let p = c .before .before .before .before .before .before .before .before .before .before .loop .p in
-    bad-by (a .z) (now (a .records)) (a .workers) p false (sym (record-bad (c .before .before .before .before .before .before .before .before .before .before .before .before .args .z) _ _ _ _ _ (omega (arith, c .before .before .before .before .before .before .before .before .before .before .before .task-count .ensures, c .before .before .before .before .before .before .before .before .before .before .before .before .pre .1)) (c .before .before .before .before .before .before .before .before .before .before .loop .inv .2 (c .before .before .before .before .before .before .before .before .before .loop-test .taken)) (c .before .before .before .before .before .before .before .before .before .before .loop .inv .1) _ _ (c .before .before .before .before .before .before .before .record-at .ensures) (c .before .before .before .before .before .before .before .before .record-of .ensures) _ (c .before .before .before .before .before .before .differs .ensures) (c .before .before .before .before .before .before .before .before .before .before .before .before .args .workers)) ∙ c .before .before .before .before .before .if1 .left)
-    (⊎-elim
-    (λ u. sym (u .2 .left)
-    ∙ u .1 .ensures (now (a .records)) (ap (λ (x : TaskRecord). x .mark) f ∙ sym (get-mark (now (a .records)) p)) (ap (λ (x : TaskRecord). x .ties) f ∙ sym (get-ties (now (a .records)) p)))
-    (λ u. quiet (a .z) (now (a .records)) (a .workers) p (c .before .before .before .before .before .before .before .record-at .result) f (u .left))
-    (c .before .before .if2 .came))
+loop-less c = omega (arith, c .before .before .before .before .before .before .before .before .before .before .before .before .before .before .before .loop-test .taken)
 
 loop-again : tie.Need-loop-again Inv-loop μ-loop
-loop-again c = (
-  omega (arith, c .before .before .before .before .before .before .before .before .before .loop-test .taken),
-  c .next .ensures .0 ∙ ap (λ (n : ℕ). n + 1) (c .before .before .before .before .before .before .before .before .before .before .loop .inv .1),
-  λ h. c .next .ensures .1 (omega (arith, c .before .before .before .before .before .before .before .before .before .before .loop .inv .1, c .before .before .before .before .before .before .before .before .before .before .before .task-count .ensures)),
-  some-goes-on _ _ _ _ (c .before .before .before .before .before .before .before .before .before .loop-test .taken) (c .before .before .before .before .before .before .before .before .before .before .loop .inv .3) (passes c),
-)
+loop-again c =
+    let a = c .before .before .before .before .before .before .before .before .before .before .before .before .before .before .before .before .before .before .args in
+    let p = c .before .before .before .before .before .before .before .before .before .before .before .before .before .before .before .before .loop .p in
+    let inv = c .before .before .before .before .before .before .before .before .before .before .before .before .before .before .before .before .loop .inv in
+    let more = c .before .before .before .before .before .before .before .before .before .before .before .before .before .before .before .loop-test .taken in
+    let most = allowed (c .before .before .before .before .before .before .before) in
+    let limit = callLimit (planOf (a .z)) (state (a .z) (now (a .records)) (a .workers) (a .number)) in
+    let with-p : total (map limit (below (p + 1))) ≡ total (map limit (below p)) + limit p = ap (λ (k : ℕ). total (map limit (below k))) (add-one p) ∙ total-last limit p in
+    let its-calls = calls-by (a .z) (now (a .records)) (a .workers) (a .number) _ _ most in (
+      omega (arith, more),
+      c .next .ensures .0 ∙ ap (λ (n : ℕ). n + 1) (inv .1),
+      λ h. c .next .ensures .1 (omega (arith, inv .1, c .before .before .before .before .before .before .before .before .before .before .before .before .before .before .before .before .before .task-count .ensures)),
+      some-goes-on _ _ _ _ more (inv .3) (not-bad (a .z) (now (a .records)) (a .workers) (a .number) p (sym (outer-tested (c .before .before .before .before .before .before .before .before .before .before .before)) ∙ c .before .before .before .before .before .before .before .before .before .before .if1 .left) (sym (inner-tested (c .before .before .before .before)) ∙ c .before .before .before .if3 .left)),
+      omega (arith, inv .4, with-p, its-calls),
+      omega (arith, inv .5, most .few),
+    )
 
 returns-3 : tie.Need-returns-3 Inv-loop μ-loop
 returns-3 c =
     let a = c .before .before .before .args in
-    three (a .z) (now (a .records)) (a .workers) (below (length (tasks (a .z .tiles)))) false (some-ends _ _ _ _ (c .loop-test .left) (c .before .loop .inv .3))
+    let limit = callLimit (planOf (a .z)) (state (a .z) (now (a .records)) (a .workers) (a .number)) in
+    let all : c .before .loop .p ≡ length (tasks (a .z .tiles)) = omega (arith, c .loop-test .left, c .before .loop .inv .0, c .before .before .task-count .ensures) in
+    found-none (a .z) (now (a .records)) (a .workers) (a .number) (some-ends _ _ _ _ (c .loop-test .left) (c .before .loop .inv .3)) _
+    (c .before .loop .inv .4 ∙ ap (λ (k : ℕ). total (map limit (below k))) all)
 
 pub bad-records-spec : {M : Type 1} → statement M
 bad-records-spec =
@@ -116,9 +174,13 @@ bad-records-spec =
     record-of-requires
     record-at-requires
     differs-requires
+    bad-calls-requires
     returns
-    bad-hold-requires
+    free-limits-requires
+    held-limits-requires
+    cast-if3
     returns-2
+    add-calls
     cast-next
     next-requires
     add-p

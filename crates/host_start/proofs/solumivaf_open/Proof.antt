@@ -1,4 +1,5 @@
 -- The workers are gathered, the call is made, and they are put back. Assumes nothing.
+use mathlib.Core.Path.{refl}
 use Rattle.model.specs.Refusal.{openCall}
 use Rattle.host_calls.proofs.Laws.{call-said}
 use borrow.Author.Needs.{needs}
@@ -25,9 +26,9 @@ same-length-2 c = search needs
 
 returns : tie.Need-returns
 returns c =
-    let a = c .before .before .before .before .before .before .before .before .before .before .before .before .before .before .before .before .before .before .args in
+    let a = c .before .before .before .before .before .before .before .before .before .before .before .before .before .before .before .before .before .before .before .args in
     let e = c .before .before .before .before .before .before .before .before .before in
-    call-said (a .matrix .now) (a .matrix .now) (a .lists .now) (e .«open» .last .1 .1 .0) (a .records .now) (e .«open» .last .1 .1 .1 .0) (a .busy .now) _ (a .task .now) (a .column .now) (a .count) _ (e .before .before .before .gather .result) (e .before .before .before .gather .ensures) (c .tell .result) (openCall (record { tiles = a .tiles; side = a .side; workers = a .workers })) (e .«open» .result) (e .«open» .ensures .0) (e .«open» .ensures .1) (c .before .scatter .ensures .0) (c .before .scatter .ensures .1) (c .tell .ensures)
+    call-said (a .matrix .now) (a .matrix .now) (a .lists .now) (e .«open» .last .1 .1 .0) (a .records .now) (e .«open» .last .1 .1 .1 .0) (a .busy .now) _ (a .task .now) (a .column .now) (a .count) (a .number .now) _ _ (e .before .before .before .gather .result) (e .before .before .before .gather .ensures) (c .tell .result) (openCall (record { tiles = a .tiles; side = a .side; workers = a .workers })) (e .«open» .result) (e .«open» .ensures .0) (e .«open» .ensures .1) (c .before .scatter .ensures .0) (c .before .scatter .ensures .1) refl (c .tell .ensures)
 
 pub solumivaf-open-spec : {M : Type 1} → statement M
 solumivaf-open-spec =

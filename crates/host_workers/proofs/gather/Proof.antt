@@ -9,10 +9,10 @@ use Rattle.host_workers.proofs.gather.Statement.{statement}
 use Rattle.host_workers.proofs.gather.Tie as tie
 
 abbrev Inv-loop : tie.InvT-loop
-Inv-loop count busy task column slots₀ v₀ slots v = Alike busy task column slots v
+Inv-loop count number busy task column slots₀ v₀ slots v = Alike busy task column slots v
 
 abbrev μ-loop : tie.MeasureT-loop
-μ-loop count busy task column slots₀ v₀ slots v = 32 - v
+μ-loop count number busy task column slots₀ v₀ slots v = 32 - v
 
 idle-requires : tie.Need-idle-requires Inv-loop μ-loop
 idle-requires c κs = search needs
@@ -27,17 +27,17 @@ loop-holds c = record {
   alike = λ i j. absurd (omega (arith, j));
 }
 
-array-read-t14 : tie.Need-array-read-t14 Inv-loop μ-loop
-array-read-t14 c = omega arith
+array-read-t15 : tie.Need-array-read-t15 Inv-loop μ-loop
+array-read-t15 c = omega arith
 
-mul-t15 : tie.Need-mul-t15 Inv-loop μ-loop
-mul-t15 c = omega arith
+mul-t16 : tie.Need-mul-t16 Inv-loop μ-loop
+mul-t16 c = omega arith
 
-array-read-t18 : tie.Need-array-read-t18 Inv-loop μ-loop
-array-read-t18 c = omega arith
+array-read-t19 : tie.Need-array-read-t19 Inv-loop μ-loop
+array-read-t19 c = omega arith
 
-array-read-t21 : tie.Need-array-read-t21 Inv-loop μ-loop
-array-read-t21 c = omega arith
+array-read-t22 : tie.Need-array-read-t22 Inv-loop μ-loop
+array-read-t22 c = omega arith
 
 mul-slots : tie.Need-mul-slots Inv-loop μ-loop
 mul-slots c = omega arith
@@ -59,7 +59,7 @@ loop-again c =
     gathered (a .t1) (a .t2) (a .t3) (d .loop .slots) (d .loop .v) (d .loop .inv) (omega arith) _ refl
 
 returns : tie.Need-returns Inv-loop μ-loop
-returns c = λ i. record { slots = all-alike _ _ _ _ (c .before .loop .v) (c .before .loop .inv) (omega arith) i; count = c .before .before .before .args .count }
+returns c = λ i. record { slots = all-alike _ _ _ _ (c .before .loop .v) (c .before .loop .inv) (omega arith) i; count = c .before .before .before .args .count; number = c .before .before .before .args .number }
 
 pub gather-spec : {M : Type 1} → statement M
 gather-spec =
@@ -69,10 +69,10 @@ gather-spec =
     μ-loop
     idle-requires
     loop-holds
-    array-read-t14
-    mul-t15
-    array-read-t18
-    array-read-t21
+    array-read-t15
+    mul-t16
+    array-read-t19
+    array-read-t22
     mul-slots
     array-set-from-slots
     add-v

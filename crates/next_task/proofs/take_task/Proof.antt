@@ -1,10 +1,10 @@
--- What the mark's store and the worker's take ensure. Assumes nothing.
+-- What the record's store and the worker's take ensure. Assumes nothing.
 use borrow.Author.Needs.{needs}
 use Rattle.next_task.proofs.take_task.Statement.{statement}
 use Rattle.next_task.proofs.take_task.Tie as tie
 
-set-mark-requires : tie.Need-set-mark-requires
-set-mark-requires c κs = search needs
+take-record-requires : tie.Need-take-record-requires
+take-record-requires c κs = search needs
 
 cast-take : tie.Need-cast-take
 cast-take c = search needs
@@ -16,7 +16,7 @@ same-length : tie.Need-same-length
 same-length c = search needs
 
 returns : tie.Need-returns
-returns c = (c .take .ensures, c .before .before .set-mark .ensures)
+returns c = (c .take .ensures, c .before .before .take-record .ensures)
 
 pub take-task-spec : {M : Type 1} → statement M
-take-task-spec = tie.close (tie.spec set-mark-requires cast-take take-requires same-length returns)
+take-task-spec = tie.close (tie.spec take-record-requires cast-take take-requires same-length returns)

@@ -48,7 +48,7 @@ returns : tie.Need-returns Inv-loop μ-loop
 returns c =
     let e : c .before .before .loop .v ≡ c .before .before .before .before .args .workers .count = omega arith in
     let i = c .before .before .loop .inv in (
-      first-slots _ _ (omega (arith, i .1)) ∙ subst (λ (k : ℕ). take k (c .before .before .loop .left) ≡ replicate k idle) e (i .2),
+      (first-slots _ _ (omega (arith, i .1)) ∙ subst (λ (k : ℕ). take k (c .before .before .loop .left) ≡ replicate k idle) e (i .2), refl),
       record { same-count = refl; same-slots = i .3 },
     )
 

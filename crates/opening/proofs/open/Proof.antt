@@ -22,7 +22,7 @@ same-length-2 c = search needs
 returns : tie.Need-returns
 returns c =
     let d = c .before .before .before .before .before .before .before in
-    (refused _ _ _ _ (d .args .workers .slots) (d .args .workers .count) _ (c .before .before .open-answer .ensures (d .args .workers .slots)) _ (c .before .accepted .ensures) (not-true _ (c .if1 .taken)), record { same-count = refl; same-slots = refl })
+    (refused _ _ _ _ (d .args .workers .slots) (d .args .workers .count) (d .args .workers .number) _ (c .before .before .open-answer .ensures (d .args .workers .slots) (d .args .workers .number)) _ (c .before .accepted .ensures) (not-true _ (c .if1 .taken)), record { same-count = refl; same-slots = refl })
 
 fill-entries-requires : tie.Need-fill-entries-requires
 fill-entries-requires c κs = search needs
@@ -30,14 +30,14 @@ fill-entries-requires c κs = search needs
 number-records-requires : tie.Need-number-records-requires
 number-records-requires c κs =
     let d = c .before .before .before .before .before .before .before .before .before .before .before .before in
-    let k = checked-then _ _ _ _ (d .args .workers .slots) (d .args .workers .count) _ (c .before .before .before .before .before .before .before .open-answer .ensures (d .args .workers .slots))
+    let k = checked-then _ _ _ _ (d .args .workers .slots) (d .args .workers .count) (d .args .workers .number) _ (c .before .before .before .before .before .before .before .open-answer .ensures (d .args .workers .slots) (d .args .workers .number))
     _ (c .before .before .before .before .before .before .accepted .ensures) (not-false _ (c .before .before .before .before .before .if1 .left)) in
     (k .sizes, k .fit .records-fit)
 
 idle-workers-requires : tie.Need-idle-workers-requires
 idle-workers-requires c κs =
     let d = c .before .before .before .before .before .before .before .before .before .before .before .before .before .before in
-    let k = checked-then _ _ _ _ (d .args .workers .slots) (d .args .workers .count) _ (c .before .before .before .before .before .before .before .before .before .open-answer .ensures (d .args .workers .slots))
+    let k = checked-then _ _ _ _ (d .args .workers .slots) (d .args .workers .count) (d .args .workers .number) _ (c .before .before .before .before .before .before .before .before .before .open-answer .ensures (d .args .workers .slots) (d .args .workers .number))
     _ (c .before .before .before .before .before .before .before .before .accepted .ensures) (not-false _ (c .before .before .before .before .before .before .before .if1 .left)) in
     omega (arith, k .counted, k .sizes .few-workers)
 
@@ -50,9 +50,9 @@ same-length-4 c = search needs
 returns-2 : tie.Need-returns-2
 returns-2 c =
     let d = c .before .before .before .before .before .before .before .before .before .before .before .before .before .before .before in (
-      accepted _ _ _ _ (d .args .workers .slots) (d .args .workers .count) _ (c .before .before .before .before .before .before .before .before .before .before .open-answer .ensures (d .args .workers .slots))
+      accepted _ _ _ _ (d .args .workers .slots) (d .args .workers .count) (d .args .workers .number) _ (c .before .before .before .before .before .before .before .before .before .before .open-answer .ensures (d .args .workers .slots) (d .args .workers .number))
           _ (c .before .before .before .before .before .before .before .before .before .accepted .ensures) (not-false _ (c .before .before .before .before .before .before .before .before .if1 .left))
-          _ _ _ _ _ refl (c .before .before .before .before .before .before .fill-entries .ensures) (c .before .before .number-records .ensures) (c .idle-workers .ensures .0),
+          _ _ _ _ _ _ refl (c .before .before .before .before .before .before .fill-entries .ensures) (c .before .before .number-records .ensures) (c .idle-workers .ensures .0 .0) (c .idle-workers .ensures .0 .1),
       c .idle-workers .ensures .1,
     )
 

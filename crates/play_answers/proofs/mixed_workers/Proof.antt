@@ -13,6 +13,12 @@ abbrev μ-loop : tie.MeasureT-loop
 mixed-requires : tie.Need-mixed-requires Inv-loop μ-loop
 mixed-requires c κs = search needs
 
+cast-mixed : tie.Need-cast-mixed Inv-loop μ-loop
+cast-mixed c = search needs
+
+mixed-requires-2 : tie.Need-mixed-requires-2 Inv-loop μ-loop
+mixed-requires-2 c κs = search needs
+
 loop-holds : tie.Need-loop-holds Inv-loop μ-loop
 loop-holds c = search needs
 
@@ -44,6 +50,8 @@ mixed-workers-spec =
     Inv-loop
     μ-loop
     mixed-requires
+    cast-mixed
+    mixed-requires-2
     loop-holds
     mul-mixed-worker
     array-copy-out-mixed-worker

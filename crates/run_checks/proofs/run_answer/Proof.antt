@@ -12,19 +12,19 @@ accepted-requires : tie.Need-accepted-requires
 accepted-requires c κs = search needs
 
 returns : tie.Need-returns
-returns c = state-stops _ _ _ _ _ _ _ (c .before .before .state-answer .ensures) _ (c .before .accepted .ensures) (not-true _ (c .if1 .taken))
+returns c = state-stops _ _ _ _ _ _ _ _ (c .before .before .state-answer .ensures) _ (c .before .accepted .ensures) (not-true _ (c .if1 .taken))
 
 all-finite-requires : tie.Need-all-finite-requires
 all-finite-requires c κs = search needs
 
 returns-2 : tie.Need-returns-2
 returns-2 c =
-    element-stops _ _ _ _ _ _ _ (c .before .before .before .before .state-answer .ensures) _ (c .before .before .before .accepted .ensures) (not-false _ (c .before .before .if1 .left))
+    element-stops _ _ _ _ _ _ _ _ (c .before .before .before .before .state-answer .ensures) _ (c .before .before .before .accepted .ensures) (not-false _ (c .before .before .if1 .left))
     _ (c .before .all-finite .ensures) (not-true _ (c .if2 .taken))
 
 returns-3 : tie.Need-returns-3
 returns-3 c =
-    all-pass _ _ _ _ _ _ _ (c .before .before .before .before .state-answer .ensures) _ (c .before .before .before .accepted .ensures) (not-false _ (c .before .before .if1 .left))
+    all-pass _ _ _ _ _ _ _ _ (c .before .before .before .before .state-answer .ensures) _ (c .before .before .before .accepted .ensures) (not-false _ (c .before .before .if1 .left))
     _ (c .before .all-finite .ensures) (not-false _ (c .if2 .left))
 
 pub run-answer-spec : {M : Type 1} → statement M

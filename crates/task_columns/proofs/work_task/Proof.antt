@@ -27,7 +27,7 @@ same-length-2 : tie.Need-same-length-2
 same-length-2 c = search needs
 
 returns : tie.Need-returns
-returns c = λ slots. task-spoiled (c .before .before .before .before .before .before .before .before .before .before .before .before .args .z) _ _ _ slots _ _ _ (ap taskFrom (c .before .before .before .before .before .before .before .before .before .record-at .ensures) ∙ c .before .before .before .before .before .before .before .before .before .before .before .before .pre .named) _ (c .before .before .before .before .before .before .before .before .spoiled-at .ensures) (c .before .before .before .before .before .before .before .if1 .taken) _ (c .before .before .before .before .fill-task .ensures)
+returns c = λ slots number. task-spoiled (c .before .before .before .before .before .before .before .before .before .before .before .before .args .z) _ _ _ slots number _ _ _ (ap taskFrom (c .before .before .before .before .before .before .before .before .before .record-at .ensures) ∙ c .before .before .before .before .before .before .before .before .before .before .before .before .pre .named) _ (c .before .before .before .before .before .before .before .before .spoiled-at .ensures) (c .before .before .before .before .before .before .before .if1 .taken) _ (c .before .before .before .before .fill-task .ensures)
 
 work-column-requires : tie.Need-work-column-requires
 work-column-requires c κs = subst (λ (t : Task). Workable (c .before .before .before .before .before .before .before .args .z) t (c .before .before .before .before .before .before .before .args .c) (c .before .before .before .before .before .before .before .args .matrix .now) (c .before .before .before .before .before .before .before .args .lists .now)) (sym (ap taskFrom (c .before .before .before .before .record-at .ensures) ∙ c .before .before .before .before .before .before .before .pre .named)) (c .before .before .before .before .before .before .before .pre .workable)
@@ -39,7 +39,7 @@ same-length-4 : tie.Need-same-length-4
 same-length-4 c = search needs
 
 returns-2 : tie.Need-returns-2
-returns-2 c = λ slots. task-worked (c .before .before .before .before .before .before .before .before .before .before .before .before .args .z) _ _ _ slots _ _ _ (ap taskFrom (c .before .before .before .before .before .before .before .before .before .record-at .ensures) ∙ c .before .before .before .before .before .before .before .before .before .before .before .before .pre .named) _ (c .before .before .before .before .before .before .before .before .spoiled-at .ensures) (c .before .before .before .before .before .before .before .if1 .left) _ (c .before .before .before .before .work-column .ensures)
+returns-2 c = λ slots number. task-worked (c .before .before .before .before .before .before .before .before .before .before .before .before .args .z) _ _ _ slots number _ _ _ (ap taskFrom (c .before .before .before .before .before .before .before .before .before .record-at .ensures) ∙ c .before .before .before .before .before .before .before .before .before .before .before .before .pre .named) _ (c .before .before .before .before .before .before .before .before .spoiled-at .ensures) (c .before .before .before .before .before .before .before .if1 .left) _ (c .before .before .before .before .work-column .ensures)
 
 pub work-task-spec : {M : Type 1} → statement M
 work-task-spec =

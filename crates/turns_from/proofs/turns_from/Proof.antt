@@ -12,29 +12,29 @@ use Rattle.model.specs.Calls.{runFrom}
 use Rattle.records.specs.Records.{lent}
 use Rattle.records.proofs.Laws.{length-slots}
 use Rattle.next_worker.proofs.Rounds.{found-above, found-below, both-parts, above-more}
-use Rattle.turns_from.proofs.Going.{Going, starts, sizes, few-records, searched, take-goes, pass-goes, run-over, column-due, work-goes, run-ends, matrix-kept, lists-kept, records-kept, recounted, others-kept, turnsLeft, call-less, pass-less}
+use Rattle.turns_from.proofs.Going.{Going, starts, sizes, few-calls, few-records, searched, take-goes, pass-goes, run-over, column-due, work-goes, run-ends, matrix-kept, lists-kept, records-kept, recounted, others-kept, turnsLeft, call-less, pass-less}
 use Rattle.turns_from.proofs.turns_from.Statement.{statement}
 use Rattle.turns_from.proofs.turns_from.Tie as tie
 
 abbrev Inv-turns : tie.InvT-turns
-Inv-turns z matrix₀ lists₀ records₀ ws budget made turn low left₀ n₀ w₀ from₀ matrix lists records left n w from =
-    Going z budget (runFrom (planOf z) (z .workers) (budget - n₀) n₀ w₀ (lent matrix₀ lists₀ records₀ left₀ (z .workers))) left₀ matrix lists records left n w from
+Inv-turns z matrix₀ lists₀ records₀ ws budget made turn low left₀ number₀ n₀ w₀ from₀ matrix lists records left number n w from =
+    Going z budget (runFrom (planOf z) (z .workers) (budget - n₀) n₀ w₀ (lent matrix₀ lists₀ records₀ left₀ (z .workers) number₀)) left₀ matrix lists records left number n w from
 
 abbrev μ-turns : tie.MeasureT-turns
-μ-turns z matrix₀ lists₀ records₀ ws budget made turn low left₀ n₀ w₀ from₀ matrix lists records left n w from = turnsLeft budget n left w
+μ-turns z matrix₀ lists₀ records₀ ws budget made turn low left₀ number₀ n₀ w₀ from₀ matrix lists records left number n w from = turnsLeft budget n left w
 
 abbrev Inv-loop : tie.InvT-loop
-Inv-loop z matrix lists records ws budget made turn low left n w₀ from v₀ w v =
+Inv-loop z matrix lists records ws budget made turn low left number n w₀ from v₀ w v =
     (w ≡ w₀) × (w₀ ≤ v) × (v ≤ z .workers) × ((x : ℕ) → w₀ ≤ x → x < v → getD left x idle .busy ≡ false)
 
 abbrev μ-loop : tie.MeasureT-loop
-μ-loop z matrix lists records ws budget made turn low left n w₀ from v₀ w v = z .workers - v
+μ-loop z matrix lists records ws budget made turn low left number n w₀ from v₀ w v = z .workers - v
 
 abbrev Inv-loop2 : tie.InvT-loop2
-Inv-loop2 z matrix lists records ws budget made turn low left n w₀ from v u₀ w u = (w ≡ w₀) × (u ≤ w₀) × ((x : ℕ) → x < u → getD left x idle .busy ≡ false)
+Inv-loop2 z matrix lists records ws budget made turn low left number n w₀ from v u₀ w u = (w ≡ w₀) × (u ≤ w₀) × ((x : ℕ) → x < u → getD left x idle .busy ≡ false)
 
 abbrev μ-loop2 : tie.MeasureT-loop2
-μ-loop2 z matrix lists records ws budget made turn low left n w₀ from v u₀ w u = w₀ - u
+μ-loop2 z matrix lists records ws budget made turn low left number n w₀ from v u₀ w u = w₀ - u
 
 turns-holds : tie.Need-turns-holds Inv-loop μ-loop Inv-loop2 μ-loop2 Inv-turns μ-turns
 turns-holds c =
@@ -49,8 +49,13 @@ array-copy-out-h c = let i = c .before .turns .inv in omega (arith, i .turn-of, 
 
 -- ---- a column
 
+add-number : tie.Need-add-number Inv-loop μ-loop Inv-loop2 μ-loop2 Inv-turns μ-turns
+add-number c = omega (arith, few-calls (c .before .before .before .turns .inv))
+
 advance-requires : tie.Need-advance-requires Inv-loop μ-loop Inv-loop2 μ-loop2 Inv-turns μ-turns
-advance-requires c κs = column-due (c .before .before .before .before .before .before .turns .inv) (c .before .before .before .if1 .taken)
+advance-requires c κs =
+    let i = c .before .before .before .before .before .before .turns .inv in
+    (column-due i (c .before .before .before .if1 .taken), omega (arith, i .turn-of, sizes i .few-workers))
 
 mul-left : tie.Need-mul-left Inv-loop μ-loop Inv-loop2 μ-loop2 Inv-turns μ-turns
 mul-left c = let i = c .before .before .before .before .before .before .before .before .before .before .before .before .turns .inv in omega (arith, i .turn-of, sizes i .few-workers)
@@ -82,6 +87,9 @@ turns-again c =
 
 lowest-ready-requires : tie.Need-lowest-ready-requires Inv-loop μ-loop Inv-loop2 μ-loop2 Inv-turns μ-turns
 lowest-ready-requires c κs = searched (c .before .before .before .before .turns .inv)
+
+add-number-2 : tie.Need-add-number-2 Inv-loop μ-loop Inv-loop2 μ-loop2 Inv-turns μ-turns
+add-number-2 c = omega (arith, few-calls (c .before .before .before .before .before .before .turns .inv))
 
 take-task-requires : tie.Need-take-task-requires Inv-loop μ-loop Inv-loop2 μ-loop2 Inv-turns μ-turns
 take-task-requires c κs = (c .before .if2 .taken, omega (arith, c .before .if2 .taken, few-records (c .before .before .before .before .before .before .before .turns .inv)))
@@ -224,6 +232,7 @@ turns-from-spec =
     turns-holds
     mul-h
     array-copy-out-h
+    add-number
     advance-requires
     mul-left
     array-set-from-left
@@ -234,6 +243,7 @@ turns-from-spec =
     turns-less
     turns-again
     lowest-ready-requires
+    add-number-2
     take-task-requires
     mul-left-2
     array-set-from-left-2

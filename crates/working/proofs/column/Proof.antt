@@ -24,12 +24,12 @@ same-length-3 c = search needs
 returns : tie.Need-returns
 returns c =
     let d = c .before .before .before .before .before .before .before .before in
-    (refused (d .args .z) _ _ _ (d .args .workers .slots) (d .args .workers .count) _ _ (c .before .before .column-answer .ensures) _ (c .before .accepted .ensures) (not-true _ (c .if1 .taken)), record { same-count = refl; same-slots = refl })
+    (refused (d .args .z) _ _ _ (d .args .workers .slots) (d .args .workers .count) (d .args .workers .number) _ _ (c .before .before .column-answer .ensures) _ (c .before .accepted .ensures) (not-true _ (c .if1 .taken)), record { same-count = refl; same-slots = refl })
 
 advance-worker-requires : tie.Need-advance-worker-requires
 advance-worker-requires c κs =
     let d = c .before .before .before .before .before .before .before .before .before .before .before in
-    works-then (d .args .z) _ _ _ (d .args .workers .slots) (d .args .workers .count) _ _ (c .before .before .before .before .before .column-answer .ensures) _ (c .before .before .before .before .accepted .ensures) (not-false _ (c .before .before .before .if1 .left))
+    works-then (d .args .z) _ _ _ (d .args .workers .slots) (d .args .workers .count) (d .args .workers .number) _ _ (c .before .before .before .before .before .column-answer .ensures) _ (c .before .before .before .before .accepted .ensures) (not-false _ (c .before .before .before .if1 .left))
 
 same-length-4 : tie.Need-same-length-4
 same-length-4 c = search needs
@@ -43,7 +43,7 @@ same-length-6 c = search needs
 returns-2 : tie.Need-returns-2
 returns-2 c =
     let d = c .before .before .before .before .before .before .before .before .before .before .before .before .before .before .before .before .before in
-    (worked (d .args .z) _ _ _ (d .args .workers .slots) (d .args .workers .count) _ _ (c .before .before .before .before .before .before .before .before .before .before .before .column-answer .ensures) _ (c .before .before .before .before .before .before .before .before .before .before .accepted .ensures) (not-false _ (c .before .before .before .before .before .before .before .before .before .if1 .left)) _ (c .before .before .before .before .before .advance-worker .ensures .0), c .before .before .before .before .before .advance-worker .ensures .1)
+    (worked (d .args .z) _ _ _ (d .args .workers .slots) (d .args .workers .count) (d .args .workers .number) _ _ (c .before .before .before .before .before .before .before .before .before .before .before .column-answer .ensures) _ (c .before .before .before .before .before .before .before .before .before .before .accepted .ensures) (not-false _ (c .before .before .before .before .before .before .before .before .before .if1 .left)) _ (c .before .before .before .before .before .advance-worker .ensures .0), c .before .before .before .before .before .advance-worker .ensures .1)
 
 pub column-spec : {M : Type 1} → statement M
 column-spec =

@@ -16,7 +16,10 @@ fn record_of(theirs: &reference::lent::Record) -> Record {
     let mut ours = Record::default();
     (ours.kind, ours.k, ours.i, ours.j) = (theirs.kind, theirs.k, theirs.i, theirs.j);
     ours.mark = theirs.mark;
+    ours.worker = theirs.worker;
     ours.set_ties(theirs.tie_sum);
+    ours.set_took(theirs.took);
+    ours.set_ended(theirs.ended);
     ours
 }
 
@@ -25,6 +28,7 @@ pub fn lent_of(theirs: &reference::lent::Lent) -> Lent {
     let mut ours = Lent { matrix: theirs.matrix.clone(), lists: theirs.lists.clone(), ..Lent::default() };
     ours.records = theirs.records.iter().map(record_of).collect();
     ours.workers.count = theirs.count as usize;
+    ours.workers.number = theirs.run_number;
     for slot in 0..SLOTS {
         ours.workers.busy[slot] = theirs.workers[slot].busy as u8;
         ours.workers.task[slot] = theirs.workers[slot].task;
@@ -176,7 +180,7 @@ fn calls_in(script: &str) -> usize {
 
 /// Plays the script of a seed.
 pub fn calls_of(seed: u64, calls: usize) -> usize {
-    calls_in(&script(Options { seed, calls, max_bytes: 2_400_000 }))
+    calls_in(&script(Options { seed, calls, max_bytes: 3_300_000 }))
 }
 
 /// Plays the single columns of a seed.
