@@ -10,23 +10,43 @@ use lib.ListN.{length, getD}
 use Rattle.model.specs.declared.Sizes.{Sizes}
 use Rattle.model.specs.declared.TaskRecord.{TaskRecord}
 use Rattle.worker.specs.declared.Worker.{Worker}
-use Rattle.model.specs.Lists.{below, some, total}
+use Rattle.model.specs.Lists.{below, some, keep, total}
 use Rattle.model.specs.Task.{tasks}
 use Rattle.model.specs.Plan.{plan, planOf}
-use Rattle.model.specs.Links.{task}
+use Rattle.model.specs.Links.{task, mark}
 use Rattle.model.specs.Calls.{Lent, recordOf, marksOf, tiesOf}
-use Rattle.model.specs.Refusal.{nextColumn, badRecord, badHold, tieLimit, badTies, badCalls, callLimit, badNumber, badWorker, badEntry, damaged}
+use Rattle.model.specs.Refusal.{holds, nextColumn, badRecord, badHold, tieLimit, badTies, badCalls, callLimit, badNumber, badWorker, badEntry, damaged}
 use Rattle.laws.proofs.Every.{getD-any}
-use Rattle.laws.proofs.Tests.{never, or-false, false-or, some-either}
+use borrow.Author.Tests.{eqb-true, eqb-false, eq-eqb, ltb-true, not-false}
+use Rattle.laws.proofs.Tests.{never, and-left, and-right, and-intro, or-false, false-or, false-if, some-either}
 use Rattle.holds.specs.declared.Limits.{Limits}
 use Rattle.holds.specs.Allowed.{Allowed}
-use Rattle.records.specs.Records.{recordsFrom, tiesFrom, blank, crew, lent}
-use Rattle.records.proofs.Laws.{length-records, length-crew, get-ties}
+use Rattle.records.specs.Records.{recordsFrom, marksFrom, tiesFrom, blank, crew, lent, fourBytes}
+use Rattle.records.proofs.Laws.{length-records, length-crew, get-mark, get-ties}
 use Rattle.links.specs.Closed.{key, In, taskAt, offset, number}
 use Rattle.links.proofs.Numbering.{task-is}
 use Rattle.checks.specs.Checks.{recordsAlone, listsAlone, numbered}
 
 -- ---- records
+
+-- four bytes are the same where the numbers that they make are
+module _ (a b c d a' b' c' d' : ℕ) (ha : a < 256) (hb : b < 256) (hc : c < 256) (hd : d < 256) (ha' : a' < 256) (hb' : b' < 256) (hc' : c' < 256) (hd' : d' < 256) where
+  all-same : fourBytes a b c d ≡ fourBytes a' b' c' d' → (eqb a a' && eqb b b' && eqb c c' && eqb d d') ≡ true
+  all-same e = and-intro _ _ (and-intro _ _ (and-intro _ _ (eq-eqb a a' (omega (arith, e))) (eq-eqb b b' (omega (arith, e)))) (eq-eqb c c' (omega (arith, e)))) (eq-eqb d d' (omega (arith, e)))
+
+  pub bytes-same : eqb (fourBytes a b c d) (fourBytes a' b' c' d') ≡ (eqb a a' && eqb b b' && eqb c c' && eqb d d')
+  bytes-same = go (eqb (fourBytes a b c d) (fourBytes a' b' c' d')) refl
+    where
+      go : (t : Bool) → eqb (fourBytes a b c d) (fourBytes a' b' c' d') ≡ t → t ≡ (eqb a a' && eqb b b' && eqb c c' && eqb d d')
+      go true e = sym (all-same (eqb-true (fourBytes a b c d) (fourBytes a' b' c' d') e))
+      go false e = sym (false-if (eqb a a' && eqb b b' && eqb c c' && eqb d d') (λ f.
+          let three = and-left (eqb a a' && eqb b b' && eqb c c') (eqb d d') f in
+          let two = and-left (eqb a a' && eqb b b') (eqb c c') three in
+          let x = eqb-true a a' (and-left (eqb a a') (eqb b b') two) in
+          let y = eqb-true b b' (and-right (eqb a a') (eqb b b') two) in
+          let u = eqb-true c c' (and-right (eqb a a' && eqb b b') (eqb c c') three) in
+          let v = eqb-true d d' (and-right (eqb a a' && eqb b b' && eqb c c') (eqb d d') f) in
+          eqb-false (fourBytes a b c d) (fourBytes a' b' c' d') e (λ i. fourBytes (x i) (y i) (u i) (v i))))
 
 -- the record found is not the one due, or its mark exceeds 4
 abbrev pub apart : TaskRecord → TaskRecord → Bool
@@ -102,6 +122,22 @@ module _ (z : Sizes) (r : List (List ℕ)) (h : List Worker) (n : ℕ) where
     pub calls-by : m .calls ≡ callLimit (planOf z) state p
     unfolding callLimit nextColumn lent marksOf
     calls-by = a .calls
+
+  -- where it isn't taken and has no ties
+  pub quiet : (p : ℕ) (found : TaskRecord) → found ≡ getD (recordsFrom r) p blank → (eqb (found .mark) 1 || not (eqb (found .ties) 0)) ≡ false
+      → (badHold (planOf z) state p || badTies (planOf z) state p) ≡ false
+  unfolding badHold badTies lent marksOf marksFrom tiesOf tiesFrom
+  quiet p found f e =
+      let d = or-false (eqb (found .mark) 1) (not (eqb (found .ties) 0)) e in
+      let m : found .mark ≡ mark (marksFrom r) p = ap (λ (x : TaskRecord). x .mark) f ∙ sym (get-mark r p) in
+      let n : found .ties ≡ getD (tiesFrom r) p 0 = ap (λ (x : TaskRecord). x .ties) f ∙ sym (get-ties r p) in
+      let none : getD (tiesFrom r) p 0 ≡ 0 = sym n ∙ eqb-true (found .ties) 0 (not-false (eqb (found .ties) 0) (d .1)) in
+      let free : badHold (planOf z) state p ≡ false = unfold badHold lent marksOf marksFrom in
+      (ap (λ (k : ℕ). eqb k 1 && not (eqb (length (keep (holds p) (crew h (z .workers)))) 1)) (sym m)
+      ∙ ap (λ (b : Bool). b && not (eqb (length (keep (holds p) (crew h (z .workers)))) 1)) (d .0)) in
+      let few : badTies (planOf z) state p ≡ false = unfold badTies lent tiesOf tiesFrom in
+      false-if (ltb (tieLimit (planOf z) state p) (getD (tiesFrom r) p 0)) (λ q. omega (arith, ltb-true (tieLimit (planOf z) state p) (getD (tiesFrom r) p 0) q, none)) in
+      false-or (badHold (planOf z) state p) (badTies (planOf z) state p) free few
 
   abbrev pub outer : ℕ → Bool
   outer p = badRecord (planOf z) state p || badCalls (planOf z) state p

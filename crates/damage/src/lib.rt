@@ -5,12 +5,13 @@ ghost use mathlib.Core.List.{List};
 ghost use lib.Dec.{eqb, leb, ltb};
 ghost use lib.Ieee.{Float};
 ghost use lib.ListN.{length};
+ghost use Prim.Native.Nat.{_<_};
 ghost use Rattle.model.specs.Lengths.{ListsFit, RecordsFit};
 ghost use Rattle.model.specs.Lists.{below, some};
 ghost use Rattle.model.specs.Task.{tasks};
 ghost use Rattle.model.specs.Plan.{planOf};
 ghost use Rattle.model.specs.Refusal.{badRecord, badHold, badTies, badCalls, badNumber, damaged as isDamaged};
-ghost use Rattle.records.specs.Records.{lent};
+ghost use Rattle.records.specs.Records.{lent, fourBytes};
 ghost use Rattle.checks.specs.Checks.{Sized, numbered};
 use entries::bad_entries;
 use holds::free_limits;
@@ -26,15 +27,18 @@ use waiting_records::record_of;
 use worker::Slots;
 use workers::bad_workers;
 
+// Kind, k, i and j of a record as one number, so that a record is compared at once.
+fn named(task: TaskRecord) -> u32
+    ensures { λ r. ⌜ (r ≡ fourBytes (task .kind) (task .k) (task .i) (task .j)) × (task .kind < 256) × (task .k < 256) × (task .i < 256) × (task .j < 256) ⌝ }
+{
+    task.kind as u32 + task.k as u32 * 256 + task.i as u32 * 65536 + task.j as u32 * 16777216
+}
+
 // Whether a record differs from the one due in more than its mark, or its mark exceeds 4.
 fn differs(found: TaskRecord, due: TaskRecord) -> bool
     ensures { λ r. ⌜ r ≡ not (eqb (found .kind) (due .kind) && eqb (found .k) (due .k) && eqb (found .i) (due .i) && eqb (found .j) (due .j) && leb (found .mark) 4) ⌝ }
 {
-    let same_task = (found.kind == due.kind)
-        & (found.k == due.k)
-        & (found.i == due.i)
-        & (found.j == due.j);
-    !(same_task & (found.mark <= 4))
+    !((named(found) == named(due)) & (found.mark <= 4))
 }
 
 // Whether a call number of a record is above the run's, or its worker is none of `workers` many.
@@ -65,11 +69,13 @@ fn bad_records(z: Sizes, records: &[Record], workers: Slots, number: u32) -> boo
             return true;
         }
         let mut most = free_limits(z, found.mark);
-        if found.mark == 1 {
-            most = held_limits(z, workers, p);
-        }
-        if !most.held | (most.ties < found.ties as usize) {
-            return true;
+        if (found.mark == 1) | (found.ties != 0) {
+            if found.mark == 1 {
+                most = held_limits(z, workers, p);
+            }
+            if !most.held | (most.ties < found.ties as usize) {
+                return true;
+            }
         }
         calls += most.calls;
         a = next(z.tiles as u8, a);
