@@ -1,6 +1,7 @@
 -- A record against the one due, and refusal 4 as its tests. Assumes nothing.
-use Prim.Native.Nat.{ℕ, _-_, _*_, _<_}
-use mathlib.Core.Path.{_≡_, refl, sym, ap, _∙_}
+use Prim.Native.Nat.{ℕ, suc, _+_, _-_, _*_, _<_}
+use mathlib.Core.Path.{_≡_, refl, sym, ap, _∙_, subst}
+use mathlib.Core.Logic.{_⊎_, inl, inr, _≢_}
 use mathlib.Core.Bool.{Bool, true, false, not, _&&_, _||_}
 use mathlib.Core.List.{List, map}
 use native.Mathlib.Omega.{arith}
@@ -11,20 +12,21 @@ use Rattle.model.specs.declared.Sizes.{Sizes}
 use Rattle.model.specs.declared.TaskRecord.{TaskRecord}
 use Rattle.worker.specs.declared.Worker.{Worker}
 use Rattle.model.specs.Lists.{below, some, keep, total}
-use Rattle.model.specs.Task.{tasks}
+use Rattle.model.specs.Task.{Task, kindOf, kOf, iOf, jOf, tasks}
 use Rattle.model.specs.Plan.{plan, planOf}
 use Rattle.model.specs.Links.{task, mark}
 use Rattle.model.specs.Calls.{Lent, recordOf, marksOf, tiesOf}
 use Rattle.model.specs.Refusal.{holds, nextColumn, badRecord, badHold, tieLimit, badTies, badCalls, callLimit, badNumber, badWorker, badEntry, damaged}
 use Rattle.laws.proofs.Every.{getD-any}
 use borrow.Author.Tests.{eqb-true, eqb-false, eq-eqb, ltb-true, not-false}
-use Rattle.laws.proofs.Tests.{never, and-left, and-right, and-intro, or-false, false-or, false-if, some-either}
+use Rattle.laws.proofs.Tests.{never, and-left, and-right, and-intro, or-false, false-or, false-if, some-either, same-or-not}
 use Rattle.holds.specs.declared.Limits.{Limits}
 use Rattle.holds.specs.Allowed.{Allowed}
 use Rattle.records.specs.Records.{recordsFrom, marksFrom, tiesFrom, blank, crew, lent, fourBytes}
 use Rattle.records.proofs.Laws.{length-records, length-crew, get-mark, get-ties}
 use Rattle.links.specs.Closed.{key, In, taskAt, offset, number}
-use Rattle.links.proofs.Numbering.{task-is}
+use Rattle.damage.specs.Named.{nameOf, nameAt, Bytes}
+use Rattle.links.proofs.Numbering.{task-is, at-T-1, at-T-2, at-T-3, at-T-4}
 use Rattle.checks.specs.Checks.{recordsAlone, listsAlone, numbered}
 
 -- ---- records
@@ -47,6 +49,46 @@ module _ (a b c d a' b' c' d' : ℕ) (ha : a < 256) (hb : b < 256) (hc : c < 256
           let u = eqb-true c c' (and-right (eqb a a' && eqb b b') (eqb c c') three) in
           let v = eqb-true d d' (and-right (eqb a a' && eqb b b' && eqb c c') (eqb d d') f) in
           eqb-false (fourBytes a b c d) (fourBytes a' b' c' d') e (λ i. fourBytes (x i) (y i) (u i) (v i))))
+
+-- past the first task of a row only j grows
+pub name-next : (k i j : ℕ) → k + 1 < j → nameAt k i (j - 1) + 16777216 ≡ nameAt k i j
+unfolding recordOf kindOf kOf iOf jOf
+name-next k i j h = go (same-or-not i k)
+  where
+    now : j ≡ k → ⊥
+    now e = omega arith
+
+    then : j - 1 ≡ k → ⊥
+    then e = omega arith
+
+    go : (i ≡ k) ⊎ (i ≢ k) → nameAt k i (j - 1) + 16777216 ≡ nameAt k i j
+    go (inl e) =
+        let x : nameAt k i (j - 1) ≡ fourBytes 2 k 0 (j - 1) = ap (λ (t : Task). nameOf (recordOf t)) (at-T-2 (key k i (j - 1)) e then) in
+        let y : nameAt k i j ≡ fourBytes 2 k 0 j = ap (λ (t : Task). nameOf (recordOf t)) (at-T-2 (key k i j) e now) in
+        omega (arith, x, y)
+    go (inr d) =
+        let x : nameAt k i (j - 1) ≡ fourBytes 4 k i (j - 1) = ap (λ (t : Task). nameOf (recordOf t)) (at-T-4 (key k i (j - 1)) d then) in
+        let y : nameAt k i j ≡ fourBytes 4 k i j = ap (λ (t : Task). nameOf (recordOf t)) (at-T-4 (key k i j) d now) in
+        omega (arith, x, y)
+
+pub name-bytes : (k i j : ℕ) → k < 256 → i < 256 → j < 256 → Bytes (recordOf (taskAt (key k i j)))
+unfolding recordOf kindOf kOf iOf jOf
+name-bytes k i j hk hi hj = go (same-or-not i k) (same-or-not j k)
+  where
+    go : (i ≡ k) ⊎ (i ≢ k) → (j ≡ k) ⊎ (j ≢ k) → Bytes (recordOf (taskAt (key k i j)))
+    go (inl e) (inl f) = subst (λ (t : Task). Bytes (recordOf t)) (sym (at-T-1 (key k i j) e f)) (record { kind-fits = omega arith; k-fits = hk; i-fits = omega arith; j-fits = omega arith })
+    go (inl e) (inr f) = subst (λ (t : Task). Bytes (recordOf t)) (sym (at-T-2 (key k i j) e f)) (record { kind-fits = omega arith; k-fits = hk; i-fits = omega arith; j-fits = hj })
+    go (inr e) (inl f) = subst (λ (t : Task). Bytes (recordOf t)) (sym (at-T-3 (key k i j) e f)) (record { kind-fits = omega arith; k-fits = hk; i-fits = hi; j-fits = omega arith })
+    go (inr e) (inr f) = subst (λ (t : Task). Bytes (recordOf t)) (sym (at-T-4 (key k i j) e f)) (record { kind-fits = omega arith; k-fits = hk; i-fits = hi; j-fits = hj })
+
+-- the number of the task before, by the numbering
+pub name-before : (N k i j p : ℕ) → In N (key k i j) → number N (key k i j) ≡ p → k + 1 < j → (due : ℕ)
+    → ((q : ℕ) → suc q ≡ p → due ≡ nameOf (recordOf (task (tasks N) q))) → due ≡ nameAt k i (j - 1)
+unfolding number
+name-before N k i j p v e h due f =
+    let q : ℕ = number N (key k i (j - 1)) in
+    let w : In N (key k i (j - 1)) = record { row = v .row; column = omega arith; row-fits = v .row-fits; column-fits = omega (arith, v .column-fits) } in
+    f q (unfold number in omega (arith, e, h)) ∙ ap (λ (t : Task). nameOf (recordOf t)) (task-is N (key k i (j - 1)) w)
 
 -- the record found is not the one due, or its mark exceeds 4
 abbrev pub apart : TaskRecord → TaskRecord → Bool

@@ -5,13 +5,15 @@ ghost use mathlib.Core.List.{List};
 ghost use lib.Dec.{eqb, leb, ltb};
 ghost use lib.Ieee.{Float};
 ghost use lib.ListN.{length};
-ghost use Prim.Native.Nat.{_<_};
+ghost use Prim.Native.Nat.{_+_, _-_, _<_};
 ghost use Rattle.model.specs.Lengths.{ListsFit, RecordsFit};
 ghost use Rattle.model.specs.Lists.{below, some};
 ghost use Rattle.model.specs.Task.{tasks};
 ghost use Rattle.model.specs.Plan.{planOf};
 ghost use Rattle.model.specs.Refusal.{badRecord, badHold, badTies, badCalls, badNumber, damaged as isDamaged};
-ghost use Rattle.records.specs.Records.{lent, fourBytes};
+ghost use Rattle.records.specs.Records.{lent};
+ghost use Rattle.model.specs.declared.TaskRecord.{TaskRecord as SomeRecord};
+ghost use Rattle.damage.specs.Named.{nameOf, nameAt, Bytes};
 ghost use Rattle.checks.specs.Checks.{Sized, numbered};
 use entries::bad_entries;
 use holds::free_limits;
@@ -27,18 +29,30 @@ use waiting_records::record_of;
 use worker::Slots;
 use workers::bad_workers;
 
-// Kind, k, i and j of a record as one number, so that a record is compared at once.
+// Kind, k, i and j of a record as one number.
 fn named(task: TaskRecord) -> u32
-    ensures { λ r. ⌜ (r ≡ fourBytes (task .kind) (task .k) (task .i) (task .j)) × (task .kind < 256) × (task .k < 256) × (task .i < 256) × (task .j < 256) ⌝ }
+    ensures { λ r. ⌜ (r ≡ nameOf task) × (task .kind < 256) × (task .k < 256) × (task .i < 256) × (task .j < 256) ⌝ }
 {
     task.kind as u32 + task.k as u32 * 256 + task.i as u32 * 65536 + task.j as u32 * 16777216
 }
 
-// Whether a record differs from the one due in more than its mark, or its mark exceeds 4.
-fn differs(found: TaskRecord, due: TaskRecord) -> bool
-    ensures { λ r. ⌜ r ≡ not (eqb (found .kind) (due .kind) && eqb (found .k) (due .k) && eqb (found .i) (due .i) && eqb (found .j) (due .j) && leb (found .mark) 4) ⌝ }
+// That number of the task with the triple a, where `before` is the number of the task before it: within a row only j grows.
+fn named_after(a: Triple, before: u32) -> u32
+    requires { ⌜ (a .k + 1 < a .j → before ≡ nameAt (a .k) (a .i) (a .j - 1)) ⌝ }
+    ensures { λ r. ⌜ r ≡ nameAt (a .k) (a .i) (a .j) ⌝ }
 {
-    !((named(found) == named(due)) & (found.mark <= 4))
+    if a.k as u32 + 1 < a.j as u32 {
+        return before + 16777216;
+    }
+    named(record_of(a))
+}
+
+// Whether a record is not that of the task with this number, or its mark exceeds 4.
+fn differs(found: TaskRecord, due: u32) -> bool
+    ensures { λ r. ⌜ ((task : SomeRecord) → Bytes task → due ≡ nameOf task
+        → r ≡ not (eqb (found .kind) (task .kind) && eqb (found .k) (task .k) && eqb (found .i) (task .i) && eqb (found .j) (task .j) && leb (found .mark) 4)) ⌝ }
+{
+    !((named(found) == due) & (found.mark <= 4))
 }
 
 // Whether a call number of a record is above the run's, or its worker is none of `workers` many.
@@ -62,8 +76,9 @@ fn bad_records(z: Sizes, records: &[Record], workers: Slots, number: u32) -> boo
     let mut a = Triple { k: 0, i: 0, j: 0 };
     let mut p = 0;
     let mut calls = 0;
+    let mut due = 0;
     while p < count {
-        let due = record_of(a);
+        due = named_after(a, due);
         let found = record_at(records, p);
         if differs(found, due) | bad_calls(found, number, z.workers) {
             return true;

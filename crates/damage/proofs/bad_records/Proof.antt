@@ -1,6 +1,6 @@
 -- The triple kept beside p is that of task p; what is left to search gives the whole search's answer, and the calls are the sum of the limits so far.
 -- Assumes nothing.
-use Prim.Native.Nat.{ℕ, _+_, _-_, _*_, _≤_, _<_}
+use Prim.Native.Nat.{ℕ, suc, _+_, _-_, _*_, _≤_, _<_}
 use mathlib.Core.Bool.{Bool, true, false, not, _||_}
 use mathlib.Core.Logic.{⊎-elim}
 use mathlib.Core.Path.{_≡_, refl, sym, ap, _∙_, subst}
@@ -13,12 +13,15 @@ use lib.ListN.{length}
 use borrow.Author.Needs.{needs}
 use borrow.Author.Tests.{eqb-false}
 use Rattle.model.specs.declared.TaskRecord.{TaskRecord}
-use Rattle.model.specs.Task.{tasks}
+use Rattle.model.specs.Task.{Task, tasks}
 use Rattle.model.specs.Plan.{planOf}
-use Rattle.model.specs.Links.{mark}
+use Rattle.model.specs.Links.{task, mark}
+use Rattle.model.specs.Calls.{recordOf}
 use Rattle.model.specs.Refusal.{callLimit}
 use Rattle.model.specs.Lists.{run, below, some, total}
-use Rattle.links.specs.Closed.{key, In, number}
+use Rattle.links.specs.Closed.{key, In, taskAt, number}
+use Rattle.links.proofs.Numbering.{task-is}
+use Rattle.damage.specs.Named.{nameOf, Bytes}
 use Rattle.laws.proofs.Searches.{some-begins, some-stops, some-goes-on, some-ends}
 use Rattle.laws.proofs.Tests.{or-false}
 use Rattle.laws.proofs.Totals.{total-zero, total-last}
@@ -26,18 +29,19 @@ use Rattle.task_counts.proofs.Laws.{few-tasks}
 use Rattle.records.specs.Records.{marksFrom}
 use Rattle.records.proofs.Laws.{get-mark}
 use Rattle.holds.specs.Allowed.{Allowed}
-use Rattle.damage.proofs.Laws.{record-bad, state, bad, outer, inner, bad-outer, bad-inner, not-bad, quiet, calls-bad, hold-by, ties-by, calls-by, found-bad, found-none, number-first}
+use Rattle.damage.proofs.Laws.{name-bytes, name-before, record-bad, state, bad, outer, inner, bad-outer, bad-inner, not-bad, quiet, calls-bad, hold-by, ties-by, calls-by, found-bad, found-none, number-first}
 use Rattle.damage.proofs.bad_records.Statement.{statement}
 use Rattle.damage.proofs.bad_records.Tie as tie
 
 abbrev Inv-loop : tie.InvT-loop
-Inv-loop z records workers n count a₀ p₀ calls₀ a p calls =
+Inv-loop z records workers n count a₀ p₀ calls₀ due₀ a p calls due =
     (p ≤ count) × (number (z .tiles) (key (a .k) (a .i) (a .j)) ≡ p) × (p < count → In (z .tiles) (key (a .k) (a .i) (a .j)))
     × (some (bad z records workers n) (run p (count - p)) ≡ some (bad z records workers n) (below (length (tasks (z .tiles)))))
     × (calls ≡ total (map (callLimit (planOf z) (state z records workers n)) (below p))) × (calls ≤ p * 8161)
+    × ((q : ℕ) → suc q ≡ p → due ≡ nameOf (recordOf (task (tasks (z .tiles)) q)))
 
 abbrev μ-loop : tie.MeasureT-loop
-μ-loop z records workers n count a₀ p₀ calls₀ a p calls = count - p
+μ-loop z records workers n count a₀ p₀ calls₀ due₀ a p calls due = count - p
 
 task-count-requires : tie.Need-task-count-requires Inv-loop μ-loop
 task-count-requires c κs = c .pre .0 .few-tiles
@@ -51,10 +55,13 @@ loop-holds c =
       some-begins _ _ ∙ ap (λ (n : ℕ). some (bad (a .z) (now (a .records)) (a .workers) (a .number)) (below n)) (c .task-count .ensures),
       sym (total-zero _),
       omega arith,
+      λ q e. absurd (omega (arith, e)),
     )
 
-record-of-requires : tie.Need-record-of-requires Inv-loop μ-loop
-record-of-requires c κs = search needs
+named-after-requires : tie.Need-named-after-requires Inv-loop μ-loop
+named-after-requires c κs = λ h.
+    let i = c .before .loop .inv in
+    name-before (c .before .before .before .args .z .tiles) _ _ _ _ (i .2 (c .loop-test .taken)) (i .1) h _ (i .6)
 
 record-at-requires : tie.Need-record-at-requires Inv-loop μ-loop
 record-at-requires c κs = omega (arith, c .before .before .before .task-count .ensures, c .before .before .before .before .pre .1)
@@ -71,12 +78,20 @@ module _ (c : tie.After-bad-calls Inv-loop μ-loop) where
   long : c .before .before .before .before .before .loop .p < length (now (c .before .before .before .before .before .before .before .args .records))
   long = omega (arith, c .before .before .before .before .loop-test .taken, c .before .before .before .before .before .before .task-count .ensures, c .before .before .before .before .before .before .before .pre .1)
 
+  small : In (c .before .before .before .before .before .before .before .args .z .tiles) (key (c .before .before .before .before .before .loop .a .k) (c .before .before .before .before .before .loop .a .i) (c .before .before .before .before .before .loop .a .j))
+  small = c .before .before .before .before .before .loop .inv .2 (c .before .before .before .before .loop-test .taken)
+
+  due-bytes : Bytes (recordOf (taskAt (key (c .before .before .before .before .before .loop .a .k) (c .before .before .before .before .before .loop .a .i) (c .before .before .before .before .before .loop .a .j))))
+  due-bytes =
+      let n = c .before .before .before .before .before .before .before .pre .0 .few-tiles in
+      name-bytes _ _ _ (omega (arith, small .row, small .row-fits, n)) (omega (arith, small .row-fits, n)) (omega (arith, small .column-fits, n))
+
   outer-tested : (c .before .differs .result || c .bad-calls .result)
       ≡ outer (c .before .before .before .before .before .before .before .args .z) (now (c .before .before .before .before .before .before .before .args .records)) (c .before .before .before .before .before .before .before .args .workers) (c .before .before .before .before .before .before .before .args .number) (c .before .before .before .before .before .loop .p)
   outer-tested =
       let a = c .before .before .before .before .before .before .before .args in
-      let x = record-bad (a .z) (now (a .records)) _ _ _ _ long (c .before .before .before .before .before .loop .inv .2 (c .before .before .before .before .loop-test .taken)) (c .before .before .before .before .before .loop .inv .1)
-      _ _ (c .before .before .record-at .ensures) (c .before .before .before .record-of .ensures) _ (c .before .differs .ensures) (a .workers) (a .number) in
+      let x = record-bad (a .z) (now (a .records)) _ _ _ _ long small (c .before .before .before .before .before .loop .inv .1)
+      _ _ (c .before .before .record-at .ensures) refl _ (c .before .differs .ensures _ due-bytes (c .before .before .before .named-after .ensures)) (a .workers) (a .number) in
       let y = calls-bad (a .z) (now (a .records)) (a .workers) (a .number) _ long _ (c .before .before .record-at .ensures) _ (c .bad-calls .ensures) in
       λ i. x i || y i
 
@@ -178,6 +193,11 @@ loop-again c =
       some-goes-on _ _ _ _ more (inv .3) (not-bad (a .z) (now (a .records)) (a .workers) (a .number) p (sym (outer-tested (c .before .before .before .before .before .before .before .before)) ∙ c .before .before .before .before .before .before .before .if1 .left) (most .1)),
       omega (arith, inv .4, with-p, its-calls),
       omega (arith, inv .5, most .0 .few),
+      λ q e.
+          let same : q ≡ p = omega (arith, e) in
+          c .before .before .before .before .before .before .before .before .before .before .before .named-after .ensures
+          ∙ ap (λ (t : Task). nameOf (recordOf t)) (sym (task-is (a .z .tiles) (key (c .before .before .before .before .before .before .before .before .before .before .before .before .before .loop .a .k) (c .before .before .before .before .before .before .before .before .before .before .before .before .before .loop .a .i) (c .before .before .before .before .before .before .before .before .before .before .before .before .before .loop .a .j)) (inv .2 more)))
+          ∙ ap (λ (k : ℕ). nameOf (recordOf (task (tasks (a .z .tiles)) k))) (inv .1 ∙ sym same),
     )
 
 returns-3 : tie.Need-returns-3 Inv-loop μ-loop
@@ -196,7 +216,7 @@ bad-records-spec =
     μ-loop
     task-count-requires
     loop-holds
-    record-of-requires
+    named-after-requires
     record-at-requires
     differs-requires
     bad-calls-requires

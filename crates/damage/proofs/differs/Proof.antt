@@ -10,16 +10,12 @@ use Rattle.damage.proofs.differs.Tie as tie
 named-requires : tie.Need-named-requires
 named-requires c κs = search needs
 
-named-requires-2 : tie.Need-named-requires-2
-named-requires-2 c κs = search needs
-
 returns : tie.Need-returns
-returns c =
-    let a = c .before .before .before .args in
-    let x = c .before .before .named .ensures in
-    let y = c .before .named2 .ensures in
-    let same = bytes-same (a .found .kind) (a .found .k) (a .found .i) (a .found .j) (a .due .kind) (a .due .k) (a .due .i) (a .due .j) (x .1) (x .2) (x .3) (x .4) (y .1) (y .2) (y .3) (y .4) in
-    (λ t. not (eqb (x .0 t) (y .0 t) && leb (a .found .mark) 4)) ∙ (λ t. not (same t && leb (a .found .mark) 4))
+returns c = λ t b e.
+    let a = c .before .before .args in
+    let x = c .before .named .ensures in
+    let same = bytes-same (a .found .kind) (a .found .k) (a .found .i) (a .found .j) (t .kind) (t .k) (t .i) (t .j) (x .1) (x .2) (x .3) (x .4) (b .kind-fits) (b .k-fits) (b .i-fits) (b .j-fits) in
+    (λ i. not (eqb (x .0 i) (e i) && leb (a .found .mark) 4)) ∙ (λ i. not (same i && leb (a .found .mark) 4))
 
 pub differs-spec : {M : Type 1} → statement M
-differs-spec = tie.close (tie.spec named-requires named-requires-2 returns)
+differs-spec = tie.close (tie.spec named-requires returns)
