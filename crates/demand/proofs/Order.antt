@@ -1,4 +1,4 @@
--- K9: in one run from an opening no two takes or finishes share a call number, and a linked task finishes before the later one is taken.
+-- K9: the numbers of takes and ends are all different, and a task's take comes after the ends of those that it waits for.
 -- Assumes nothing.
 use Prim.Native.Nat.{ℕ, zero, suc, _+_, _≤_, _<_}
 use mathlib.Core.Bool.{Bool, true, false, cond, not}

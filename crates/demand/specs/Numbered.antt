@@ -60,7 +60,7 @@ unfoldable pub distinct : List ℕ → Bool
 distinct [] = true
 distinct (x ∷ xs) = every (λ y. not (eqb x y)) xs && distinct xs
 
--- in the state s no two takes or finishes share a call number, and a linked task finishes before the later one is taken
+-- in the state s the numbers of takes and ends are all different, and a task's take comes after the ends of those that it waits for
 pub record InOrder (ts : List Task) (s : Lent) : Type 0 where
   pub apart : distinct (keep (λ n. not (eqb n 0)) (tookNumbers s ++ endedNumbers s)) ≡ true
   pub linked-first : (p q : ℕ) → p < q → q < length ts → linked ts p q ≡ true → 0 < getD (tookNumbers s) q 0
