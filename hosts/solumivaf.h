@@ -2,18 +2,11 @@
  * Linux). hosts/c/return.c is a host to look at.
  *
  * Sizes: a system has N = `tiles` tiles a side, 1 to 16, each with t = `side` numbers a side, 1 to 16, and W = `workers` workers, 1 to 32.
- * b = `block` is the inner block size, a divisor of t: T-3 and T-4 work panels of b columns, at the last of which T-3 turns to what is right of the
- * panel and T-4 does all of the panel. Diagonal, elements above it, marks, outcome and solved answers are the same for every b; only the places of
- * multipliers below the diagonal differ and, where a task fails, its column, its ties and its calls. One b goes with a system from its opening to its
- * last solve. With b = 1 no slice is needed. A larger b makes a run shorter where few multipliers are zero, and can make it longer where many are; a
- * solve takes longer with b = 16.
  * Workers, tasks, rows, columns and offsets count from 0.
  *
  * Buffers, all lent by the caller, and their lengths:
  *   matrix    (N * t)^2 numbers: tile after tile, (0,0), (0,1) and so on, each tile row by row
  *   lists     N^2 * t bytes: a row list of t entries for each tile, in the same order
- *   slice     with b = 1 none, a length of 0; otherwise t * b numbers for each tile below the diagonal, in tile order, (1,0), (2,0), (2,1) and so on: the
- *             multipliers of T-3's upper rows. N * (N - 1) / 2 * t * b in all, for whatever b is told
  *   records   N * (N + 1) * (2 * N + 1) / 6, one for each task
  *   busy, task, column   SOLUMIVAF_SLOTS each: slot v says whether worker v is busy, its task and its next column. The first `count` are the
  *             workers lent, and W is their number; the others are not looked at and stay as they are. A byte of `busy` is 0 for an idle
@@ -42,8 +35,7 @@
  *       what the task's state allows (t * t for a done or failed task, t times its next column for a taken one, 0 otherwise); the run's number is
  *       above what all tasks allow (t + 1 for each finished one, 1 and its next column for each taken one), or below the number of a call in a
  *       record; the worker in a record is not below W; an entry of a list is too large; or a number that the call needs isn't finite. Worker and
- *       calls are looked at in every record, that of an unfinished task too. A column needs the tiles of its task, and of the slice the parts of
- *       those below the diagonal; a run and a solve need all numbers of matrix and slice; a take needs none
+ *       calls are looked at in every record, that of an unfinished task too
  *    5  the worker named does not exist, is busy and cannot take, or is idle and has no column to do; the worker
  *    6  the task named does not exist
  *    7  the task named is not ready; the task
@@ -55,7 +47,6 @@
  *   13  a frame of a file comes out of order or is of another kind than the one due; the line
  *   14  a file ends too early or goes on too long; the first line that is missing or too many
  *   15  the text lent to a writer is too short
- *   17  block is zero or does not divide side. Comes after 3 at an opening, and before 4 elsewhere; an outcome does not look at it
  * Where no place is named it is 0. */
 #ifndef SOLUMIVAF_H
 #define SOLUMIVAF_H
@@ -69,7 +60,7 @@ extern "C" {
 #endif
 
 /* The version of this interface: another one where a function or a struct that crosses has changed. */
-#define SOLUMIVAF_VERSION 6
+#define SOLUMIVAF_VERSION 5
 
 /* Limits: the most tiles a side, numbers a side of a tile, and tasks; the most workers, which is the number of worker slots. */
 #define SOLUMIVAF_MOST_TILES 16
@@ -77,12 +68,10 @@ extern "C" {
 #define SOLUMIVAF_MOST_TASKS 1496
 #define SOLUMIVAF_SLOTS 32
 
-/* The lengths listed above, by N, t and b in range. An argument is computed more than once. */
+/* The lengths listed above, by N and t in range. An argument is computed more than once. */
 #define SOLUMIVAF_RIGHT_LENGTH(tiles, side) ((size_t)(tiles) * (size_t)(side))
 #define SOLUMIVAF_MATRIX_LENGTH(tiles, side) (SOLUMIVAF_RIGHT_LENGTH(tiles, side) * SOLUMIVAF_RIGHT_LENGTH(tiles, side))
 #define SOLUMIVAF_LISTS_LENGTH(tiles, side) ((size_t)(tiles) * SOLUMIVAF_RIGHT_LENGTH(tiles, side))
-#define SOLUMIVAF_SLICE_LENGTH(tiles, side, block) \
-    ((block) == 1 ? (size_t)0 : (size_t)(tiles) * ((size_t)(tiles) - 1) / 2 * (size_t)(side) * (size_t)(block))
 #define SOLUMIVAF_RECORDS_LENGTH(tiles) ((size_t)(tiles) * ((size_t)(tiles) + 1) * (2 * (size_t)(tiles) + 1) / 6)
 #define SOLUMIVAF_SYSTEM_LENGTH(tiles, side) (7 + (size_t)(tiles) * (size_t)(tiles) * (7 + 16 * (size_t)(side) * (size_t)(side)))
 #define SOLUMIVAF_RESULT_LENGTH(tiles, side) \
@@ -104,8 +93,7 @@ enum {
     SOLUMIVAF_REFUSED_MALFORMED = 12,
     SOLUMIVAF_REFUSED_OUT_OF_ORDER = 13,
     SOLUMIVAF_REFUSED_END = 14,
-    SOLUMIVAF_REFUSED_SHORT_TEXT = 15,
-    SOLUMIVAF_REFUSED_BLOCK = 17
+    SOLUMIVAF_REFUSED_SHORT_TEXT = 15
 };
 
 /* The kinds of tasks: T-1 to T-4. */
@@ -217,45 +205,40 @@ static inline int solumivaf_arithmetic(void) {
 /* The SOLUMIVAF_VERSION of the header that the library was built for. A host compares it with its own before any other call. */
 size_t solumivaf_version(void);
 
-/* Starts the work on a matrix, which it reads and leaves as it is. Sets the lists to 0, the slice to +0, the records to the tasks in order, all waiting and with no
+/* Starts the work on a matrix, which it reads and leaves as it is. Sets the lists to 0, the records to the tasks in order, all waiting and with no
  * ties, worker or calls, the workers to idle and the run's number to 0; what these held before does not matter. */
-solumivaf_told solumivaf_open(size_t tiles, size_t side, size_t workers, size_t block, const double *matrix, size_t matrix_length,
-                              uint8_t *lists, size_t lists_length, double *slice, size_t slice_length, solumivaf_record *records,
-                              size_t records_length, uint8_t *busy, uint16_t *task, uint8_t *column, size_t count, uint32_t *number);
+solumivaf_told solumivaf_open(size_t tiles, size_t side, size_t workers, const double *matrix, size_t matrix_length, uint8_t *lists,
+                              size_t lists_length, solumivaf_record *records, size_t records_length, uint8_t *busy, uint16_t *task,
+                              uint8_t *column, size_t count, uint32_t *number);
 
 /* Worker w takes task p. Adds 1 to the run's number, and writes it into the task's record with the mark; writes the worker's slot. */
-solumivaf_told solumivaf_take(size_t tiles, size_t side, size_t workers, size_t block, const double *matrix, size_t matrix_length,
-                              const uint8_t *lists, size_t lists_length, const double *slice, size_t slice_length,
-                              solumivaf_record *records, size_t records_length, uint8_t *busy, uint16_t *task, uint8_t *column,
-                              size_t count, uint32_t *number, size_t w, size_t p);
+solumivaf_told solumivaf_take(size_t tiles, size_t side, size_t workers, const double *matrix, size_t matrix_length, const uint8_t *lists,
+                              size_t lists_length, solumivaf_record *records, size_t records_length, uint8_t *busy, uint16_t *task,
+                              uint8_t *column, size_t count, uint32_t *number, size_t w, size_t p);
 
-/* Worker w does the next column of its task. Adds 1 to the run's number; writes tiles, a list and a part of the slice of that task and the worker's slot; where the column
+/* Worker w does the next column of its task. Adds 1 to the run's number; writes tiles and a list of that task and the worker's slot; where the column
  * is completed, adds the ties of its pivot search to the task's sum; and where the task ends, writes its mark, the worker and the run's number into
  * its record. */
-solumivaf_told solumivaf_column(size_t tiles, size_t side, size_t workers, size_t block, double *matrix, size_t matrix_length,
-                                uint8_t *lists, size_t lists_length, double *slice, size_t slice_length, solumivaf_record *records,
-                                size_t records_length, uint8_t *busy, uint16_t *task, uint8_t *column, size_t count, uint32_t *number,
-                                size_t w);
+solumivaf_told solumivaf_column(size_t tiles, size_t side, size_t workers, double *matrix, size_t matrix_length, uint8_t *lists,
+                                size_t lists_length, solumivaf_record *records, size_t records_length, uint8_t *busy, uint16_t *task,
+                                uint8_t *column, size_t count, uint32_t *number, size_t w);
 
 /* Takes and columns, worker after worker from 0 on, until all tasks are finished or `budget` calls are made. Any budget is allowed: UINT64_MAX
  * runs to the end. Writes what these calls write. */
-solumivaf_told solumivaf_run(size_t tiles, size_t side, size_t workers, size_t block, double *matrix, size_t matrix_length,
-                             uint8_t *lists, size_t lists_length, double *slice, size_t slice_length, solumivaf_record *records,
-                             size_t records_length, uint8_t *busy, uint16_t *task, uint8_t *column, size_t count, uint32_t *number,
-                             uint64_t budget);
+solumivaf_told solumivaf_run(size_t tiles, size_t side, size_t workers, double *matrix, size_t matrix_length, uint8_t *lists,
+                             size_t lists_length, solumivaf_record *records, size_t records_length, uint8_t *busy, uint16_t *task,
+                             uint8_t *column, size_t count, uint32_t *number, uint64_t budget);
 
 /* The outcome by the marks and the diagonal, or the lowest unfinished task. Writes nothing, and tests nothing but sizes and lengths. */
-solumivaf_told solumivaf_outcome(size_t tiles, size_t side, size_t workers, size_t block, const double *matrix, size_t matrix_length,
-                                 const uint8_t *lists, size_t lists_length, const double *slice, size_t slice_length,
-                                 const solumivaf_record *records, size_t records_length, const uint8_t *busy, const uint16_t *task,
-                                 const uint8_t *column, size_t count, uint32_t number);
+solumivaf_told solumivaf_outcome(size_t tiles, size_t side, size_t workers, const double *matrix, size_t matrix_length,
+                                 const uint8_t *lists, size_t lists_length, const solumivaf_record *records, size_t records_length,
+                                 const uint8_t *busy, const uint16_t *task, const uint8_t *column, size_t count, uint32_t number);
 
 /* Solves a factored system for one right side. Writes only the answers, and these only where nothing is refused. */
-solumivaf_told solumivaf_solve(size_t tiles, size_t side, size_t workers, size_t block, const double *matrix, size_t matrix_length,
-                               const uint8_t *lists, size_t lists_length, const double *slice, size_t slice_length,
-                               const solumivaf_record *records, size_t records_length, const uint8_t *busy, const uint16_t *task,
-                               const uint8_t *column, size_t count, uint32_t number, const double *right, size_t right_length,
-                               double *answers, size_t answers_length);
+solumivaf_told solumivaf_solve(size_t tiles, size_t side, size_t workers, const double *matrix, size_t matrix_length, const uint8_t *lists,
+                               size_t lists_length, const solumivaf_record *records, size_t records_length, const uint8_t *busy,
+                               const uint16_t *task, const uint8_t *column, size_t count, uint32_t number, const double *right,
+                               size_t right_length, double *answers, size_t answers_length);
 
 /* Tells N and t by line 1 of a text, of a system or of a result alike, so that a host knows what to lend to a reading. Looks at nothing after line 1
  * and writes nothing. Refusals are those that a reading has for line 1. */

@@ -5,7 +5,7 @@ usage: python3 -B tools/bench_walks.py     (from anywhere)
 
 Such a function makes the workers, hands everything lent on to crates/CALL_call, and tells a number. A walk is written as in call_walks.py.
 """
-from call_walks import ROOT, SLICE, Walk, answers, callee, exit_steps, lists, matrix, multipliers, nested, nth, number, product, records, right, save, seps, sizes, sub, theorem, uses_of
+from call_walks import ROOT, SLICE, Walk, answers, callee, exit_steps, lists, matrix, nested, nth, number, product, records, right, save, seps, sizes, sub, theorem, uses_of
 
 CRATE = "bench_structs"
 WIDTH = {"usize": "w64", "u64": "w64", "u32": "w32", "u16": "w16", "u8": "w8"}
@@ -161,7 +161,7 @@ class Call:
     def core(self):
         """how the call is made"""
         s = self.s
-        self.order = self.params[:5] + [None] + self.told_of
+        self.order = self.params[:4] + [None] + self.told_of
         self.given = lambda t: nested([t if p is None else reference(p) if p.kind == "slice" else "z" if p.kind == "sizes" else p.name for p in self.order])
         s.append("  -- `%s_call::%s`\n  abbrev to-co : Workers → Val → Core 𝓤 H A mem run .Ghost\n  to-co t v = ((%s, %s, tt, %s, %s), tt)\n\n" % (self.name, self.name, self.lifetimes, self.shares, self.given("t"), nested(["v ∷ []" if p is None else values(p) for p in self.order])))
         s.append("  goes-co : (t : Workers) (v : Val) → ent 𝓤 (sep 𝓤 %s (sep 𝓤 %s (sem 𝓤 H A (%s .own t (v ∷ []))))) (Core 𝓤 H A mem run .pre (to-co t v))\n" % (seps(["(A .lft κ%s q%s)" % (k, k) for k in self.indices]), seps(["(sem 𝓤 H A %s)" % x for x in self.borrows]), WORKERS))
@@ -183,7 +183,7 @@ class Call:
                 c.passes(SLICE[p.name][4])
             else:
                 c.emit(own_value(p))
-        for x in ("array", "Rec", "Sli", "Lis", "Mat"):
+        for x in ("array", "Rec", "Lis", "Mat"):
             c.passes(x)
         s.append("".join(c.out).replace(" $ \n", " $\n").rstrip() + "\n      owned ! Sz.the-row (Is Sz.the-row) (LL.makes Sz.the-type Sz′.the-plain 𝓤 H A) z _ z-is $ fjoin ! $ done !)\n\n")
         s.append("  abbrev Told : (t : Workers) (r : %s) %s → Type 0\n  Told t r %s = %s\n\n" % (self.reply, " ".join("(%s : List %s)" % (v, SLICE[p.name][1]) for p, v in self.ends), " ".join(v for _, v in self.ends), self.call["told"]))
@@ -254,7 +254,7 @@ class Call:
     def makes_workers(self):
         """the walk over the workers"""
         g = self.g
-        self.lend(("matrix", "lists", "slice", "records"))
+        self.lend(("matrix", "lists", "records"))
         g.emit("-- the workers")
         g.line()
         g.front("true", "nothing ! $ ")
@@ -400,16 +400,16 @@ use Rattle·bench_structs·proofs.proofs.Laws.{replies, ran, solves, outcome-tol
 """
 
 
-def changes(call, m, l, x, law="replies", slots="idles (z .workers) number", number="answerNumber"):
-    """What a call's reply says, what the function's contract says, and how the one follows from the other. A take leaves matrix, lists and slice."""
-    left = "%s (whole ms ls ss ys (%s))" % (call, slots)
+def changes(call, m, l, law="replies", slots="idles (z .workers) number", number="answerNumber"):
+    """What a call's reply says, what the function's contract says, and how the one follows from the other. A take leaves matrix and lists."""
+    left = "%s (whole ms ls ys (%s))" % (call, slots)
     fact = ["(r ≡ %s (%s .answer))" % (number, left), "(zs ≡ %s .left .records)" % left]
-    follows = "%s ms %s ls %s ss %s ys (%s) t₀ (%s) e₀ t₂ (%s) t₁ (e₁ .0) e₂" % (law, m if m == "ms" else "(%s)" % nth("ws₁", 1), l if l == "ls" else "(%s)" % nth("ws₁", 2), x if x == "ss" else "(%s)" % nth("ws₁", 3), nth("ws₁", 4), slots, call)
-    if (m, l, x) == ("ms", "ls", "ss"):
+    follows = "%s ms %s ls %s ys (%s) t₀ (%s) e₀ t₂ (%s) t₁ (e₁ .0) e₂" % (law, m if m == "ms" else "(%s)" % nth("ws₁", 1), l if l == "ls" else "(%s)" % nth("ws₁", 2), nth("ws₁", 3), slots, call)
+    if (m, l) == ("ms", "ls"):
         follows = "let x = %s in (x .0, x .2)" % follows
     else:
-        fact.insert(1, "(_≡_ {A = Buffers} (record { matrix = %s; lists = %s; slice = %s }) (%s .left .buffers))" % (m, l, x, left))
-    told = "(record { answer = r .answer; left = whole %s %s %s zs (r .workers) } ≡ %s (whole ms ls ss ys t)) × OthersKept t (r .workers)" % (m, l, x, call)
+        fact.insert(1, "(_≡_ {A = Buffers} (record { matrix = %s; lists = %s }) (%s .left .buffers))" % (m, l, left))
+    told = "(record { answer = r .answer; left = whole %s %s zs (r .workers) } ≡ %s (whole ms ls ys t)) × OthersKept t (r .workers)" % (m, l, call)
     return dict(fact=" × ".join(fact), told=told, law=follows, slots=slots, number=number + " (%s .answer)")
 
 
@@ -417,25 +417,25 @@ W, P, TASK, COLUMN, BUDGET = number("w", "usize"), number("p", "usize"), number(
 NUMBER = number("number", "u32")
 RIGHT, ANSWERS = right(), answers()
 IDLE = ("idle_workers", [sizes(), NUMBER])
-OUTCOME = "outcomeCall z (whole ms ls ss ys %s)"
-SOLVED = "solveCall z (whole ms ls ss ys %s) bs us"
+OUTCOME = "outcomeCall z (whole ms ls ys %s)"
+SOLVED = "solveCall z (whole ms ls ys %s) bs us"
 CALLS = [
-    dict(name="open", params=[sizes(), matrix(False), lists(True), multipliers(True), records(True), NUMBER], passes=[], made=IDLE, reply="CallReply", result="u8", tell="number_in",
-         locals=dict(top=14, reply=7, lists=8, slice=10, records=12, slots=14), **changes("openCall z", "ms", "ls′", "ss′")),
-    dict(name="take", params=[sizes(), matrix(False), lists(False), multipliers(False), records(True), NUMBER, W, P], passes=[W, P], made=IDLE, reply="CallReply", result="u8", tell="number_in",
-         locals=dict(top=12, reply=9, records=10, slots=12), **changes("takeCall z w p", "ms", "ls", "ss")),
-    dict(name="column", params=[sizes(), matrix(True), lists(True), multipliers(True), records(True), NUMBER, W, TASK, COLUMN], passes=[W], made=("one_holding", [sizes(), NUMBER, TASK, COLUMN]), reply="CallReply", result="u8", tell="number_in",
-         locals=dict(top=19, reply=10, matrix=11, lists=13, slice=15, records=17, slots=19), **changes("columnCall z w", "ms′", "ls′", "ss′", slots="oneHolding (z .workers) number p c")),
-    dict(name="run", params=[sizes(), matrix(True), lists(True), multipliers(True), records(True), NUMBER, BUDGET], passes=[BUDGET], made=IDLE, reply="RunReply", result="u64", tell="calls_in",
-         locals=dict(top=17, reply=8, matrix=9, lists=11, slice=13, records=15, slots=17), **changes("runCall z budget", "ms′", "ls′", "ss′", law="ran", number="callsOf")),
-    dict(name="outcome", params=[sizes(), matrix(False), lists(False), multipliers(False), records(False), NUMBER], passes=[], made=IDLE, reply="OutcomeAnswer", result="u8", tell="outcome_number",
-         locals=dict(top=8, reply=7, slots=8), slots="idles (z .workers) number", number="outcomeTells %s",
+    dict(name="open", params=[sizes(), matrix(False), lists(True), records(True), NUMBER], passes=[], made=IDLE, reply="CallReply", result="u8", tell="number_in",
+         locals=dict(top=11, reply=6, lists=7, records=9, slots=11), **changes("openCall z", "ms", "ls′")),
+    dict(name="take", params=[sizes(), matrix(False), lists(False), records(True), NUMBER, W, P], passes=[W, P], made=IDLE, reply="CallReply", result="u8", tell="number_in",
+         locals=dict(top=11, reply=8, records=9, slots=11), **changes("takeCall z w p", "ms", "ls")),
+    dict(name="column", params=[sizes(), matrix(True), lists(True), records(True), NUMBER, W, TASK, COLUMN], passes=[W], made=("one_holding", [sizes(), NUMBER, TASK, COLUMN]), reply="CallReply", result="u8", tell="number_in",
+         locals=dict(top=16, reply=9, matrix=10, lists=12, records=14, slots=16), **changes("columnCall z w", "ms′", "ls′", slots="oneHolding (z .workers) number p c")),
+    dict(name="run", params=[sizes(), matrix(True), lists(True), records(True), NUMBER, BUDGET], passes=[BUDGET], made=IDLE, reply="RunReply", result="u64", tell="calls_in",
+         locals=dict(top=14, reply=7, matrix=8, lists=10, records=12, slots=14), **changes("runCall z budget", "ms′", "ls′", law="ran", number="callsOf")),
+    dict(name="outcome", params=[sizes(), matrix(False), lists(False), records(False), NUMBER], passes=[], made=IDLE, reply="OutcomeAnswer", result="u8", tell="outcome_number",
+         locals=dict(top=7, reply=6, slots=7), slots="idles (z .workers) number", number="outcomeTells %s",
          fact="r ≡ outcomeTells (%s)" % (OUTCOME % "(idles (z .workers) number)"), told="r ≡ " + OUTCOME % "t",
-         law="outcome-told ms ls ss ys t₀ (idles (z .workers) number) e₀ t₂ (outcomeCall z) t₁ e₁ e₂"),
-    dict(name="solve", params=[sizes(), matrix(False), lists(False), multipliers(False), records(False), NUMBER, RIGHT, ANSWERS], passes=[RIGHT, ANSWERS], made=IDLE, reply="Answer", result="u8", tell="number_of",
-         locals=dict(top=12, reply=9, slots=10, answers=11), slots="idles (z .workers) number", number="answerNumber %s",
+         law="outcome-told ms ls ys t₀ (idles (z .workers) number) e₀ t₂ (outcomeCall z) t₁ e₁ e₂"),
+    dict(name="solve", params=[sizes(), matrix(False), lists(False), records(False), NUMBER, RIGHT, ANSWERS], passes=[RIGHT, ANSWERS], made=IDLE, reply="Answer", result="u8", tell="number_of",
+         locals=dict(top=11, reply=8, slots=9, answers=10), slots="idles (z .workers) number", number="answerNumber %s",
          fact="(r ≡ answerNumber (%s .answer)) × (us′ ≡ %s .left)" % ((SOLVED % "(idles (z .workers) number)",) * 2), told="record { answer = r; left = us′ } ≡ " + SOLVED % "t",
-         law="solves ms ls ss ys t₀ (idles (z .workers) number) e₀ t₂ (λ (s : Lent). solveCall z s bs us) t₁ (%s) e₁ e₂" % nth("ws₁", 7)),
+         law="solves ms ls ys t₀ (idles (z .workers) number) e₀ t₂ (λ (s : Lent). solveCall z s bs us) t₁ (%s) e₁ e₂" % nth("ws₁", 6)),
 ]
 
 if __name__ == "__main__":

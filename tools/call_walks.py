@@ -69,10 +69,6 @@ def lists(mut):
     return Param("lists", "slice", mut)
 
 
-def multipliers(mut):
-    return Param("slice", "slice", mut)
-
-
 def records(mut):
     return Param("records", "slice", mut)
 
@@ -97,12 +93,11 @@ def answers():
 SLICE = {
     "matrix": ("₁", "Float", "f64", "ms", "Mat", "m", "ms′"),
     "lists": ("₂", "ℕ", "u8", "ls", "Lis", "ll", "ls′"),
-    "slice": ("₇", "Float", "f64", "ss", "Sli", "sr", "ss′"),
     "records": ("₃", "TaskRecord", "T.the-row", "ys", "Rec", "(rs γ₃)", "zs"),
     "right": ("₄", "Float", "f64", "bs", "Rig", "rr", None),
     "answers": ("₆", "Float", "f64", "us", "Ans", "aa", "us′"),
 }
-LIFETIME = {"₁": 0, "₂": 1, "₇": 2, "₃": 3, "₄": 4, "₆": 5}
+LIFETIME = {"₁": 0, "₂": 1, "₃": 2, "₄": 3, "₆": 4}
 
 
 def nth(x, i):
@@ -343,9 +338,9 @@ class Call:
     def lends(self):
         """what is owned at the start, and what the part gets: the flat slice and n stand where the records stood"""
         # the part's parameters: the flat slice and n stand where the records stood
-        self.part_args = ["z", "m", "ll", "sr", "(fl l ε X)", "n", "wk"] + self.arg[6:]
-        self.part_vals = ["LL.vals Sz.the-type Sz′.the-laws z", "s₁ ∷ []", "s₂ ∷ []", "s₇ ∷ []", "s₅ l ∷ []", "vint w64 n ∷ []", "LL.vals Wk.the-type Wk′.the-laws wk"] + self.vals_[6:]
-        self.mat, self.lis, self.sli = self.params[1], self.params[2], self.params[3]
+        self.part_args = ["z", "m", "ll", "(fl l ε X)", "n", "wk"] + self.arg[5:]
+        self.part_vals = ["LL.vals Sz.the-type Sz′.the-laws z", "s₁ ∷ []", "s₂ ∷ []", "s₅ l ∷ []", "vint w64 n ∷ []", "LL.vals Wk.the-type Wk′.the-laws wk"] + self.vals_[5:]
+        self.mat, self.lis = self.params[1], self.params[2]
         self.more = [p for p in self.slices if p.name in ("right", "answers")]
         self.ans = any(p.name == "answers" for p in self.more)
         self.indices = [SLICE[p.name][0] for p in self.slices]
@@ -357,23 +352,22 @@ class Call:
         self.part_lifetimes = nested(["ν ∷ []" if k == "₃" else "κ" + k for k in self.indices])
         self.part_shares = nested(["fullShare" if k == "₃" else "q" + k for k in self.indices])
         self.part_names = ["ν" if k == "₃" else "κ" + k for k in self.indices]
-        self.part_borrows = ["Mat", "Lis", "Sli"] + [SLICE[p.name][4] for p in self.more]
+        self.part_borrows = ["Mat", "Lis"] + [SLICE[p.name][4] for p in self.more]
         self.ms2 = "ms′" if self.mat.mut else "ms"
         self.ls2 = "ls′" if self.lis.mut else "ls"
-        self.ss2 = "ss′" if self.sli.mut else "ss"
-        self.extra = [p.name for p in self.params[6:]]
+        self.extra = [p.name for p in self.params[5:]]
         self.reply_mods = ("" if self.has_store else "use denote.Enum.Laws as EL\n") + "use Rattle·model.proofs.%s as Rp\nuse Rattle·model.proofs.%s.Laws as Rp′\n" % (self.reply, self.reply)
         said_of = self.call["said"]          # what the call's definition is applied to
         # with answers, the call's definition says what is left in them, and is told the right side and the answers last
         said = (lambda r: "record { answer = %s; left = us′ }" % r) if self.ans else (lambda r: r)
         self.told_too = "".join(" " + SLICE[p.name][3] for p in self.more)
-        self.part_fact = lambda r, m_, l_, s_, x_: ("(record { answer = %s .answer; left = allLent %s %s %s (upTo n %s) (%s .workers) } ≡ %s (allLent ms ls ss (upTo n X) wk)) × OthersKept wk (%s .workers)" % (r, m_, l_, s_, x_, r, said_of, r)) if self.has_store else "%s ≡ %s (allLent ms ls ss (upTo n X) wk)%s" % (said(r), said_of, self.told_too)
-        self.whole_fact = lambda r, m_, l_, s_, y_: ("(record { answer = %s .answer; left = whole %s %s %s %s (%s .workers) } ≡ %s (whole ms ls ss ys wk)) × OthersKept wk (%s .workers)" % (r, m_, l_, s_, y_, r, said_of, r)) if self.has_store else "%s ≡ %s (whole ms ls ss ys wk)%s" % (said(r), said_of, self.told_too)
+        self.part_fact = lambda r, m_, l_, x_: ("(record { answer = %s .answer; left = allLent %s %s (upTo n %s) (%s .workers) } ≡ %s (allLent ms ls (upTo n X) wk)) × OthersKept wk (%s .workers)" % (r, m_, l_, x_, r, said_of, r)) if self.has_store else "%s ≡ %s (allLent ms ls (upTo n X) wk)%s" % (said(r), said_of, self.told_too)
+        self.whole_fact = lambda r, m_, l_, y_: ("(record { answer = %s .answer; left = whole %s %s %s (%s .workers) } ≡ %s (whole ms ls ys wk)) × OthersKept wk (%s .workers)" % (r, m_, l_, y_, r, said_of, r)) if self.has_store else "%s ≡ %s (whole ms ls ys wk)%s" % (said(r), said_of, self.told_too)
 
     def head(self):
         """what the walk uses, and the contracts that it cites"""
         self.s = []
-        self.s.append("-- `%s_call::%s` meets its contract: a walk of its MIR. The local array is lent to `load` beside the records, to `%s_part` beside the %s%s, each time for a lifetime that is made for the call. Written by tools/call_walks.py.\n-- Assumes nothing.\n" % (self.name, self.name, self.name, "matrix, the lists, the slice, the right side and the answers" if self.ans else "matrix, the lists and the slice", ", and to `store` beside the records" if self.has_store else ""))
+        self.s.append("-- `%s_call::%s` meets its contract: a walk of its MIR. The local array is lent to `load` beside the records, to `%s_part` beside the %s%s, each time for a lifetime that is made for the call. Written by tools/call_walks.py.\n-- Assumes nothing.\n" % (self.name, self.name, self.name, "matrix, the lists, the right side and the answers" if self.ans else "matrix and the lists", ", and to `store` beside the records" if self.has_store else ""))
         self.s.append(None)      # call_walks.uses, once the walk is written
         self.s.append("use Rattle·model.specs.declared.%s.{%s}\n" % (self.reply, self.reply) + self.reply_mods)
         self.s.append("use Rattle·model.specs.%s.{%sCall}\n" % (self.call.get("spec", "Refusal"), self.name))
@@ -400,7 +394,6 @@ class Call:
         d.append(("Arg", "Type 0", product(self.arg_type)))
         d.append(("m", "RefT (List Float)", "record { ptr = (b₁, o₁); name = γ₁; now = ms }"))
         d.append(("ll", "RefT (List ℕ)", "record { ptr = (b₂, o₂); name = γ₂; now = ls }"))
-        d.append(("sr", "RefT (List Float)", "record { ptr = (b₇, o₇); name = γ₇; now = ss }"))
         d.append(("rs : GName → RefT (List TaskRecord)", None, "rs δ = record { ptr = (b₃, o₃); name = δ; now = ys }", "the records, under the name δ; and the slice of the local l at the list xs"))
         d.append(("fl : ℕ → GName → List (List ℕ) → RefT (List (List ℕ))", None, "fl l δ xs = record { ptr = (l, 0); name = δ; now = xs }"))
         for p in self.more:
@@ -409,7 +402,6 @@ class Call:
         d.append(("a", "Arg", nested(self.arg)))
         d.append(("s₁", "Val", "sliceVal (b₁, o₁) (length ms)"))
         d.append(("s₂", "Val", "sliceVal (b₂, o₂) (length ls)"))
-        d.append(("s₇", "Val", "sliceVal (b₇, o₇) (length ss)"))
         d.append(("s₃", "Val", "sliceVal (b₃, o₃) (length ys)"))
         for p in self.more:
             k, xs = SLICE[p.name][0], SLICE[p.name][3]
@@ -433,10 +425,10 @@ class Call:
             d.append(("Shr : ℕ → GName → Fml", None, "Shr μ δ = ShrSlice (named 0) (μ ∷ []) T.the-row .own (rs δ) (s₃ ∷ [])"))
         d.append(("Mut : ℕ → ℕ → GName → List (List ℕ) → Fml", None, "Mut l ν δ xs = MutSlice (named 1) (ν ∷ []) B .own (fl l δ xs) (s₅ l ∷ [])"))
         if self.has_store:
-            d.append(("Mut₂ : ℕ → ℕ → GName → List (List ℕ) → Fml", None, "Mut₂ l ν δ xs = MutSlice (named 3) (ν ∷ []) B .own (fl l δ xs) (s₅ l ∷ [])"))
+            d.append(("Mut₂ : ℕ → ℕ → GName → List (List ℕ) → Fml", None, "Mut₂ l ν δ xs = MutSlice (named 2) (ν ∷ []) B .own (fl l δ xs) (s₅ l ∷ [])"))
             d.append(("Imm : ℕ → ℕ → GName → List (List ℕ) → Fml", None, "Imm l ν δ xs = ShrSlice (named 1) (ν ∷ []) B .own (fl l δ xs) (s₅ l ∷ [])"))
         else:
-            d.append(("Imm : ℕ → ℕ → GName → List (List ℕ) → Fml", None, "Imm l ν δ xs = ShrSlice (named 3) (ν ∷ []) B .own (fl l δ xs) (s₅ l ∷ [])"))
+            d.append(("Imm : ℕ → ℕ → GName → List (List ℕ) → Fml", None, "Imm l ν δ xs = ShrSlice (named 2) (ν ∷ []) B .own (fl l δ xs) (s₅ l ∷ [])"))
         d.append(("Arr : List (List ℕ) → Val → Fml", None, "Arr xs v = Array B N .own xs (v ∷ [])"))
         d.append(("Cell : ℕ → Val → Fml", None, "Cell l v = fat fullShare (tyArray (tyArray (tyInt w8) bytes) N) l 0 v"))
         self.bound = "((%s, %s, tt, a, vs), tt)" % (self.lifetimes, self.shares)
@@ -468,7 +460,7 @@ class Call:
             hit = [v for q, v in fins if q is p]
             lastv.append(hit[0] if hit else "tt")
             lenv.append("len%s" % SLICE[p.name][0] if hit else "tt")
-        fact = self.whole_fact("r", self.ms2, self.ls2, self.ss2, "zs")
+        fact = self.whole_fact("r", self.ms2, self.ls2, "zs")
         s.append("  exits : %s → %s%s\n      → ent 𝓤 (⋆ 𝓤 H A (%s)) (Post v)\n" % (binders.strip(), fact if not self.has_store else "(%s)" % fact, (" → " + lens) if lens else "", items))
         s.append("  exits r v %s e %s =\n" % (" ".join(v for _, v in fins), " ".join("len%s" % SLICE[p.name][0] for p, _ in fins)))
         s.append(exit_steps(self, items, lastv, lenv, [p for p, _ in fins]))
@@ -516,18 +508,18 @@ class Call:
         c.apart("borrows", self.part_borrows)
         c.emit("\n      ")
         c.front("all", "nothing ! $ ")
-        for p in reversed(self.params[6:]):
+        for p in reversed(self.params[5:]):
             if p.kind == "slice":
                 c.passes(SLICE[p.name][4])
             else:
                 c.emit("owned ! %s (Is %s) (uint-makes 𝓤 H A W w64) %s _ (refl, %s-fits) $ fjoin ! $ " % (p.kind, p.kind, p.name, p.name))
         c.emit("owned ! Wk.the-row (Is Wk.the-row) (LL.makes Wk.the-type Wk′.the-plain 𝓤 H A) wk _ wk-is $ fjoin ! $\n      owned ! usize (Is usize) (uint-makes 𝓤 H A W w64) n _ (refl, n-fits) $ fjoin ! $ ")
-        for x in ("flat", "Sli", "Lis", "Mat"):
+        for x in ("flat", "Lis", "Mat"):
             c.passes(x)
         s.append("".join(c.out).replace(" $ \n", " $\n").rstrip() + "\n      owned ! Sz.the-row (Is Sz.the-row) (LL.makes Sz.the-type Sz′.the-plain 𝓤 H A) z _ z-is $ fjoin ! $ done !\n\n")
-        pf_args = ["(r : %s)" % self.reply] + (["(ms′ : List Float)"] if self.mat.mut else []) + (["(ls′ : List ℕ)"] if self.lis.mut else []) + (["(ss′ : List Float)"] if self.sli.mut else []) + (["(X′ : List (List ℕ))"] if self.has_store else []) + (["(us′ : List Float)"] if self.ans else [])
-        pf_names = ["r"] + (["ms′"] if self.mat.mut else []) + (["ls′"] if self.lis.mut else []) + (["ss′"] if self.sli.mut else []) + (["X′"] if self.has_store else []) + (["us′"] if self.ans else [])
-        s.append("  abbrev Told : (X : List (List ℕ)) %s → Type 0\n  Told X %s = %s\n\n" % (" ".join(pf_args), " ".join(pf_names), self.part_fact("r", self.ms2, self.ls2, self.ss2, "X′")))
+        pf_args = ["(r : %s)" % self.reply] + (["(ms′ : List Float)"] if self.mat.mut else []) + (["(ls′ : List ℕ)"] if self.lis.mut else []) + (["(X′ : List (List ℕ))"] if self.has_store else []) + (["(us′ : List Float)"] if self.ans else [])
+        pf_names = ["r"] + (["ms′"] if self.mat.mut else []) + (["ls′"] if self.lis.mut else []) + (["X′"] if self.has_store else []) + (["us′"] if self.ans else [])
+        s.append("  abbrev Told : (X : List (List ℕ)) %s → Type 0\n  Told X %s = %s\n\n" % (" ".join(pf_args), " ".join(pf_names), self.part_fact("r", self.ms2, self.ls2, "X′")))
 
     def task_held_and_past(self):
         """how `task_held` and `past` are called"""
@@ -665,7 +657,7 @@ class Call:
         g = self.g
         g.emit("-- how many records are copied")
         g.line()
-        g.emit("assigns ! (of-opd ! (load ! (from ! (fld ! refl (stop !))) (look-in ! %d (sub ! 1 refl (all-of !))))) (from ! (stop !)) (init ! %d refl (tt, record { fits = room₃ .0 })) $ " % (g.at("L5"), g.at("L%d" % self.LEN)))
+        g.emit("assigns ! (of-opd ! (load ! (from ! (fld ! refl (stop !))) (look-in ! %d (sub ! 1 refl (all-of !))))) (from ! (stop !)) (init ! %d refl (tt, record { fits = room₃ .0 })) $ " % (g.at("L4"), g.at("L%d" % self.LEN)))
         g.line()
         self.pure_call("Look", "lk", "to-lk", "goes-lk", [self.LEN], self.CNT, "n", "said-lk", "w₀", "init", "is₀")
 
@@ -687,13 +679,13 @@ class Call:
         g.emit("-- `load`: the array is lent for ν%s" % (", and the records as a `&` for μ" if self.has_store else ""))
         g.line()
         if self.has_store:
-            g.slice_to(self.L["shr"], self.L["shr"] + 1, 5, "room₃")
+            g.slice_to(self.L["shr"], self.L["shr"] + 1, 4, "room₃")
         g.array_to(self.L["mut"], self.L["mut"] + 1)
         self.lend("Mut", "X₀")
         if self.has_store:
             g.front("μ", "lft-new ! tt (λ μ. ")
             g.move("Rec", "κ₃")
-            g.use(2, "shared", "later (some (λ (δ : GName). ‵ (Shr μ δ) ⊛ ‵ (Shared T.the-row κ₃ (μ ∷ []) q₃ γ₃ b₃ o₃ ys)))", "shares-again T.the-row κ₃ (μ ∷ []) q₃ γ₃ b₃ o₃ ys 𝓤 H A W (named 3) (named 0)")
+            g.use(2, "shared", "later (some (λ (δ : GName). ‵ (Shr μ δ) ⊛ ‵ (Shared T.the-row κ₃ (μ ∷ []) q₃ γ₃ b₃ o₃ ys)))", "shares-again T.the-row κ₃ (μ ∷ []) q₃ γ₃ b₃ o₃ ys 𝓤 H A W (named 2) (named 0)")
             g.emit("await ! tt $ pick ! (λ δ. ")
             g.split("Shr", "Shared")
             g.line()
@@ -706,7 +698,7 @@ class Call:
             g.move("μν", "Rec", "lent")
         to = "(to-ld %s %sν %sε)" % (self.lh, self.mu, self.dl)
         g.use(3, "pre", "raw (Load 𝓤 H A mem run .pre %s)" % to, "goes-ld %s %sν %sε" % (self.lh, self.mu, self.dl))
-        g.emit("calls-at ! fm (Load 𝓤 H A mem run) known-ld %s %s (λ w₁. " % (to, g.opds([self.L["shr"] + 1 if self.has_store else 5, self.L["mut"] + 1, self.CNT])))
+        g.emit("calls-at ! fm (Load 𝓤 H A mem run) known-ld %s %s (λ w₁. " % (to, g.opds([self.L["shr"] + 1 if self.has_store else 4, self.L["mut"] + 1, self.CNT])))
         g.line()
 
     def loaded(self):
@@ -749,7 +741,7 @@ class Call:
         if self.has_store:
             g.emit("lft-end ! tt $ ")
             g.move("μ", "Shared")
-            g.use(2, "RecK", "later (‵ Rec ⊛ ‵ (flft κ₃ q₃))", "shared-back T.the-row κ₃ (μ ∷ []) q₃ γ₃ b₃ o₃ ys 𝓤 H A W (named 3) (named 0) room₃")
+            g.use(2, "RecK", "later (‵ Rec ⊛ ‵ (flft κ₃ q₃))", "shared-back T.the-row κ₃ (μ ∷ []) q₃ γ₃ b₃ o₃ ys 𝓤 H A W (named 2) (named 0) room₃")
             g.emit("await ! tt $ ")
             g.split("Rec", "κ₃")
             g.line()
@@ -767,16 +759,13 @@ class Call:
         g = self.g
         g.emit("-- `%s_part`: the array is lent for ν" % self.name)
         g.line()
-        opd = [1, 2, 3, 4, self.L["core"] + 1, self.CNT, 6] + list(range(7, len(self.params) + 1))
+        opd = [1, 2, 3, self.L["core"] + 1, self.CNT, 5] + list(range(6, len(self.params) + 1))
         if self.mat.mut:
             g.slice_to(self.L["mat"], self.L["mat"] + 1, 2, "room₁")
             opd[1] = self.L["mat"] + 1
         if self.lis.mut:
             g.slice_to(self.L["lis"], self.L["lis"] + 1, 3, "room₂")
             opd[2] = self.L["lis"] + 1
-        if self.sli.mut:
-            g.slice_to(self.L["sli"], self.L["sli"] + 1, 4, "room₇")
-            opd[3] = self.L["sli"] + 1
         g.array_to(self.L["core"], self.L["core"] + 1)
         if self.ans:
             g.slice_to(self.L["ans"], self.L["ans"] + 1, len(self.params), "room₆")
@@ -784,9 +773,9 @@ class Call:
         g.move("Arr")
         g.emit("peeks ! (Array B N) (Is (Array B N)) (shows 𝓤 H A (Array B N)) %s (copiesVal %s ∷ []) (λ good₁. " % (self.X1, self.X1))
         if self.has_store:
-            self.lend("Mut₂", self.X1, slot="named 3")
+            self.lend("Mut₂", self.X1, slot="named 2")
         else:
-            self.lend("Imm", self.X1, which="shares-local", slot="named 3")
+            self.lend("Imm", self.X1, which="shares-local", slot="named 2")
         for names, whole_ in ((self.part_names, "toks"), (self.part_borrows, "borrows")):
             rest = names[-1]
             for x in reversed(names[:-1]):
@@ -810,12 +799,12 @@ class Call:
         g.split("back", "ens")
         g.move("ens")
         g.line()
-        wtypes = ["Unit {0}", "List Float" if self.mat.mut else "Unit {0}", "List ℕ" if self.lis.mut else "Unit {0}", "List Float" if self.sli.mut else "Unit {0}", "List (List ℕ)" if self.has_store else "Unit {0}"] + ["Unit {0}"] * (len(self.params) - 4)
+        wtypes = ["Unit {0}", "List Float" if self.mat.mut else "Unit {0}", "List ℕ" if self.lis.mut else "Unit {0}", "List (List ℕ)" if self.has_store else "Unit {0}"] + ["Unit {0}"] * (len(self.params) - 3)
         if self.ans:
             wtypes[-1] = "List Float"
         wty = product(wtypes)
-        self.wms, self.wls, self.wss, wX, self.wus = "(ws .1 .0)", "(ws .1 .1 .0)", "(ws .1 .1 .1 .0)", "(ws .1 .1 .1 .1 .0)", "(%s)" % nth("ws", len(self.params))
-        told = lambda t, wsn: "Told %s %s" % (self.X1, " ".join([t] + [v.replace("ws", wsn) for v, on in ((self.wms, self.mat.mut), (self.wls, self.lis.mut), (self.wss, self.sli.mut), (wX, self.has_store), (self.wus, self.ans)) if on]))
+        self.wms, self.wls, wX, self.wus = "(ws .1 .0)", "(ws .1 .1 .0)", "(ws .1 .1 .1 .0)", "(%s)" % nth("ws", len(self.params))
+        told = lambda t, wsn: "Told %s %s" % (self.X1, " ".join([t] + [v.replace("ws", wsn) for v, on in ((self.wms, self.mat.mut), (self.wls, self.lis.mut), (wX, self.has_store), (self.wus, self.ans)) if on]))
         g.use(1, "ens", "some (λ (ws : %s). ‵ (lasts co.ended %s %s ws) ⊛ raw (fact 𝓤 (%s)))" % (wty, gl, ga, told("t₂", "ws")), "id⊢ 𝓤 _")
         g.emit("pick ! (λ ws₂. ")
         g.split("lasts", "fact")
@@ -824,9 +813,9 @@ class Call:
         g.line()
         g.split("none", "lasts", "f")
         g.gone("drop ! $ ")
-        lasts = [("finM", self.mat.mut, "sameM"), ("finL", self.lis.mut, "sameL"), ("finS", self.sli.mut, "sameS"), ("fin", self.has_store, "sameX")]
+        lasts = [("finM", self.mat.mut, "sameM"), ("finL", self.lis.mut, "sameL"), ("fin", self.has_store, "sameX")]
         if self.ans:
-            lasts += [(None, False, None)] * (len(self.params) - 5) + [("finA", True, "sameA")]
+            lasts += [(None, False, None)] * (len(self.params) - 4) + [("finA", True, "sameA")]
         for key, on, same in lasts:
             g.move("lasts")
             g.split("last", "lasts", "f")
@@ -858,7 +847,7 @@ class Call:
         g.split3(self.part_names[-2], self.part_names[-1], "true3")
         g.move("ν")
         g.emit("lft-end ! tt $ ")
-        self.X2 = "(ws₂ .1 .1 .1 .1 .0)"
+        self.X2 = "(ws₂ .1 .1 .1 .0)"
         if self.has_store:
             g.move("ν", "hold", "fin")
             g.use(3, "LA", "later (‵ (Cell %s (copiesVal %s)) ⊛ ‵ (Arr %s (copiesVal %s)))" % (self.lh, self.X2, self.X2, self.X2), "local-back B tt byteVals byteTells N 𝓤 H A W (ν ∷ []) ε %s %s" % (self.X2, self.lh))
@@ -873,13 +862,13 @@ class Call:
         """the copies go back"""
         g = self.g
         if self.held:
-            self.pure_call("Task", "th", "to-th", "goes-th", [6, 7], self.L["p"], "p", "said-th", "w₅", "init", "is₅")
+            self.pure_call("Task", "th", "to-th", "goes-th", [5, 6], self.L["p"], "p", "said-th", "w₅", "init", "is₅")
             pf = "(is₅ .1) "
         else:
             pf = ""
         g.emit("-- `store`: the records go on at their own lifetime, and the array is lent as a `&` for ν")
         g.line()
-        g.slice_to(self.L["rec"], self.L["rec"] + 1, 5, "room₃")
+        g.slice_to(self.L["rec"], self.L["rec"] + 1, 4, "room₃")
         g.array_to(self.L["imm"], self.L["imm"] + 1)
         if self.uses_past:
             self.pure_call("Past", "pt", "to-pt", ("goes-pt " + pf).strip(), [self.L["p"], self.CNT], self.LEN, "past-p", "said-pt", "w₄", "store", "is₄")
@@ -939,16 +928,15 @@ class Call:
         s = self.s
         g = self.g
         g.leaves(self.top)
-        g.keep(["κ" + k for k in self.indices] + (["finM"] if self.mat.mut else []) + (["finL"] if self.lis.mut else []) + (["finS"] if self.sli.mut else []) + (["finR"] if self.has_store else []) + (["finA"] if self.ans else []) + ["Rp"])
-        fin_vals = [v.replace("ws", "ws₂") for v, on in ((self.wms, self.mat.mut), (self.wls, self.lis.mut), (self.wss, self.sli.mut)) if on] + (["(zs .0)"] if self.has_store else []) + ([self.wus.replace("ws", "ws₂")] if self.ans else [])
-        lens_ = ["sameM"] * self.mat.mut + ["sameL"] * self.lis.mut + ["sameS"] * self.sli.mut + ["sameR"] * self.has_store + ["sameA"] * self.ans
+        g.keep(["κ" + k for k in self.indices] + (["finM"] if self.mat.mut else []) + (["finL"] if self.lis.mut else []) + (["finR"] if self.has_store else []) + (["finA"] if self.ans else []) + ["Rp"])
+        fin_vals = [v.replace("ws", "ws₂") for v, on in ((self.wms, self.mat.mut), (self.wls, self.lis.mut)) if on] + (["(zs .0)"] if self.has_store else []) + ([self.wus.replace("ws", "ws₂")] if self.ans else [])
+        lens_ = ["sameM"] * self.mat.mut + ["sameL"] * self.lis.mut + ["sameR"] * self.has_store + ["sameA"] * self.ans
         ms_v = "(ws₂ .1 .0)" if self.mat.mut else "ms"
         ls_v = "(ws₂ .1 .1 .0)" if self.lis.mut else "ls"
-        ss_v = "(ws₂ .1 .1 .1 .0)" if self.sli.mut else "ss"
         if self.has_store:
-            law = "(%s z ms ls ss ys wk %s X₀ %s %s %s %s %s %s t₂ (zs .0) (good₁ .1 .0 .1) (good₂ .1 .0 .1) e₁ (e₂ .0) e₃, e₂ .1)" % (self.call["law"], " ".join(self.extra), self.X1, ms_v, ls_v, ss_v, self.X2, "")
+            law = "(%s z ms ls ys wk %s X₀ %s %s %s %s %s t₂ (zs .0) (good₁ .1 .0 .1) (good₂ .1 .0 .1) e₁ (e₂ .0) e₃, e₂ .1)" % (self.call["law"], " ".join(self.extra), self.X1, ms_v, ls_v, self.X2, "")
         else:
-            law = "(e₂ ∙ %s z ms ls ss ys wk%s X₀ %s (good₁ .1 .0 .1) e₁)" % (self.call["law"], self.told_too, self.X1)
+            law = "(e₂ ∙ %s z ms ls ys wk%s X₀ %s (good₁ .1 .0 .1) e₁)" % (self.call["law"], self.told_too, self.X1)
         g.emit("by ! (exits t₂ w₂ %s %s %s)" % (" ".join(fin_vals), law.replace("  ", " "), " ".join(lens_)))
         s.append(g.text() + "\n\n")
 
@@ -985,24 +973,24 @@ def write(call, folder=ROOT):
 
 
 CALLS = [
-    dict(name="open", params=[sizes(), matrix(False), lists(True), multipliers(True), records(True), workers()],
+    dict(name="open", params=[sizes(), matrix(False), lists(True), records(True), workers()],
          reply="CallReply", said="openCall z", store="all", laws="All", law="open-whole",
-         locals=dict(top=26, flat=7, n=8, reply=9, zero=10, len=11, unit=12, shr=13, mut=15, lis=17, sli=19, core=21, rec=23, imm=25)),
-    dict(name="take", params=[sizes(), matrix(False), lists(False), multipliers(False), records(True), workers(), number("w", "usize"), number("p", "usize")],
+         locals=dict(top=23, flat=6, n=7, reply=8, zero=9, len=10, unit=11, shr=12, mut=14, lis=16, core=18, rec=20, imm=22)),
+    dict(name="take", params=[sizes(), matrix(False), lists(False), records(True), workers(), number("w", "usize"), number("p", "usize")],
          reply="CallReply", said="takeCall z w p", store="one", laws="One", law="take-whole",
-         locals=dict(top=24, flat=9, n=10, reply=11, zero=12, len=13, unit=14, shr=15, mut=17, core=19, rec=21, imm=23, p=8)),
-    dict(name="column", params=[sizes(), matrix(True), lists(True), multipliers(True), records(True), workers(), number("w", "usize")],
+         locals=dict(top=23, flat=8, n=9, reply=10, zero=11, len=12, unit=13, shr=14, mut=16, core=18, rec=20, imm=22, p=7)),
+    dict(name="column", params=[sizes(), matrix(True), lists(True), records(True), workers(), number("w", "usize")],
          reply="CallReply", said="columnCall z w", store="one", held=True, laws="One", law="column-whole",
-         locals=dict(top=30, flat=8, n=9, reply=10, p=11, zero=12, len=13, unit=14, shr=15, mut=17, mat=19, lis=21, sli=23, core=25, rec=27, imm=29)),
-    dict(name="run", params=[sizes(), matrix(True), lists(True), multipliers(True), records(True), workers(), number("budget", "u64")],
+         locals=dict(top=27, flat=7, n=8, reply=9, p=10, zero=11, len=12, unit=13, shr=14, mut=16, mat=18, lis=20, core=22, rec=24, imm=26)),
+    dict(name="run", params=[sizes(), matrix(True), lists(True), records(True), workers(), number("budget", "u64")],
          reply="RunReply", said="runCall z budget", store="all", laws="All", law="run-whole",
-         locals=dict(top=29, flat=8, n=9, reply=10, zero=11, len=12, unit=13, shr=14, mut=16, mat=18, lis=20, sli=22, core=24, rec=26, imm=28)),
-    dict(name="outcome", params=[sizes(), matrix(False), lists(False), multipliers(False), records(False), workers()],
+         locals=dict(top=26, flat=7, n=8, reply=9, zero=10, len=11, unit=12, shr=13, mut=15, mat=17, lis=19, core=21, rec=23, imm=25)),
+    dict(name="outcome", params=[sizes(), matrix(False), lists(False), records(False), workers()],
          reply="OutcomeAnswer", said="outcomeCall z", store=None, laws="All", law="outcome-whole",
-         locals=dict(top=15, flat=7, n=8, reply=0, zero=9, len=10, unit=11, mut=12, core=14)),
-    dict(name="solve", params=[sizes(), matrix(False), lists(False), multipliers(False), records(False), workers(), right(), answers()],
+         locals=dict(top=14, flat=6, n=7, reply=0, zero=8, len=9, unit=10, mut=11, core=13)),
+    dict(name="solve", params=[sizes(), matrix(False), lists(False), records(False), workers(), right(), answers()],
          reply="Answer", spec="Solve", said="solveCall z", store=None, laws="All", law="solve-whole",
-         locals=dict(top=19, flat=9, n=10, reply=0, zero=11, len=12, unit=13, mut=14, core=16, ans=18)),
+         locals=dict(top=18, flat=8, n=9, reply=0, zero=10, len=11, unit=12, mut=13, core=15, ans=17)),
 ]
 
 if __name__ == "__main__":

@@ -93,7 +93,7 @@ class Hosts(unittest.TestCase):
             self.assertEqual(fields_of("TaskRecord", text_of(*path)), fields)
 
     def test_benchmark(self):
-        for crate, source, count in (("bench_host", "main.rs", 6), ("bench_structs", "structs.rs", 5)):
+        for crate, source, count in (("bench_host", "main.rs", 4), ("bench_structs", "structs.rs", 5)):
             timed = [function for function in exports(crate) if function[0] != "bench_outcome"]
             self.assertEqual(len(timed), count)
             self.assertEqual(list(declared_in_rust(text_of("bench", "src", source))), timed)

@@ -1,4 +1,4 @@
-//! A take and a column call in Rust, with the checks of refusals 1, 2, 17, 4, 5, 6 and 7. Each answers the refusal's number, or 0.
+//! A take and a column call in Rust, with the checks of refusals 1, 2, 4, 5, 6 and 7. Each answers the refusal's number, or 0.
 use crate::loops::{column, ended, fill, put_column, put_take, spoiled, task_count, ties, took, triple, Record, DONE, FAILED, SPOILED, TAKEN};
 use crate::plain::{Shape, Version};
 
@@ -94,12 +94,12 @@ fn bad_entries<V: Version>(s: &Shape, lists: &[u8]) -> bool {
 }
 
 /// Refusals 1 and 2.
-pub fn bad_sizes(s: &Shape, matrix: &[f64], lists: &[u8], slice: &[f64], records: &[Record], workers: &[Worker]) -> u8 {
+pub fn bad_sizes(s: &Shape, matrix: &[f64], lists: &[u8], records: &[Record], workers: &[Worker]) -> u8 {
     let (n, t) = (s.tiles, s.side);
     if !s.in_range() || workers.is_empty() || workers.len() > 32 {
         return 1;
     }
-    if matrix.len() != n * t * n * t || lists.len() != n * n * t || slice.len() != s.slice_length() || records.len() != task_count(n) {
+    if matrix.len() != n * t * n * t || lists.len() != n * n * t || records.len() != task_count(n) {
         return 2;
     }
     0
@@ -113,19 +113,13 @@ pub fn damaged<V: Version>(s: &Shape, lists: &[u8], records: &[Record], workers:
         || bad_entries::<V>(s, lists)
 }
 
-/// Refusals 1, 2, 17, and 4 but for elements.
-fn state<V: Version>(s: &Shape, matrix: &[f64], lists: &[u8], slice: &[f64], records: &[Record], workers: &[Worker], number: u32) -> u8 {
-    let refusal = bad_sizes(s, matrix, lists, slice, records, workers);
-    if refusal != 0 {
-        return refusal;
-    }
-    if s.bad_block() {
-        return 17;
-    }
-    if damaged::<V>(s, lists, records, workers, number) {
+/// Refusals 1, 2 and 4 but for elements.
+fn state<V: Version>(s: &Shape, matrix: &[f64], lists: &[u8], records: &[Record], workers: &[Worker], number: u32) -> u8 {
+    let refusal = bad_sizes(s, matrix, lists, records, workers);
+    if refusal == 0 && damaged::<V>(s, lists, records, workers, number) {
         return 4;
     }
-    0
+    refusal
 }
 
 /// A neighbour's number follows from the task's own.
@@ -139,8 +133,8 @@ fn ready(n: usize, records: &[Record], p: usize) -> bool {
     (k == 0 || finished(p + 1 + i - (n + m * m))) && (i == k || finished(p - m)) && (j == k || finished(p - (j - k)))
 }
 
-pub fn take<V: Version>(s: &Shape, matrix: &[f64], lists: &[u8], slice: &[f64], records: &mut [Record], workers: &mut [Worker], number: &mut u32, w: usize, p: usize) -> u8 {
-    let refusal = state::<V>(s, matrix, lists, slice, records, workers, *number);
+pub fn take<V: Version>(s: &Shape, matrix: &[f64], lists: &[u8], records: &mut [Record], workers: &mut [Worker], number: &mut u32, w: usize, p: usize) -> u8 {
+    let refusal = state::<V>(s, matrix, lists, records, workers, *number);
     if refusal != 0 {
         return refusal;
     }
@@ -159,26 +153,23 @@ pub fn take<V: Version>(s: &Shape, matrix: &[f64], lists: &[u8], slice: &[f64], 
     0
 }
 
-/// A tile and, below the diagonal, its part of the slice.
-fn finite_tile<V: Version>(s: &Shape, matrix: &[f64], slice: &[f64], i: usize, j: usize) -> bool {
+fn finite_tile<V: Version>(s: &Shape, matrix: &[f64], i: usize, j: usize) -> bool {
     let start = s.tile(i, j);
-    let part = if i > j && s.block > 1 { &slice[s.part(i, j)..][..s.side * s.block] } else { &[] };
-    V::all_finite(&matrix[start..start + s.side * s.side]) && V::all_finite(part)
+    V::all_finite(&matrix[start..start + s.side * s.side])
 }
 
-fn finite_tiles<V: Version>(s: &Shape, matrix: &[f64], slice: &[f64], r: Record) -> bool {
+fn finite_tiles<V: Version>(s: &Shape, matrix: &[f64], r: Record) -> bool {
     let (k, i, j) = (r[1] as usize, r[2] as usize, r[3] as usize);
-    let finite = |i, j| finite_tile::<V>(s, matrix, slice, i, j);
     match r[0] {
-        1 => finite(k, k),
-        2 => finite(k, k) && finite(k, j),
-        3 => finite(k, k) && finite(i, k),
-        _ => finite(i, k) && finite(k, j) && finite(i, j),
+        1 => finite_tile::<V>(s, matrix, k, k),
+        2 => finite_tile::<V>(s, matrix, k, k) && finite_tile::<V>(s, matrix, k, j),
+        3 => finite_tile::<V>(s, matrix, k, k) && finite_tile::<V>(s, matrix, i, k),
+        _ => finite_tile::<V>(s, matrix, i, k) && finite_tile::<V>(s, matrix, k, j) && finite_tile::<V>(s, matrix, i, j),
     }
 }
 
-pub fn work<V: Version>(s: &Shape, matrix: &mut [f64], lists: &mut [u8], slice: &mut [f64], records: &mut [Record], workers: &mut [Worker], number: &mut u32, w: usize) -> u8 {
-    let refusal = state::<V>(s, matrix, lists, slice, records, workers, *number);
+pub fn work<V: Version>(s: &Shape, matrix: &mut [f64], lists: &mut [u8], records: &mut [Record], workers: &mut [Worker], number: &mut u32, w: usize) -> u8 {
+    let refusal = state::<V>(s, matrix, lists, records, workers, *number);
     if refusal != 0 {
         return refusal;
     }
@@ -188,7 +179,7 @@ pub fn work<V: Version>(s: &Shape, matrix: &mut [f64], lists: &mut [u8], slice: 
     let h = workers[w];
     let p = h.task as usize;
     let r = records[p];
-    if !finite_tiles::<V>(s, matrix, slice, r) {
+    if !finite_tiles::<V>(s, matrix, r) {
         return 4;
     }
     let c = h.column as usize;
@@ -196,14 +187,14 @@ pub fn work<V: Version>(s: &Shape, matrix: &mut [f64], lists: &mut [u8], slice: 
     let (mark, more) = if c == 0 && spoiled(s.tiles, records, k, i, j) {
         (SPOILED, 0)
     } else {
-        match column::<V>(s, matrix, lists, slice, r, c) {
+        match column::<V>(s, matrix, lists, r, c) {
             None => (FAILED, 0),
             Some(more) if c + 1 == s.side => (DONE, more),
             Some(more) => (TAKEN, more),
         }
     };
     if mark > DONE {
-        fill(s, matrix, lists, slice, r);
+        fill(s, matrix, lists, r);
     }
     *number += 1;
     put_column(&mut records[p], mark, more, w, *number);

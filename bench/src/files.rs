@@ -82,7 +82,7 @@ pub fn read_system(text: &[u8], matrix: &mut [f64]) -> Result<(usize, usize), (u
         return Err((13, 1));
     }
     let (n, t) = (field(&text[2..4]) as usize, field(&text[4..6]) as usize);
-    if !(Shape { tiles: n, side: t, block: 1 }.in_range()) {
+    if !(Shape { tiles: n, side: t }.in_range()) {
         return Err((1, 1));
     }
     if matrix.len() != n * t * n * t {
@@ -129,7 +129,7 @@ fn put(text: &mut [u8], value: u64) {
 
 /// The length written, or a refusal's number.
 pub fn write_system(n: usize, t: usize, matrix: &[f64], text: &mut [u8]) -> Result<usize, u8> {
-    if !(Shape { tiles: n, side: t, block: 1 }.in_range()) {
+    if !(Shape { tiles: n, side: t }.in_range()) {
         return Err(1);
     }
     if matrix.len() != n * t * n * t {

@@ -1,5 +1,4 @@
 //! Tasks as bytes, what a failed or spoiled one leaves, and the published loops.
-use crate::panels;
 use crate::plain::{self, Shape, Version};
 
 /// Kind, k, i, j, mark, the worker that ended the task, the tie sum in two bytes, the low one first, and the numbers of the calls that took and that
@@ -86,20 +85,18 @@ pub fn spoiled(n: usize, records: &[Record], k: usize, i: usize, j: usize) -> bo
 }
 
 /// Column c of the task: its ties. None where a computed number isn't finite.
-pub fn column<V: Version>(s: &Shape, m: &mut [f64], l: &mut [u8], slice: &mut [f64], r: Record, c: usize) -> Option<u16> {
+pub fn column<V: Version>(s: &Shape, m: &mut [f64], l: &mut [u8], r: Record, c: usize) -> Option<u16> {
     let (k, i, j) = (r[1] as usize, r[2] as usize, r[3] as usize);
-    match (r[0], s.block) {
-        (1, _) => plain::factor::<V>(s, m, l, k, c),
-        (2, _) => plain::apply::<V>(s, m, l, k, j, c).then_some(0),
-        (3, 1) => plain::couple::<V>(s, m, l, k, i, c),
-        (3, _) => panels::couple::<V>(s, m, l, slice, k, i, c),
-        (_, 1) => plain::pair::<V>(s, m, l, k, i, j, c).then_some(0),
-        _ => panels::pair::<V>(s, m, l, slice, k, i, j, c).then_some(0),
+    match r[0] {
+        1 => plain::factor::<V>(s, m, l, k, c),
+        2 => plain::apply::<V>(s, m, l, k, j, c).then_some(0),
+        3 => plain::couple::<V>(s, m, l, k, i, c),
+        _ => plain::pair::<V>(s, m, l, k, i, j, c).then_some(0),
     }
 }
 
 /// Fills what the task writes with +0, and its list with 0.
-pub fn fill(s: &Shape, m: &mut [f64], l: &mut [u8], slice: &mut [f64], r: Record) {
+pub fn fill(s: &Shape, m: &mut [f64], l: &mut [u8], r: Record) {
     let (k, i, j) = (r[1] as usize, r[2] as usize, r[3] as usize);
     let t = s.side;
     let mut tile = |a: usize, upper: bool| {
@@ -125,18 +122,14 @@ pub fn fill(s: &Shape, m: &mut [f64], l: &mut [u8], slice: &mut [f64], r: Record
         let row = if r[0] == 1 { k } else { i };
         l[s.list(row, k)..s.list(row, k) + t].fill(0);
     }
-    if r[0] == 3 && s.block > 1 {
-        slice[s.part(i, k)..][..t * s.block].fill(0.0);
-    }
 }
 
 /// The published loops: the tasks in number order, each spoiled, failed or done. Takes and columns are counted as those of a run with one worker: the
 /// run's number.
-pub fn loops<V: Version>(s: &Shape, m: &mut [f64], l: &mut [u8], slice: &mut [f64], records: &mut [Record]) -> u32 {
+pub fn loops<V: Version>(s: &Shape, m: &mut [f64], l: &mut [u8], records: &mut [Record]) -> u32 {
     let n = s.tiles;
     let mut number = 0;
     l.fill(0);
-    slice.fill(0.0);
     for p in 0..records.len() {
         let r = records[p];
         let (k, i, j) = triple(r);
@@ -149,7 +142,7 @@ pub fn loops<V: Version>(s: &Shape, m: &mut [f64], l: &mut [u8], slice: &mut [f6
         } else {
             for c in 0..s.side {
                 number += 1;
-                let Some(more) = column::<V>(s, m, l, slice, r, c) else {
+                let Some(more) = column::<V>(s, m, l, r, c) else {
                     mark = FAILED;
                     break;
                 };
@@ -157,7 +150,7 @@ pub fn loops<V: Version>(s: &Shape, m: &mut [f64], l: &mut [u8], slice: &mut [f6
             }
         }
         if mark != DONE {
-            fill(s, m, l, slice, r);
+            fill(s, m, l, r);
         }
         put_column(&mut records[p], mark, sum, 0, number);
     }

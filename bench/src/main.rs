@@ -1,11 +1,9 @@
-//! Times Rattle beside plain Rust loops on the same data, in turn, and prints the tables of docs/PERFORMANCE.md. The second has Rattle's times with
-//! inner block sizes above 1 beside those with 1.
+//! Times Rattle beside plain Rust loops on the same data, in turn, and prints the table of docs/PERFORMANCE.md.
 //! A time is one that a fiftieth of many rounds stay below. All is timed three times, and a row is printed with the median of its three ratios.
 //! `bench/run` builds and runs it; a number after it multiplies the rounds.
 mod calls;
 mod files;
 mod loops;
-mod panels;
 mod plain;
 mod solving;
 mod structs;
@@ -23,8 +21,6 @@ extern "C" {
     fn bench_apply_column(tiles: usize, side: usize, matrix: *mut f64, matrix_length: usize, lists: *const u8, lists_length: usize, k: usize, j: usize, c: usize) -> u32;
     fn bench_couple_column(tiles: usize, side: usize, matrix: *mut f64, matrix_length: usize, lists: *mut u8, lists_length: usize, k: usize, i: usize, c: usize) -> u32;
     fn bench_pair_column(tiles: usize, side: usize, matrix: *mut f64, matrix_length: usize, lists: *const u8, lists_length: usize, k: usize, i: usize, j: usize, c: usize) -> u32;
-    fn bench_couple_inner(tiles: usize, side: usize, block: usize, matrix: *mut f64, matrix_length: usize, lists: *mut u8, lists_length: usize, slice: *mut f64, slice_length: usize, k: usize, i: usize, c: usize) -> u32;
-    fn bench_pair_inner(tiles: usize, side: usize, block: usize, matrix: *mut f64, matrix_length: usize, lists: *const u8, lists_length: usize, slice: *const f64, slice_length: usize, k: usize, i: usize, j: usize, c: usize) -> u32;
 }
 
 // ---- time
@@ -65,7 +61,6 @@ impl Lent {
     fn copy_from(&mut self, other: &Lent) {
         self.to.matrix.copy_from_slice(&other.to.matrix);
         self.to.lists.copy_from_slice(&other.to.lists);
-        self.to.slice.copy_from_slice(&other.to.slice);
         self.to.records.copy_from_slice(&other.to.records);
         self.to.workers.clone_from(&other.to.workers);
         self.structs.copy_from_slice(&other.structs);
@@ -99,7 +94,6 @@ impl Lent {
             && x.workers.number == y.workers.number
             && self.text == other.text
             && bits(&x.matrix, &y.matrix)
-            && bits(&x.slice, &y.slice)
             && bits(&self.answers, &other.answers)
     }
 }
@@ -129,7 +123,7 @@ fn bytes(records: &mut [solumivaf::Record]) -> &mut [Record] {
 }
 
 fn sizes(s: &Shape, workers: usize) -> Sizes {
-    Sizes { tiles: s.tiles, side: s.side, workers, block: s.block }
+    Sizes { tiles: s.tiles, side: s.side, workers }
 }
 
 /// What looking at the clock takes itself.
@@ -224,64 +218,28 @@ fn compare<'a>(rounds: usize, copies: usize, start: &Lent, rust: Vec<(&'static s
     Times { rust: names.into_iter().zip(each).collect(), rattle }
 }
 
-/// Rattle's times with b = 1 and with a larger b, in turn. Each begins every other round.
-fn beside<'a>(rounds: usize, copies: usize, mut sides: [(&'a Lent, Step<'a>); 2]) -> [f64; 2] {
-    let mut data = sides.each_ref().map(|side| vec![side.0.clone(); copies]);
-    let mut times = [Vec::new(), Vec::new()];
-    for round in 0..rounds {
-        for turn in 0..2 {
-            let x = (round + turn) % 2;
-            let (start, step) = &mut sides[x];
-            times[x].push(timed(&mut data[x], start, step));
-        }
-    }
-    let own = look() / copies as f64;
-    times.map(|x| low(x) - own)
-}
-
-/// The rows in order, each with its times in every pass, and those that have b = 1 beside a larger b.
+/// The rows in order, each with its times in every pass.
 #[derive(Default)]
 struct Table {
     rows: Vec<(String, Vec<Times>)>,
-    blocks: Vec<(String, Vec<[f64; 2]>)>,
-}
-
-/// Adds the times of a pass to their row.
-fn add<T>(rows: &mut Vec<(String, Vec<T>)>, name: String, times: T) {
-    match rows.iter_mut().find(|x| x.0 == name) {
-        Some(row) => row.1.push(times),
-        None => rows.push((name, vec![times])),
-    }
-}
-
-/// The times of the pass with the median ratio.
-fn middle<T>(passes: &mut [T], ratio: impl Fn(&T) -> f64) -> &T {
-    passes.sort_by(|a, b| ratio(a).total_cmp(&ratio(b)));
-    &passes[passes.len() / 2]
 }
 
 impl Table {
     fn row(&mut self, name: String, times: Times) {
-        add(&mut self.rows, name, times);
-    }
-
-    fn blocks_row(&mut self, name: String, times: [f64; 2]) {
-        add(&mut self.blocks, name, times);
+        match self.rows.iter_mut().find(|x| x.0 == name) {
+            Some(row) => row.1.push(times),
+            None => self.rows.push((name, vec![times])),
+        }
     }
 
     fn print(&mut self) {
         println!("| What | Rust, ns | version | Rattle, ns | ratio |");
         println!("|---|---|---|---|---|");
         for (name, passes) in &mut self.rows {
-            let times = middle(passes, Times::ratio);
-            let (version, rust) = times.fastest();
-            println!("| {name} | {rust:.0} | {version} | {:.0} | {:.2} |", times.rattle, times.ratio());
-        }
-        println!("\n| Rattle with b beside b = 1 | b = 1, ns | b, ns | ratio |");
-        println!("|---|---|---|---|");
-        for (name, passes) in &mut self.blocks {
-            let [one, more] = middle(passes, |[one, more]| more / one);
-            println!("| {name} | {one:.0} | {more:.0} | {:.2} |", more / one);
+            passes.sort_by(|a, b| a.ratio().total_cmp(&b.ratio()));
+            let middle = &passes[passes.len() / 2];
+            let (version, rust) = middle.fastest();
+            println!("| {name} | {rust:.0} | {version} | {:.0} | {:.2} |", middle.rattle, middle.ratio());
         }
     }
 }
@@ -290,37 +248,33 @@ impl Table {
 
 /// Column c of a task of stage k, at row and column i. Like Rattle's, it is called and told its indices.
 #[inline(never)]
-fn plain_step<V: Version>(kind: usize, s: &Shape, m: &mut [f64], l: &mut [u8], slice: &mut [f64], k: usize, i: usize, c: usize) -> Option<u16> {
-    match (kind, s.block) {
-        (1, _) => plain::factor::<V>(s, m, l, k, c),
-        (2, _) => plain::apply::<V>(s, m, l, k, i, c).then_some(0),
-        (3, 1) => plain::couple::<V>(s, m, l, k, i, c),
-        (3, _) => panels::couple::<V>(s, m, l, slice, k, i, c),
-        (_, 1) => plain::pair::<V>(s, m, l, k, i, i, c).then_some(0),
-        _ => panels::pair::<V>(s, m, l, slice, k, i, i, c).then_some(0),
+fn plain_step<V: Version>(kind: usize, s: &Shape, m: &mut [f64], l: &mut [u8], k: usize, i: usize, c: usize) -> Option<u16> {
+    match kind {
+        1 => plain::factor::<V>(s, m, l, k, c),
+        2 => plain::apply::<V>(s, m, l, k, i, c).then_some(0),
+        3 => plain::couple::<V>(s, m, l, k, i, c),
+        _ => plain::pair::<V>(s, m, l, k, i, i, c).then_some(0),
     }
 }
 
 fn plain_columns<V: Version>(kind: usize, s: &Shape, k: usize, i: usize, x: &mut Lent) {
     for c in 0..s.side {
         // The ties are asked for, so that they are counted.
-        assert!(black_box(plain_step::<V>(kind, s, &mut x.to.matrix, &mut x.to.lists, &mut x.to.slice, k, i, c)).is_some());
+        assert!(black_box(plain_step::<V>(kind, s, &mut x.to.matrix, &mut x.to.lists, k, i, c)).is_some());
     }
 }
 
 fn rattle_columns(kind: usize, s: &Shape, k: usize, i: usize, x: &mut Lent) {
-    let (n, t, b, ml, ll, sl) = (s.tiles, s.side, s.block, x.to.matrix.len(), x.to.lists.len(), x.to.slice.len());
-    let (m, l, slice) = (x.to.matrix.as_mut_ptr(), x.to.lists.as_mut_ptr(), x.to.slice.as_mut_ptr());
+    let (n, t, ml, ll) = (s.tiles, s.side, x.to.matrix.len(), x.to.lists.len());
+    let (m, l) = (x.to.matrix.as_mut_ptr(), x.to.lists.as_mut_ptr());
     for c in 0..t {
-        // SAFETY: what the functions require holds: sizes and lengths that fit, finite numbers, entries in range. The three buffers are apart.
+        // SAFETY: what the functions require holds: sizes and lengths that fit, finite numbers, entries in range. The two buffers are apart.
         let told = unsafe {
             match kind {
                 1 => bench_factor_column(n, t, m, ml, l, ll, k, c),
                 2 => bench_apply_column(n, t, m, ml, l, ll, k, i, c),
-                3 if b == 1 => bench_couple_column(n, t, m, ml, l, ll, k, i, c),
-                3 => bench_couple_inner(n, t, b, m, ml, l, ll, slice, sl, k, i, c),
-                _ if b == 1 => bench_pair_column(n, t, m, ml, l, ll, k, i, i, c),
-                _ => bench_pair_inner(n, t, b, m, ml, l, ll, slice, sl, k, i, i, c),
+                3 => bench_couple_column(n, t, m, ml, l, ll, k, i, c),
+                _ => bench_pair_column(n, t, m, ml, l, ll, k, i, i, c),
             }
         };
         let mark = told % 256;
@@ -344,7 +298,7 @@ fn with_exchanges(s: &Shape, seed: u64) -> Lent {
 
 /// The mean over the systems, so many rounds with each.
 fn kernels(table: &mut Table, t: usize, rounds: usize) {
-    let s = black_box(Shape { tiles: 2, side: t, block: 1 });
+    let s = black_box(Shape { tiles: 2, side: t });
     let (k, i) = black_box((0, 1));
     let systems = SYSTEMS.count();
     // all t columns of a task, so that each column's share counts
@@ -361,39 +315,6 @@ fn kernels(table: &mut Table, t: usize, rounds: usize) {
     table.row(format!("the four together, t = {t}"), each.iter().cloned().reduce(|a, b| a.plus(&b)).unwrap());
 }
 
-/// A system of two tiles a side after the tasks before the first of a kind.
-fn worked_up_to(kind: usize, s: &Shape, seed: u64) -> Lent {
-    let mut start = fresh(s, seed);
-    let to = &mut start.to;
-    for task in &loops::numbering(s.tiles)[..kind - 1] {
-        (0..s.side).for_each(|c| assert!(loops::column::<Leaving>(s, &mut to.matrix, &mut to.lists, &mut to.slice, *task, c).is_some()));
-    }
-    start
-}
-
-/// A whole T-3 and T-4 with an inner block size above 1, beside Rust's and beside Rattle's own with 1: the mean over the systems.
-fn block_kernels(table: &mut Table, t: usize, block: usize, rounds: usize) {
-    let single = black_box(Shape { tiles: 2, side: t, block: 1 });
-    let s = black_box(Shape { tiles: 2, side: t, block });
-    let (k, i) = black_box((0, 1));
-    let systems = SYSTEMS.count();
-    for kind in [3, 4] {
-        let mut both = [0.0; 2];
-        let times = SYSTEMS.map(|seed| {
-            let (one, start) = (worked_up_to(kind, &single, seed), worked_up_to(kind, &s, seed));
-            let sides: [(&Lent, Step); 2] = [
-                (&one, Box::new(|x: &mut Lent| rattle_columns(kind, &single, k, i, x))),
-                (&start, Box::new(|x: &mut Lent| rattle_columns(kind, &s, k, i, x))),
-            ];
-            let more = beside(rounds, 20, sides);
-            both = [both[0] + more[0] / systems as f64, both[1] + more[1] / systems as f64];
-            compare(rounds, 20, &start, versions!(plain_columns, |x| kind, &s, k, i, x), |x| rattle_columns(kind, &s, k, i, x))
-        });
-        table.row(format!("T-{kind}, all columns, t = {t}, b = {block}"), times.reduce(|a, b| a.plus(&b)).unwrap().over(systems));
-        table.blocks_row(format!("b = {block}, T-{kind}, all columns, t = {t}"), both);
-    }
-}
-
 // ---- whole runs
 
 /// Opens the system and runs it: the count of the calls made.
@@ -407,11 +328,11 @@ fn factorize(s: &Shape, workers: usize, budget: u64, x: &mut Lent) -> u64 {
 }
 
 fn plain_run<V: Version>(s: &Shape, x: &mut Lent) {
-    x.to.workers.number = loops::loops::<V>(s, &mut x.to.matrix, &mut x.to.lists, &mut x.to.slice, bytes(&mut x.to.records));
+    x.to.workers.number = loops::loops::<V>(s, &mut x.to.matrix, &mut x.to.lists, bytes(&mut x.to.records));
 }
 
 fn runs(table: &mut Table, tiles: usize, t: usize, rounds: usize) {
-    let s = black_box(Shape { tiles, side: t, block: 1 });
+    let s = black_box(Shape { tiles, side: t });
     let mut start = fresh(&s, 11);
     let calls = (loops::task_count(tiles) * (t + 1)) as u64;
     for workers in [1, 8, 32] {
@@ -426,26 +347,13 @@ fn runs(table: &mut Table, tiles: usize, t: usize, rounds: usize) {
     table.row(format!("opening and whole run over structs, N = {tiles}, t = {t}, W = 1"), times);
 }
 
-/// A whole run with an inner block size above 1, beside Rust's and beside Rattle's own with 1.
-fn block_runs(table: &mut Table, tiles: usize, t: usize, block: usize, rounds: usize) {
-    let single = black_box(Shape { tiles, side: t, block: 1 });
-    let s = black_box(Shape { tiles, side: t, block });
-    let (one, start) = (fresh(&single, 11), fresh(&s, 11));
-    let calls = (loops::task_count(tiles) * (t + 1)) as u64;
-    let run = |s: Shape| move |x: &mut Lent| assert_eq!(factorize(&s, 1, u64::MAX, x), calls);
-    let times = compare(rounds, 1, &start, versions!(plain_run, |x| &s, x), run(s));
-    table.row(format!("opening and whole run, N = {tiles}, t = {t}, b = {block}, W = 1"), times);
-    let both = beside(rounds, 1, [(&one, Box::new(run(single))), (&start, Box::new(run(s)))]);
-    table.blocks_row(format!("b = {block}, opening and whole run, N = {tiles}, t = {t}, W = 1"), both);
-}
-
 // ---- a take and a column call
 
 #[inline(never)]
 fn plain_take<V: Version>(s: &Shape, workers: usize, p: usize, x: &mut Lent) {
     let mut slots = [IDLE; 32];
     let number = &mut x.to.workers.number;
-    assert_eq!(calls::take::<V>(s, &x.to.matrix, &x.to.lists, &x.to.slice, bytes(&mut x.to.records), &mut slots[..workers], number, 0, p), 0);
+    assert_eq!(calls::take::<V>(s, &x.to.matrix, &x.to.lists, bytes(&mut x.to.records), &mut slots[..workers], number, 0, p), 0);
 }
 
 #[inline(never)]
@@ -459,8 +367,7 @@ fn plain_column<V: Version>(s: &Shape, workers: usize, p: usize, c: usize, x: &m
     let mut slots = [IDLE; 32];
     slots[0] = Worker { busy: true, task: p as u16, column: c as u8 };
     let number = &mut x.to.workers.number;
-    let records = bytes(&mut x.to.records);
-    assert_eq!(calls::work::<V>(s, &mut x.to.matrix, &mut x.to.lists, &mut x.to.slice, records, &mut slots[..workers], number, 0), 0);
+    assert_eq!(calls::work::<V>(s, &mut x.to.matrix, &mut x.to.lists, bytes(&mut x.to.records), &mut slots[..workers], number, 0), 0);
 }
 
 #[inline(never)]
@@ -485,7 +392,7 @@ fn plain_task<V: Version>(s: &Shape, workers: usize, p: usize, x: &mut Lent) {
 
 /// A T-4 in the middle of the tasks is taken, and worked column by column.
 fn single_calls(table: &mut Table, tiles: usize, t: usize, rounds: usize) {
-    let s = black_box(Shape { tiles, side: t, block: 1 });
+    let s = black_box(Shape { tiles, side: t });
     let k = tiles / 3;
     let p = loops::number(tiles, k, k + 2, k + 2);
     let mut start = fresh(&s, 13);
@@ -509,8 +416,7 @@ fn single_calls(table: &mut Table, tiles: usize, t: usize, rounds: usize) {
 
 #[inline(never)]
 fn plain_solve<V: Version>(s: &Shape, right: &[f64], x: &mut Lent) {
-    let records = bytes(&mut x.to.records);
-    assert_eq!(solving::solve::<V>(s, &x.to.matrix, &x.to.lists, &x.to.slice, records, &[IDLE], x.to.workers.number, right, &mut x.answers), 0);
+    assert_eq!(solving::solve::<V>(s, &x.to.matrix, &x.to.lists, bytes(&mut x.to.records), &[IDLE], x.to.workers.number, right, &mut x.answers), 0);
 }
 
 #[inline(never)]
@@ -523,37 +429,17 @@ fn struct_solve(s: &Shape, right: &[f64], x: &mut Lent) {
     assert_eq!(structs::solve(s, right, &x.to, &x.structs, &mut x.answers), 0);
 }
 
-/// A system that a run has factored, with room for answers.
-fn factored(s: &Shape) -> Lent {
-    let mut lent = fresh(s, 17);
-    factorize(s, 1, u64::MAX, &mut lent);
-    lent.answers = vec![0.0; s.tiles * s.side];
-    lent
-}
-
 fn solves(table: &mut Table, tiles: usize, t: usize, rounds: usize) {
-    let s = black_box(Shape { tiles, side: t, block: 1 });
-    let start = factored(&s);
+    let s = black_box(Shape { tiles, side: t });
+    let mut start = fresh(&s, 17);
+    factorize(&s, 1, u64::MAX, &mut start);
+    start.answers = vec![0.0; tiles * t];
     let right = numbers(19, tiles * t);
     let times = compare(rounds, 1, &start, versions!(plain_solve, |x| &s, &right, x), |x| rattle_solve(&s, &right, x));
     table.row(format!("a solve, N = {tiles}, t = {t}, W = 1"), times);
     let start = start.with_structs();
     let times = compare(rounds, 1, &start, versions!(plain_solve, |x| &s, &right, x), |x| struct_solve(&s, &right, x));
     table.row(format!("a solve over structs, N = {tiles}, t = {t}, W = 1"), times);
-}
-
-/// A solve with an inner block size above 1, beside Rust's and beside Rattle's own with 1, which gives the same answers.
-fn block_solves(table: &mut Table, tiles: usize, t: usize, block: usize, rounds: usize) {
-    let single = black_box(Shape { tiles, side: t, block: 1 });
-    let s = black_box(Shape { tiles, side: t, block });
-    let (one, start) = (factored(&single), factored(&s));
-    let right = numbers(19, tiles * t);
-    let times = compare(rounds, 1, &start, versions!(plain_solve, |x| &s, &right, x), |x| rattle_solve(&s, &right, x));
-    table.row(format!("a solve, N = {tiles}, t = {t}, b = {block}, W = 1"), times);
-    let sides: [(&Lent, Step); 2] =
-        [(&one, Box::new(|x: &mut Lent| rattle_solve(&single, &right, x))), (&start, Box::new(|x: &mut Lent| rattle_solve(&s, &right, x)))];
-    let both = beside(rounds, 1, sides);
-    table.blocks_row(format!("b = {block}, a solve, N = {tiles}, t = {t}, W = 1"), both);
 }
 
 // ---- a system file
@@ -582,7 +468,7 @@ fn rattle_write(s: &Shape, x: &mut Lent) {
 
 /// A system is written, and what was written is read.
 fn system_files(table: &mut Table, tiles: usize, t: usize, rounds: usize) {
-    let s = black_box(Shape { tiles, side: t, block: 1 });
+    let s = black_box(Shape { tiles, side: t });
     let mut start = fresh(&s, 23);
     start.text = vec![0; 7 + tiles * tiles * (7 + 16 * t * t)];
     let mut written = start.clone();
@@ -601,18 +487,13 @@ fn main() {
         for t in [4, 8, 16] {
             kernels(&mut table, t, 100 * more);
         }
-        block_kernels(&mut table, 16, 16, 100 * more);
         for (tiles, t) in [(1, 16), (2, 2), (4, 4), (8, 8), (16, 1), (16, 4), (16, 16)] {
             runs(&mut table, tiles, t, if tiles * t == 256 { 50 } else { 200 } * more);
-        }
-        for (t, block) in [(16, 4), (16, 8), (16, 16), (8, 8)] {
-            block_runs(&mut table, 16, t, block, 50 * more);
         }
         single_calls(&mut table, 16, 16, 200 * more);
         for (tiles, t) in [(4, 4), (8, 8), (16, 16)] {
             solves(&mut table, tiles, t, 200 * more);
         }
-        block_solves(&mut table, 16, 16, 16, 200 * more);
         for (tiles, t) in [(4, 8), (16, 16)] {
             system_files(&mut table, tiles, t, 100 * more);
         }

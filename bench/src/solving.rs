@@ -1,7 +1,7 @@
-//! A solve in Rust, with the checks of refusals 1, 2, 17, 4, 8, 9, 10 and 3. It answers the refusal's number, or 0.
+//! A solve in Rust, with the checks of refusals 1, 2, 4, 8, 9, 10 and 3. It answers the refusal's number, or 0.
 use crate::calls::{bad_sizes, damaged, Worker};
 use crate::loops::{Record, DONE, FAILED};
-use crate::plain::{meet_number, update, Shape, Version};
+use crate::plain::{update, Shape, Version};
 
 /// A final diagonal element is zero.
 fn singular(s: &Shape, matrix: &[f64]) -> bool {
@@ -15,45 +15,8 @@ fn singular(s: &Shape, matrix: &[f64]) -> bool {
     false
 }
 
-/// The upper and the lower part of the right side through a T-4, by its lower tile and row list. False where a computed number isn't finite.
-fn columns<V: Version>(t: usize, tile: &[f64], list: &[u8], upper: &mut [f64], lower: &mut [f64]) -> bool {
-    for c in 0..t {
-        let entry = list[c] as usize;
-        if entry > 0 {
-            std::mem::swap(&mut upper[c], &mut lower[entry - 1]);
-        }
-        if !V::update_column(tile, t, c, upper[c], lower) {
-            return false;
-        }
-    }
-    true
-}
-
-/// The same panel by panel, by the part of the slice too: exchanges, the panel's upper numbers, all lower ones.
-fn panels<V: Version>(t: usize, b: usize, tile: &[f64], list: &[u8], part: &[f64], upper: &mut [f64], lower: &mut [f64]) -> bool {
-    for a in (0..t).step_by(b) {
-        for c in a..a + b {
-            let entry = list[c] as usize;
-            if entry > 0 {
-                std::mem::swap(&mut upper[c], &mut lower[entry - 1]);
-            }
-        }
-        for r in a + 1..a + b {
-            let (tops, rest) = upper[a..].split_at_mut(r - a);
-            rest[0] = meet_number(rest[0], &part[r * b..][..b], tops);
-            if !rest[0].is_finite() {
-                return false;
-            }
-        }
-        if !V::meet_column(tile, t, a, &upper[a..a + b], lower) {
-            return false;
-        }
-    }
-    true
-}
-
 /// The right side through T-2(k) and every T-4(k,i). False where a computed number isn't finite.
-fn stage<V: Version>(s: &Shape, matrix: &[f64], lists: &[u8], slice: &[f64], y: &mut [f64], k: usize) -> bool {
+fn stage<V: Version>(s: &Shape, matrix: &[f64], lists: &[u8], y: &mut [f64], k: usize) -> bool {
     let t = s.side;
     let (above, below) = y.split_at_mut((k + 1) * t);
     let own = &mut above[k * t..];
@@ -71,13 +34,14 @@ fn stage<V: Version>(s: &Shape, matrix: &[f64], lists: &[u8], slice: &[f64], y: 
         let tile = &matrix[s.tile(i, k)..][..t * t];
         let list = &lists[s.list(i, k)..][..t];
         let lower = &mut below[(i - k - 1) * t..][..t];
-        let good = if s.block == 1 {
-            columns::<V>(t, tile, list, own, lower)
-        } else {
-            panels::<V>(t, s.block, tile, list, &slice[s.part(i, k)..], own, lower)
-        };
-        if !good {
-            return false;
+        for c in 0..t {
+            let entry = list[c] as usize;
+            if entry > 0 {
+                std::mem::swap(&mut own[c], &mut lower[entry - 1]);
+            }
+            if !V::update_column(tile, t, c, own[c], lower) {
+                return false;
+            }
         }
     }
     true
@@ -109,19 +73,16 @@ fn back_rows(s: &Shape, matrix: &[f64], y: &mut [f64]) -> bool {
     true
 }
 
-pub fn solve<V: Version>(s: &Shape, matrix: &[f64], lists: &[u8], slice: &[f64], records: &[Record], workers: &[Worker], number: u32, right: &[f64], answers: &mut [f64]) -> u8 {
+pub fn solve<V: Version>(s: &Shape, matrix: &[f64], lists: &[u8], records: &[Record], workers: &[Worker], number: u32, right: &[f64], answers: &mut [f64]) -> u8 {
     let n = s.tiles * s.side;
-    let refusal = bad_sizes(s, matrix, lists, slice, records, workers);
+    let refusal = bad_sizes(s, matrix, lists, records, workers);
     if refusal != 0 {
         return refusal;
     }
     if right.len() != n || answers.len() != n {
         return 2;
     }
-    if s.bad_block() {
-        return 17;
-    }
-    if damaged::<V>(s, lists, records, workers, number) || !V::all_finite(matrix) || !V::all_finite(slice) {
+    if damaged::<V>(s, lists, records, workers, number) || !V::all_finite(matrix) {
         return 4;
     }
     if V::some(records.iter().map(|r| r[4] < DONE)) {
@@ -140,7 +101,7 @@ pub fn solve<V: Version>(s: &Shape, matrix: &[f64], lists: &[u8], slice: &[f64],
     let y = &mut work[..n];
     y.copy_from_slice(right);
     for k in 0..s.tiles {
-        if !stage::<V>(s, matrix, lists, slice, y, k) {
+        if !stage::<V>(s, matrix, lists, y, k) {
             return 11;
         }
     }

@@ -13,13 +13,11 @@
 #include "solumivaf.h"
 
 #define WORKERS 2
-#define BLOCK side /* the whole tile as one panel */
 #define ROWS SOLUMIVAF_RIGHT_LENGTH(tiles, side)
 #define TASKS SOLUMIVAF_RECORDS_LENGTH(tiles)
-#define MULTIPLIERS SOLUMIVAF_SLICE_LENGTH(tiles, side, BLOCK)
 
 static size_t tiles, side;
-static double *matrix, *slice, *right, *answers;
+static double *matrix, *right, *answers;
 static uint8_t *lists, busy[SOLUMIVAF_SLOTS], column[SOLUMIVAF_SLOTS];
 static uint16_t task[SOLUMIVAF_SLOTS];
 static uint32_t calls;
@@ -28,13 +26,12 @@ static char text[SOLUMIVAF_SYSTEM_LENGTH(SOLUMIVAF_MOST_TILES, SOLUMIVAF_MOST_SI
 
 /* What all calls on these buffers are told first. The run's number follows: by its address where a call may write it. */
 #define LENT \
-    tiles, side, WORKERS, BLOCK, matrix, SOLUMIVAF_MATRIX_LENGTH(tiles, side), lists, SOLUMIVAF_LISTS_LENGTH(tiles, side), slice, MULTIPLIERS, \
-        records, TASKS, busy, task, column, WORKERS
+    tiles, side, WORKERS, matrix, SOLUMIVAF_MATRIX_LENGTH(tiles, side), lists, SOLUMIVAF_LISTS_LENGTH(tiles, side), records, TASKS, busy, task, \
+        column, WORKERS
 
 static void release(void) {
     free(matrix);
     free(lists);
-    free(slice);
     free(records);
     free(right);
     free(answers);
@@ -53,7 +50,7 @@ static void check(const char *where, uint8_t number, size_t place) {
 }
 
 static void *lend(size_t count, size_t size) {
-    void *buffer = calloc(count + 1, size); /* never null, also for a count of 0 */
+    void *buffer = calloc(count, size);
     if (buffer == NULL)
         fail("memory", "there is too little; free some and start again");
     return buffer;
@@ -81,7 +78,6 @@ static void read_system(const char *name) {
     side = read.side;
     matrix = lend(SOLUMIVAF_MATRIX_LENGTH(tiles, side), sizeof *matrix);
     lists = lend(SOLUMIVAF_LISTS_LENGTH(tiles, side), sizeof *lists);
-    slice = lend(MULTIPLIERS, sizeof *slice);
     records = lend(TASKS, sizeof *records);
     right = lend(ROWS, sizeof *right);
     answers = lend(ROWS, sizeof *answers);

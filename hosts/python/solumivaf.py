@@ -21,7 +21,7 @@ import os
 import struct
 from typing import Iterable, List, NamedTuple, Sequence, Tuple
 
-VERSION = 6
+VERSION = 5
 MOST_TILES, MOST_SIDE, MOST_TASKS, SLOTS = 16, 16, 1496, 32
 TO_THE_END = 2 ** 64 - 1
 
@@ -44,12 +44,11 @@ REFUSALS = {
     13: ("the line has another frame than the one that is due", "line", "Look whether it is the right kind of file, in the right order."),
     14: ("the file ends before this line, or goes on with it where it should end", "line", "Look whether the file is whole, and a single one."),
     15: ("the text lent to a writer is too short", None, "Lend the length that the sizes call for."),
-    17: ("block is zero or does not divide side", None, "Give a divisor of side, or 1."),
 }
 
 
 class Refused(Exception):
-    """A refusal of the library: its number, 1 to 17, and its place, 0 where it has none. In a file the place is a line, counted from 1."""
+    """A refusal of the library: its number, 1 to 15, and its place, 0 where it has none. In a file the place is a line, counted from 1."""
 
     def __init__(self, number: int, place: int, in_file: bool = False) -> None:
         super().__init__(number, place, in_file)
@@ -74,11 +73,10 @@ class ArithmeticMode(Exception):
 # ---- sizes and lengths
 
 class Sizes(NamedTuple):
-    """N, t, W and the inner block size b as told to a call, in range or not."""
+    """N, t and W as told to a call, in range or not."""
     tiles: int
     side: int
     workers: int
-    block: int = 1
 
 
 def right_length(tiles: int, side: int) -> int:
@@ -94,11 +92,6 @@ def matrix_length(tiles: int, side: int) -> int:
 def lists_length(tiles: int, side: int) -> int:
     """The count of entries in all row lists."""
     return tiles * tiles * side
-
-
-def slice_length(tiles: int, side: int, block: int) -> int:
-    """The count of multipliers of upper rows: none for an inner block size of 1."""
-    return 0 if block == 1 else tiles * (tiles - 1) // 2 * side * block
 
 
 def records_length(tiles: int) -> int:
@@ -221,7 +214,7 @@ _NUMBERS = [ctypes.POINTER(ctypes.c_double), _SIZE]
 _BYTES = [ctypes.POINTER(ctypes.c_uint8), _SIZE]
 _TEXT = [ctypes.c_char_p, _SIZE]
 _SLOTS = [ctypes.POINTER(kind * SLOTS) for kind in (ctypes.c_uint8, ctypes.c_uint16, ctypes.c_uint8)]
-_LENT = [_SIZE] * 4 + _NUMBERS + _BYTES + _NUMBERS + [ctypes.POINTER(Record), _SIZE] + _SLOTS + [_SIZE]
+_LENT = [_SIZE] * 3 + _NUMBERS + _BYTES + [ctypes.POINTER(Record), _SIZE] + _SLOTS + [_SIZE]
 _WRITTEN, _READ = _LENT + [ctypes.POINTER(ctypes.c_uint32)], _LENT + [ctypes.c_uint32]
 _FUNCTIONS = {
     "solumivaf_open": (_Told, _WRITTEN),
@@ -323,32 +316,30 @@ def _accept(told: ctypes.Structure, in_file: bool = False) -> None:
 class Lent:
     """Everything lent to a call, around a copy of the matrix, whose numbers stand tile after tile and each tile row by row.
 
-    The attributes are ctypes arrays: `matrix[:]`, `lists[:]` and `slice[:]` are lists, `records[p].mark` is a task's mark and `records[p].ties` the sum of its
+    The attributes are ctypes arrays: `matrix[:]` and `lists[:]` are lists, `records[p].mark` is a task's mark and `records[p].ties` the sum of its
     ties, `records[p].worker`, `.took` and `.ended` tell who did it and when, `workers.busy[w]` is a worker's byte and `workers.number` the run's
-    number. For sizes out of range, lists, slice and records are empty, so that opening is refused. Sizes without an inner block size have 1, and an
-    empty slice; a larger one, which divides side, can make a run shorter."""
+    number. For sizes out of range, lists and records are empty, so that opening is refused."""
 
-    def __init__(self, sizes: Sequence[int], matrix: Sequence[float]) -> None:
+    def __init__(self, sizes: Tuple[int, int, int], matrix: Sequence[float]) -> None:
         self.sizes = Sizes(*(_whole(size) for size in sizes))
-        tiles, side, workers, block = self.sizes
+        tiles, side, workers = self.sizes
         good = _in_range(tiles, side)
         self.matrix = _numbers(matrix)
         self.lists = (ctypes.c_uint8 * (lists_length(tiles, side) if good else 0))()
-        self.slice = (ctypes.c_double * (slice_length(tiles, side, block) if good and block <= side else 0))()
         self.records = (Record * (records_length(tiles) if good else 0))()
         self.workers = Workers(count=workers)
 
     def _call(self, function: str, *more: object) -> _Told:
-        tiles, side, workers, block = (_whole(size) for size in self.sizes)
+        tiles, side, workers = (_whole(size) for size in self.sizes)
         slots = self.workers
-        told = getattr(_library, function)(tiles, side, workers, block, self.matrix, len(self.matrix), self.lists, len(self.lists), self.slice,
-                                           len(self.slice), self.records, len(self.records), slots.busy, slots.task, slots.column, slots.count, *more)
+        told = getattr(_library, function)(tiles, side, workers, self.matrix, len(self.matrix), self.lists, len(self.lists), self.records,
+                                           len(self.records), slots.busy, slots.task, slots.column, slots.count, *more)
         _accept(told)
         return told
 
     def open(self) -> None:
-        """Starts the work on the matrix: row lists of 0, a slice of +0, every task waiting and without ties, worker and calls, every worker idle,
-        the run's number 0."""
+        """Starts the work on the matrix: row lists of 0, every task waiting and without ties, worker and calls, every worker idle, the run's number
+        0."""
         _test_arithmetic()
         self._call("solumivaf_open", self.workers._number)
 
@@ -377,7 +368,7 @@ class Lent:
     def solve(self, right: Sequence[float]) -> List[float]:
         """The answers for one right side."""
         _test_arithmetic()
-        tiles, side = self.sizes[:2]
+        tiles, side, _ = self.sizes
         lent, answers = _numbers(right), (ctypes.c_double * (right_length(tiles, side) if _in_range(tiles, side) else 0))()
         self._call("solumivaf_solve", self.workers.number, lent, len(lent), answers, len(answers))
         return answers[:]

@@ -29,9 +29,8 @@ EXAMPLES = ("small", "meter", "reel")
 REFUSALS = {"SIZES": (1, "out of range"), "LENGTH": (2, "a length"), "NOT_FINITE": (3, "a number isn't finite"), "DAMAGED": (4, "damaged"),
             "WORKER": (5, "the worker named"), "NO_TASK": (6, "the task named does not exist"), "NOT_READY": (7, "not ready"),
             "TOO_EARLY": (8, "too early"), "OVERFLOW": (9, "overflow"), "SINGULAR": (10, "singular"), "SOLVING": (11, "a solve meets"),
-            "MALFORMED": (12, "malformed"), "OUT_OF_ORDER": (13, "out of order"), "END": (14, "ends too early"), "SHORT_TEXT": (15, "too short"),
-            "BLOCK": (17, "block is zero")}
-OTHERS = {"VERSION": 6, "MOST_TILES": 16, "MOST_SIDE": 16, "MOST_TASKS": 1496, "SLOTS": 32, "TASK_FACTOR": 1, "TASK_APPLY": 2, "TASK_COUPLE": 3,
+            "MALFORMED": (12, "malformed"), "OUT_OF_ORDER": (13, "out of order"), "END": (14, "ends too early"), "SHORT_TEXT": (15, "too short")}
+OTHERS = {"VERSION": 5, "MOST_TILES": 16, "MOST_SIDE": 16, "MOST_TASKS": 1496, "SLOTS": 32, "TASK_FACTOR": 1, "TASK_APPLY": 2, "TASK_COUPLE": 3,
           "TASK_PAIR": 4, "MARK_WAITING": 0, "MARK_TAKEN": 1, "MARK_DONE": 2, "MARK_FAILED": 3, "MARK_SPOILED": 4, "RUN_FINISHED": 1, "RUN_SPENT": 2,
           "OUTCOME_GOOD": 0, "OUTCOME_OVERFLOW": 1, "OUTCOME_SINGULAR": 2, "OUTCOME_UNFINISHED": 3}
 
@@ -46,7 +45,7 @@ MODE = r"""
 #include "solumivaf.h"
 
 int main(int count, char **words) {
-    double matrix[4] = {2, 1, 0, 1}, slice[1];
+    double matrix[4] = {2, 1, 0, 1};
     uint64_t bits = UINT64_C(0x0000123456789ABC);
     uint8_t lists[2], busy[SOLUMIVAF_SLOTS], column[SOLUMIVAF_SLOTS];
     uint16_t task[SOLUMIVAF_SLOTS];
@@ -56,8 +55,8 @@ int main(int count, char **words) {
     if (count == 3 && words[1][0] == 'r' && fesetround((int)strtol(words[2], NULL, 16)) != 0) return 1;
     if (count == 3 && words[1][0] == 'm') _mm_setcsr(_mm_getcsr() | (unsigned)strtoul(words[2], NULL, 16));
     int arithmetic = solumivaf_arithmetic() != 0;
-    if (solumivaf_open(1, 2, 1, 1, matrix, 4, lists, 2, slice, 0, records, 1, busy, task, column, 1, &number).number != 0) return 1;
-    if (solumivaf_run(1, 2, 1, 1, matrix, 4, lists, 2, slice, 0, records, 1, busy, task, column, 1, &number, UINT64_MAX).number != 0) return 1;
+    if (solumivaf_open(1, 2, 1, matrix, 4, lists, 2, records, 1, busy, task, column, 1, &number).number != 0) return 1;
+    if (solumivaf_run(1, 2, 1, matrix, 4, lists, 2, records, 1, busy, task, column, 1, &number, UINT64_MAX).number != 0) return 1;
     memcpy(&bits, &matrix[2], sizeof bits);
     printf("%d %016" PRIX64, arithmetic, bits);
     return 0;
@@ -70,10 +69,10 @@ TIES = r"""
 #include "solumivaf.h"
 
 #define TASKS SOLUMIVAF_RECORDS_LENGTH(tiles)
-#define LENT tiles, side, 1, 1, matrix, 4, lists, SOLUMIVAF_LISTS_LENGTH(tiles, side), slice, 0, records, TASKS, busy, task, column, 1
+#define LENT tiles, side, 1, matrix, 4, lists, SOLUMIVAF_LISTS_LENGTH(tiles, side), records, TASKS, busy, task, column, 1
 
 static int sums(size_t tiles, size_t side) {
-    double matrix[4] = {2, 2, -2, 1}, slice[1], right[2] = {1, 1}, answers[2] = {5, 7};
+    double matrix[4] = {2, 2, -2, 1}, right[2] = {1, 1}, answers[2] = {5, 7};
     uint8_t lists[4], busy[SOLUMIVAF_SLOTS], column[SOLUMIVAF_SLOTS];
     uint16_t task[SOLUMIVAF_SLOTS];
     uint32_t number;
@@ -95,9 +94,9 @@ HISTORY = r"""
 #include <stdio.h>
 #include "solumivaf.h"
 
-#define LENT 2, 1, 3, 1, matrix, 4, lists, 4, slice, 0, records, 5, busy, task, column, 3
+#define LENT 2, 1, 3, matrix, 4, lists, 4, records, 5, busy, task, column, 3
 
-static double matrix[4] = {0.25, -0.125, -0.5, 1}, slice[1], right[2] = {0.25, 4}, answers[2] = {5, 7};
+static double matrix[4] = {0.25, -0.125, -0.5, 1}, right[2] = {0.25, 4}, answers[2] = {5, 7};
 static uint8_t lists[4], busy[SOLUMIVAF_SLOTS], column[SOLUMIVAF_SLOTS];
 static uint16_t task[SOLUMIVAF_SLOTS];
 static uint32_t number = UINT32_MAX;
@@ -244,9 +243,8 @@ int main(void) {
     for (int n = 0; n < 16; n++) {
         for (uint8_t t = 0; t < 16; t++) {
             size_t one[] = {SOLUMIVAF_MATRIX_LENGTH(n + 1, t + 1), SOLUMIVAF_LISTS_LENGTH(n + 1, t + 1), SOLUMIVAF_RECORDS_LENGTH(n + 1),
-                            SOLUMIVAF_RIGHT_LENGTH(n + 1, t + 1), SOLUMIVAF_SYSTEM_LENGTH(n + 1, t + 1), SOLUMIVAF_RESULT_LENGTH(n + 1, t + 1),
-                            SOLUMIVAF_SLICE_LENGTH(n + 1, t + 1, 1), SOLUMIVAF_SLICE_LENGTH(n + 1, t + 1, t + 1)};
-            printf("%zu %zu %zu %zu %zu %zu %zu %zu\n", one[0], one[1], one[2], one[3], one[4], one[5], one[6], one[7]);
+                            SOLUMIVAF_RIGHT_LENGTH(n + 1, t + 1), SOLUMIVAF_SYSTEM_LENGTH(n + 1, t + 1), SOLUMIVAF_RESULT_LENGTH(n + 1, t + 1)};
+            printf("%zu %zu %zu %zu %zu %zu\n", one[0], one[1], one[2], one[3], one[4], one[5]);
         }
     }
     return sizeof(SOLUMIVAF_RECORDS_LENGTH((uint8_t)1)) == sizeof(size_t) ? 0 : 1;
@@ -257,8 +255,7 @@ int main(void) {
             for t in range(1, 17):
                 tiles, lists = [6 + 16 * t * t + 1] * (n * n), [6 + 2 * t + 1 for i in range(n) for j in range(i + 1)]
                 system = sum([7] + tiles)
-                due.append([(n * t) ** 2, n * n * t, sum(k * k for k in range(n + 1)), n * t, system, system + sum(lists) + 9,
-                            0, 0 if t == 1 else sum(range(n)) * t * t])
+                due.append([(n * t) ** 2, n * n * t, sum(k * k for k in range(n + 1)), n * t, system, system + sum(lists) + 9])
         lines = self.printed(self.compiled(C11, source)).splitlines()
         self.assertEqual([[int(word) for word in line.split()] for line in lines], due)
 
@@ -408,13 +405,13 @@ class Example(Compiling):
 
     def test_memory(self):
         words = self.example("meter", ".system"), self.example("meter", ".right")
-        for failing in range(1, 7):
+        for failing in range(1, 6):
             self.fails("memory: there is too little", *words, env=dict(os.environ, FAILING=str(failing)))
 
     def test_mode_and_version(self):
         words = self.example("small", ".system"), self.example("small", ".right")
         self.fails("arithmetic: ", *words, program=self.compiled(C11, "-Ofast", RETURN, ARCHIVE))
-        other = self.source("version.c", "#include <stddef.h>\nsize_t __wrap_solumivaf_version(void) { return 7; }\n")
+        other = self.source("version.c", "#include <stddef.h>\nsize_t __wrap_solumivaf_version(void) { return 6; }\n")
         self.fails("library: ", *words, program=self.compiled(["gcc", "-I", os.path.dirname(HEADER)], RETURN, other, ARCHIVE,
                                                               "-Wl,--wrap=solumivaf_version"))
 

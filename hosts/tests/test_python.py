@@ -258,29 +258,16 @@ class Refusals(unittest.TestCase):
                              (13, b"020101\n"), (13, b"050101\n"), (1, b"010100\n")):
             self.assertIn("at line 1", self.refused(number, 1, solumivaf.read_sizes, text))
 
-    def test_inner_blocks(self):
-        matrix = [1 / (1 + x * x % 37) for x in range(36)]
-        one, more = Lent(Sizes(3, 2, 1), matrix), Lent(Sizes(3, 2, 1, 2), matrix)
-        self.assertEqual((len(one.slice), len(more.slice)), (0, solumivaf.slice_length(3, 2, 2)))
-        for lent in (one, more):
-            lent.open()
-            self.assertTrue(lent.run().finished)
-        self.assertEqual(one.lists[:], more.lists[:])
-        self.assertEqual(one.outcome(), more.outcome())
-        self.assertEqual(one.solve([1, 2, 3, 4, 5, 6]), more.solve([1, 2, 3, 4, 5, 6]))
-        for block in (0, 3, 2 ** 64 - 1):
-            self.refused(17, 0, Lent(Sizes(1, 2, 1, block), [1, 2, 3, 4]).open)
-
     def test_short_text(self):
         matrix, text = solumivaf._numbers([1.0]), (ctypes.c_uint8 * 29)()
         told = solumivaf._library.solumivaf_write_system(1, 1, matrix, 1, text, 29)
         self.refused(15, 0, solumivaf._accept, told)
 
     def test_sentences(self):
-        self.assertEqual(sorted(solumivaf.REFUSALS), list(range(1, 16)) + [17])
+        self.assertEqual(sorted(solumivaf.REFUSALS), list(range(1, 16)))
         self.assertEqual(str(Refused(10, 3)), "refusal 10 at row 3: the outcome is singular, so there is no solution. "
                          "Look for rows of the system that depend on each other.")
-        for number in solumivaf.REFUSALS:
+        for number in range(1, 16):
             self.assertRegex(str(Refused(number, 7)), r"^refusal %d( at [a-z, ]+ 7)?: [a-zN].*\.$" % number)
 
 
@@ -563,9 +550,9 @@ class Loading(unittest.TestCase):
     def test_messages(self):
         for make, words in ((lambda path: None, "libsolumivaf.so is missing: run hosts/build, or name its folder in SOLUMIVAF_LIB"),
                             (lambda path: open(path, "wb").close(), "cannot be loaded: run hosts/build"),
-                            (self.compiled("int solumivaf_open;"), "is older than version 6, which this module is for: run hosts/build"),
-                            (self.compiled("long solumivaf_version(void) { return 7; }"),
-                             "has version 7, and this module is for version 6: run hosts/build")):
+                            (self.compiled("int solumivaf_open;"), "is older than version 5, which this module is for: run hosts/build"),
+                            (self.compiled("long solumivaf_version(void) { return 6; }"),
+                             "has version 6, and this module is for version 5: run hosts/build")):
             message = self.message(make)
             self.assertTrue(message.startswith("ImportError: "), message)
             self.assertIn(words, message)

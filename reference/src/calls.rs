@@ -1,27 +1,21 @@
 //! Opening, take, column and whole run. A refused call changes nothing.
 
-use crate::checks::{
-    accept_block, accept_elements, accept_lengths, accept_sizes, accept_state, accept_touched,
-};
+use crate::checks::{accept_elements, accept_lengths, accept_sizes, accept_state, accept_touched};
 use crate::lent::{refuse, Lent, Record, Refusal, Sizes, Worker};
 use crate::lent::{DONE, FAILED, IDLE, SPOILED, TAKEN, WAITING};
 use crate::numbers::first_not_finite;
 use crate::tasks::table;
 use crate::tile::{fill, work_column, Shape};
 
-/// Checks sizes, lengths, elements and b, then makes lists, slice, records and workers new and sets the run's number to 0.
+/// Checks sizes, lengths and elements, then makes lists, records and workers new and sets the run's number to 0.
 pub fn opening(sizes: Sizes, lent: &mut Lent) -> Result<(), Refusal> {
     let (shape, workers) = accept_sizes(sizes)?;
-    accept_lengths(shape, sizes.block, workers, lent)?;
+    accept_lengths(shape, workers, lent)?;
     if let Some(offset) = first_not_finite(&lent.matrix) {
         return refuse(3, offset as u64);
     }
-    accept_block(shape, sizes.block)?;
     for entry in &mut lent.lists {
         *entry = 0;
-    }
-    for multiplier in &mut lent.slice {
-        *multiplier = 0.0;
     }
     let tasks = &table(shape.tiles).tasks;
     for number in 0..tasks.len() {
@@ -66,8 +60,7 @@ pub fn is_ready(shape: Shape, records: &[Record], number: usize) -> bool {
 /// Gives a ready task to an idle worker.
 pub fn take(sizes: Sizes, lent: &mut Lent, worker: u64, task: u64) -> Result<(), Refusal> {
     let (shape, workers) = accept_sizes(sizes)?;
-    accept_lengths(shape, sizes.block, workers, lent)?;
-    let shape = accept_block(shape, sizes.block)?;
+    accept_lengths(shape, workers, lent)?;
     accept_state(shape, workers, lent)?;
     if worker >= workers as u64 || lent.workers[worker as usize].busy {
         return refuse(5, worker);
@@ -93,8 +86,7 @@ fn make_take(lent: &mut Lent, worker: usize, task: usize) {
 /// Has a busy worker do the next column of its task.
 pub fn column(sizes: Sizes, lent: &mut Lent, worker: u64) -> Result<(), Refusal> {
     let (shape, workers) = accept_sizes(sizes)?;
-    accept_lengths(shape, sizes.block, workers, lent)?;
-    let shape = accept_block(shape, sizes.block)?;
+    accept_lengths(shape, workers, lent)?;
     accept_state(shape, workers, lent)?;
     if worker >= workers as u64 {
         return refuse(5, worker);
@@ -118,8 +110,7 @@ fn make_column(shape: Shape, lent: &mut Lent, worker: usize) {
     let sum = lent.records[number].tie_sum;
     let (mark, tie_sum) = if c == 0 && is_spoiled(shape, &lent.records, number) {
         (SPOILED, 0)
-    } else if let Some(ties) = work_column(shape, &mut lent.matrix, &mut lent.lists, &mut lent.slice, task, c)
-    {
+    } else if let Some(ties) = work_column(shape, &mut lent.matrix, &mut lent.lists, task, c) {
         (if c == shape.side - 1 { DONE } else { TAKEN }, sum + ties)
     } else {
         (FAILED, sum)
@@ -130,7 +121,7 @@ fn make_column(shape: Shape, lent: &mut Lent, worker: usize) {
         return;
     }
     if mark != DONE {
-        fill(shape, &mut lent.matrix, &mut lent.lists, &mut lent.slice, task);
+        fill(shape, &mut lent.matrix, &mut lent.lists, task);
     }
     lent.records[number].mark = mark;
     lent.records[number].worker = worker as u8;
@@ -158,8 +149,7 @@ pub enum Run {
 /// Workers take turns from 0 until all tasks are finished or the budget is used.
 pub fn run(sizes: Sizes, lent: &mut Lent, budget: u64) -> Result<Run, Refusal> {
     let (shape, workers) = accept_sizes(sizes)?;
-    accept_lengths(shape, sizes.block, workers, lent)?;
-    let shape = accept_block(shape, sizes.block)?;
+    accept_lengths(shape, workers, lent)?;
     accept_state(shape, workers, lent)?;
     accept_elements(lent)?;
     let mut count = 0;

@@ -13,7 +13,7 @@ use crate::tasks::table;
 use crate::tile::Shape;
 
 /// Two tiles a side; the task is T-1(0), T-2(0,1), T-3(0,1) or T-4(0,1,1), by its kind, and stands at a
-/// column, with a tie sum so far; the slice is that of b. The place among the cases chooses W and the call numbers.
+/// column, with a tie sum so far. The place among the cases chooses W and the call numbers.
 #[derive(Clone)]
 pub struct Case {
     pub kind: u8,
@@ -23,8 +23,6 @@ pub struct Case {
     pub place: usize,
     pub matrix: Vec<f64>,
     pub lists: Vec<u8>,
-    pub block: usize,
-    pub slice: Vec<f64>,
 }
 
 impl Case {
@@ -41,7 +39,7 @@ impl Case {
     /// Worker 0 holds the task and stands at the column; earlier tasks are done and later ones wait, so
     /// that nothing is spoiled.
     fn lent(&self) -> Lent {
-        let shape = Shape::of(2, self.side);
+        let shape = Shape { tiles: 2, side: self.side };
         let mut workers = [IDLE; SLOTS];
         workers[0] = Worker { busy: true, task: self.task() as u16, column: self.column as u8 };
         let mark = |number| match number {
@@ -52,9 +50,8 @@ impl Case {
         let mut records: Vec<Record> =
             (0..table(2).tasks.len()).map(|number| record_of(shape, number, mark(number))).collect();
         records[self.task()].tie_sum = self.tie_sum as u16;
-        let (matrix, lists, slice) = (self.matrix.clone(), self.lists.clone(), self.slice.clone());
-        let count = self.workers() as u64;
-        let mut lent = Lent { matrix, lists, slice, records, count, run_number: 0, workers };
+        let (matrix, lists, count) = (self.matrix.clone(), self.lists.clone(), self.workers() as u64);
+        let mut lent = Lent { matrix, lists, records, count, run_number: 0, workers };
         match self.place % 3 {
             0 => self.set_counted(&mut lent),
             _ => set_numbers(&mut Rng::new(self.place as u64), shape, self.workers(), &mut lent),
@@ -75,7 +72,7 @@ impl Case {
     }
 
     pub fn script(&self) -> String {
-        let call = call_line(COLUMN, &[2, self.side as u64, self.workers() as u64, self.block as u64, 0]);
+        let call = call_line(COLUMN, &[2, self.side as u64, self.workers() as u64, 0]);
         format!("{}\n{}\n", lend_line(&self.lent()), call)
     }
 }
@@ -87,8 +84,7 @@ fn crafted(kind: u8, side: usize, column: usize, tiles: [&[f64]; 4]) -> Case {
         assert_eq!(tile.len(), side * side);
         matrix.extend_from_slice(tile);
     }
-    let lists = vec![0; 4 * side];
-    Case { kind, side, column, tie_sum: 0, place: 0, matrix, lists, block: 1, slice: Vec::new() }
+    Case { kind, side, column, tie_sum: 0, place: 0, matrix, lists: vec![0; 4 * side] }
 }
 
 fn crafted_singles() -> Vec<Case> {
@@ -254,9 +250,9 @@ fn random_case(rng: &mut Rng, kind: u8, side: usize, family: usize) -> Case {
         1 => set_column(rng, side, column, &mut matrix, &[1.0, -1.0]),
         _ => {}
     }
-    let lists = random_lists(rng, Shape::of(2, side));
+    let lists = random_lists(rng, Shape { tiles: 2, side });
     let tie_sum = rng.below(side * column + 1);
-    Case { kind, side, column, tie_sum, place: 0, matrix, lists, block: 1, slice: Vec::new() }
+    Case { kind, side, column, tie_sum, place: 0, matrix, lists }
 }
 
 /// Random choices through one column of tiles (0,0) and (1,0): zeros stop the pivot search of T-1 and
@@ -281,64 +277,14 @@ fn overflow_case(rng: &mut Rng, kind: u8) -> Case {
     case
 }
 
-/// A column of T-3 or T-4 with b above 1; lists and slice hold anything.
-fn panel_case(rng: &mut Rng, kind: u8, block: usize, side: usize, column: usize, family: usize) -> Case {
-    let case = random_case(rng, kind, side, family);
-    let tie_sum = rng.below(side * column + 1);
-    Case { column, tie_sum, block, slice: numbers(rng, family, side * block), ..case }
-}
-
-/// The same with ones of both signs for multipliers, and the largest numbers elsewhere: most of these leave the finite range.
-fn panel_overflow(rng: &mut Rng, kind: u8, block: usize, side: usize, column: usize) -> Case {
-    let mut case = panel_case(rng, kind, block, side, column, 0);
-    for place in 0..case.matrix.len() {
-        case.matrix[place] = rng.pick(&[M, -M, M / 2.0, 1.0]);
-    }
-    for slot in &mut case.slice {
-        *slot = rng.pick(&[1.0, -1.0, 0.0]);
-    }
-    for column in 0..side {
-        let choices: &[f64] =
-            if kind == 3 && column > case.column { &[M, -M, 1.0] } else { &[1.0, -1.0, 0.0] };
-        set_column(rng, side, column, &mut case.matrix, choices);
-    }
-    case
-}
-
-/// Each column of T-3, with other numbers, a zero pivot and ties; of T-4 each column that works a panel, and each of those that only go on.
-fn panel_cases(rng: &mut Rng) -> Vec<Case> {
-    let mut cases = Vec::new();
-    for (side, block) in [(2, 2), (3, 3), (4, 2), (4, 4), (6, 3)] {
-        for column in 0..side {
-            let last = (column + 1) % block == 0;
-            cases.push(panel_case(rng, 3, block, side, column, 0));
-            let mut zeros = panel_case(rng, 3, block, side, column, 1);
-            set_column(rng, side, column, &mut zeros.matrix, &[0.0, -0.0]);
-            cases.push(zeros);
-            if side < 6 {
-                let mut ones = panel_case(rng, 3, block, side, column, 6);
-                set_column(rng, side, column, &mut ones.matrix, &[1.0, -1.0]);
-                cases.push(ones);
-            }
-            cases.push(panel_case(rng, 4, block, side, column, 0));
-            if last {
-                cases.push(panel_case(rng, 4, block, side, column, 2));
-                cases.push(panel_overflow(rng, 3, block, side, column));
-                cases.push(panel_overflow(rng, 4, block, side, column));
-            }
-        }
-    }
-    cases
-}
-
-/// The cases of one seed, and of the seeds after it those with t up to 3 and b = 1, each once.
+/// The cases of one seed, and of the seeds after it those with t up to 3, each once.
 pub fn cases_script(first: u64, seeds: u64) -> String {
     let mut met = HashSet::new();
     let mut out = String::new();
     for seed in first..first + seeds {
         for case in all_cases(seed) {
             let script = case.script();
-            if (seed == first || case.side <= 3 && case.block == 1) && met.insert(script.clone()) {
+            if (seed == first || case.side <= 3) && met.insert(script.clone()) {
                 out.push_str(&script);
             }
         }
@@ -373,7 +319,6 @@ pub fn all_cases(seed: u64) -> Vec<Case> {
             cases.push(random_case(&mut rng, kind, 16, family));
         }
     }
-    cases.extend(panel_cases(&mut rng));
     for (place, case) in cases.iter_mut().enumerate() {
         case.place = place;
     }

@@ -1,4 +1,4 @@
-//! Refusals 1, 2, 17 and 4: the tests that the calls share.
+//! Refusals 1, 2 and 4: the tests that the calls share.
 
 use crate::lent::{refuse, Lent, Refusal, Sizes, Worker, DONE, FAILED, SPOILED, TAKEN};
 use crate::numbers::first_not_finite;
@@ -10,10 +10,10 @@ pub fn accept_shape(tiles: u64, side: u64) -> Result<Shape, Refusal> {
     if tiles < 1 || tiles > 16 || side < 1 || side > 16 {
         return refuse(1, 0);
     }
-    Ok(Shape::of(tiles as usize, side as usize))
+    Ok(Shape { tiles: tiles as usize, side: side as usize })
 }
 
-/// Refusal 1 for N, t and W; hands back the shape, as yet without b, and W.
+/// Refusal 1 for N, t and W; hands back the shape and W.
 pub fn accept_sizes(sizes: Sizes) -> Result<(Shape, usize), Refusal> {
     let shape = accept_shape(sizes.tiles, sizes.side)?;
     if sizes.workers < 1 || sizes.workers > 32 {
@@ -22,38 +22,20 @@ pub fn accept_sizes(sizes: Sizes) -> Result<(Shape, usize), Refusal> {
     Ok((shape, sizes.workers as usize))
 }
 
-/// The length of the slice that N, t and b call for, whatever b is.
-pub fn slice_length(shape: Shape, block: u64) -> u128 {
-    if block == 1 {
-        return 0;
-    }
-    let lower_tiles = shape.tiles * (shape.tiles - 1) / 2;
-    lower_tiles as u128 * shape.side as u128 * block as u128
-}
-
-/// Matrix, lists, slice and records have the lengths that N, t and b call for, and W workers are lent.
-pub fn lengths_fit(shape: Shape, block: u64, workers: usize, lent: &Lent) -> bool {
+/// Matrix, lists and records have the lengths that N and t call for, and W workers are lent.
+pub fn lengths_fit(shape: Shape, workers: usize, lent: &Lent) -> bool {
     lent.matrix.len() == shape.matrix_length()
         && lent.lists.len() == shape.lists_length()
-        && lent.slice.len() as u128 == slice_length(shape, block)
         && lent.records.len() == table(shape.tiles).tasks.len()
         && lent.count == workers as u64
 }
 
-/// Refusal 2 for matrix, lists, slice, records and workers.
-pub fn accept_lengths(shape: Shape, block: u64, workers: usize, lent: &Lent) -> Result<(), Refusal> {
-    if !lengths_fit(shape, block, workers, lent) {
+/// Refusal 2 for matrix, lists, records and workers.
+pub fn accept_lengths(shape: Shape, workers: usize, lent: &Lent) -> Result<(), Refusal> {
+    if !lengths_fit(shape, workers, lent) {
         return refuse(2, 0);
     }
     Ok(())
-}
-
-/// Refusal 17; hands back the shape with b.
-pub fn accept_block(shape: Shape, block: u64) -> Result<Shape, Refusal> {
-    if block == 0 || shape.side as u64 % block != 0 {
-        return refuse(17, 0);
-    }
-    Ok(shape.with_block(block as usize))
 }
 
 /// Refusal 4 but for the elements: records, marks, tie sums, call numbers, workers and list entries.
@@ -184,7 +166,7 @@ fn entries_fit(shape: Shape, lent: &Lent) -> bool {
     true
 }
 
-/// Refusal 4 for the elements of the tiles a task touches, each of them whole, and for what the slice has for those below the diagonal.
+/// Refusal 4 for the elements of the tiles a task touches, each of them whole.
 pub fn accept_touched(shape: Shape, lent: &Lent, task: Task) -> Result<(), Refusal> {
     for thing in task.whole_uses().touched() {
         if let Thing::Tile(i, j) = thing {
@@ -193,17 +175,14 @@ pub fn accept_touched(shape: Shape, lent: &Lent, task: Task) -> Result<(), Refus
             if first_not_finite(part).is_some() {
                 return refuse(4, 0);
             }
-            if i > j && first_not_finite(&lent.slice[shape.part(i, j)]).is_some() {
-                return refuse(4, 0);
-            }
         }
     }
     Ok(())
 }
 
-/// Refusal 4 for all elements and the whole slice.
+/// Refusal 4 for all elements.
 pub fn accept_elements(lent: &Lent) -> Result<(), Refusal> {
-    if first_not_finite(&lent.matrix).is_some() || first_not_finite(&lent.slice).is_some() {
+    if first_not_finite(&lent.matrix).is_some() {
         return refuse(4, 0);
     }
     Ok(())

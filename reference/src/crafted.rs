@@ -23,7 +23,7 @@ pub fn tile_order(shape: Shape, rows: &[f64]) -> Vec<f64> {
 }
 
 fn made(tiles: usize, side: usize, rows: &[f64], rights: &[&[f64]]) -> Crafted {
-    let shape = Shape::of(tiles, side);
+    let shape = Shape { tiles, side };
     let mut owned = Vec::new();
     for right in rights {
         owned.push(right.to_vec());
@@ -210,109 +210,6 @@ fn numerics() -> Vec<Crafted> {
         made(1, 3, &[1.0, 2.0, 3.0, -1.0, 5.0, 1.0, 1.0, 1.0, 9.0], &[&[1.0, 2.0, 3.0]]),
         made(3, 1, &[1.0, 2.0, 3.0, -1.0, 5.0, 1.0, 1.0, 1.0, 9.0], &[&[1.0, 2.0, 3.0]]),
     ]
-}
-
-/// Two tiles a side: the identity with some elements changed, given by row and column of the whole matrix.
-fn changed(side: usize, changes: &[(usize, usize, f64)]) -> Crafted {
-    let n = 2 * side;
-    let mut rows = vec![0.0; n * n];
-    for row in 0..n {
-        rows[row * n + row] = 1.0;
-    }
-    for &(row, column, number) in changes {
-        rows[row * n + column] = number;
-    }
-    made(2, side, &rows, &[])
-}
-
-/// T-3 fails where column c of lower row r meets column s, right of c: at c itself where one panel has both, else with c's panel.
-fn couple_fails(side: usize, c: usize, r: usize, s: usize) -> Crafted {
-    changed(side, &[(c, s, M), (side + r, c, -1.0), (side + r, s, M)])
-}
-
-/// T-4 fails where column c of lower row r meets column s.
-fn pair_fails(side: usize, c: usize, r: usize, s: usize) -> Crafted {
-    changed(side, &[(c, side + s, M), (side + r, c, -1.0), (side + r, side + s, M)])
-}
-
-/// T-3 fails where the multiplier of column c, which goes up with lower row r at column d, meets column s.
-fn couple_fails_above(side: usize, c: usize, d: usize, r: usize, s: usize) -> Crafted {
-    changed(side, &[(c, s, M), (side + r, c, -1.0), (side + r, d, 4.0), (side + r, s, M)])
-}
-
-/// T-4 fails where the multiplier of column c, which goes up with lower row r at column d, meets column s.
-fn pair_fails_above(side: usize, c: usize, d: usize, r: usize, s: usize) -> Crafted {
-    changed(side, &[(c, side + s, M), (side + r, c, -1.0), (side + r, d, 4.0), (side + r, side + s, M)])
-}
-
-/// For inner blocks, t = 4: T-3 fails by each column beside each one right of it, and by a multiplier of each upper row.
-pub fn failing_couples() -> Vec<Crafted> {
-    let mut all = Vec::new();
-    for (c, r, s) in [(0, 1, 1), (0, 2, 2), (0, 3, 3), (1, 0, 2), (1, 3, 3), (2, 1, 3)] {
-        all.push(couple_fails(4, c, r, s));
-    }
-    all.push(couple_fails_above(4, 0, 1, 0, 2));
-    all.push(couple_fails_above(4, 0, 1, 3, 3));
-    all
-}
-
-/// For inner blocks, t = 8: T-3 fails where a column of the first half meets the second, in a lower row and in an upper one.
-pub fn failing_halves() -> Vec<Crafted> {
-    vec![couple_fails(8, 2, 6, 5), couple_fails_above(8, 1, 2, 4, 7)]
-}
-
-/// For inner blocks, t = 4: T-4 fails by each column, and by a multiplier of each upper row.
-pub fn failing_pairs() -> Vec<Crafted> {
-    let mut all = Vec::new();
-    for (c, r, s) in [(0, 0, 3), (1, 2, 0), (2, 3, 1), (3, 1, 2)] {
-        all.push(pair_fails(4, c, r, s));
-    }
-    for (c, d, r, s) in [(0, 1, 2, 0), (2, 3, 0, 3), (0, 2, 1, 1), (1, 3, 3, 2)] {
-        all.push(pair_fails_above(4, c, d, r, s));
-    }
-    all
-}
-
-/// For inner blocks, t = 4: a zero pivot in columns 1, 2 or 3, in T-1 and T-3 alike, after columns that have multipliers and exchanges, and
-/// zeros of either sign that go up with their row.
-pub fn zero_columns() -> Vec<Crafted> {
-    let upper = [[2.0, 4.0, 1.0, 3.0], [1.0, -1.0, 5.0, 1.0], [-1.0, 2.0, 7.0, 2.0], [1.0, 3.0, 1.0, 9.0]];
-    let lower = [[4.0, 1.0, 1.0, -3.0], [1.0, 7.0, 3.0, 4.0], [3.0, 6.0, 20.0, 1.0], [-4.0, 2.0, 2.0, 40.0]];
-    let mut all = Vec::new();
-    for zero in 1..4 {
-        let mut rows = vec![0.0; 64];
-        for row in 0..8 {
-            let left = if row < 4 { upper[row] } else { lower[row - 4] };
-            for column in 0..4 {
-                // A multiple of column 0, which that column's multipliers bring to zeros.
-                rows[row * 8 + column] = if column == zero { 2.0 * left[0] } else { left[column] };
-                rows[row * 8 + 4 + column] = (row * column) as f64 - 5.0 + (row == column + 4) as u8 as f64;
-            }
-        }
-        all.push(made(2, 4, &rows, &[&[1.0, 2.0, 3.0, 4.0, 5.0, 6.0, 7.0, 8.0]]));
-    }
-    // Column 0 has zeros of both signs alone, the others exchange.
-    let mut rows = vec![0.0; 64];
-    for row in 0..8 {
-        for column in 0..8 {
-            rows[row * 8 + column] = match column {
-                0 if row % 3 == 0 => 0.0,
-                0 => -0.0,
-                _ => ((3 * row + 5 * column) % 11) as f64 - 4.0,
-            };
-        }
-    }
-    all.push(made(2, 4, &rows, &[]));
-    all
-}
-
-/// All that is made for inner blocks.
-pub fn blocks() -> Vec<Crafted> {
-    let mut all = failing_couples();
-    all.extend(failing_halves());
-    all.extend(failing_pairs());
-    all.extend(zero_columns());
-    all
 }
 
 pub fn all_crafted() -> Vec<Crafted> {

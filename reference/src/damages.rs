@@ -24,7 +24,7 @@ pub fn whole(lines: &[Vec<u8>]) -> Vec<u8> {
 }
 
 pub fn random_text(rng: &mut Rng) -> String {
-    let shape = Shape::of(rng.pick(&[1, 1, 2, 2, 2, 3]), rng.pick(&[1, 1, 2, 2, 3]));
+    let shape = Shape { tiles: rng.pick(&[1, 1, 2, 2, 2, 3]), side: rng.pick(&[1, 1, 2, 2, 3]) };
     let family = rng.below(FAMILIES);
     let matrix = numbers(rng, family, shape.matrix_length());
     let what = rng.pick(&[SYSTEM, RESULT, RESULT, PROGRAM]);

@@ -13,7 +13,7 @@ use crate::tasks::table;
 use crate::tile::Shape;
 use crate::writer::Writer;
 
-pub const CALLS: [u64; 6] = [OPENING, TAKE, COLUMN, RUN, SOLVE, OUTCOME];
+const CALLS: [u64; 6] = [OPENING, TAKE, COLUMN, RUN, SOLVE, OUTCOME];
 
 /// A fault of the matrix that is refusal 4 in column, run and solve.
 const ELEMENT: u8 = 0;
@@ -28,7 +28,7 @@ const NUMBER: u8 = 0xFE;
 const OTHER_COUNTS: [(u64, u64); 5] = [(3, 2), (3, 4), (0, 1), (33, 32), (u32::MAX as u64, 32)];
 
 /// The faults that a call may meet, by the refusal's number, in the order in which they are looked for. A column's own tiles come last.
-pub fn faults(command: u64) -> &'static [u8] {
+fn faults(command: u64) -> &'static [u8] {
     match command {
         OPENING => &[1, 2, 3],
         TAKE => &[1, 2, 4, SUM, NUMBER, 5, 6, 7],
@@ -41,16 +41,16 @@ pub fn faults(command: u64) -> &'static [u8] {
 
 /// A call, and what is lent to it.
 #[derive(Clone)]
-pub struct Call {
-    pub command: u64,
-    pub shape: Shape,
-    pub lent: Lent,
-    pub told: Sizes,
-    pub worker: u64,
-    pub task: u64,
-    pub budget: u64,
-    pub right: Vec<f64>,
-    pub answers: Vec<f64>,
+struct Call {
+    command: u64,
+    shape: Shape,
+    lent: Lent,
+    told: Sizes,
+    worker: u64,
+    task: u64,
+    budget: u64,
+    right: Vec<f64>,
+    answers: Vec<f64>,
 }
 
 impl Writer {
@@ -71,7 +71,7 @@ impl Writer {
         self.skipped_zeros();
     }
 
-    pub fn say_call(&mut self, call: &Call) {
+    fn say_call(&mut self, call: &Call) {
         let told = call.told;
         match call.command {
             TAKE => self.say_with(TAKE, told, &[call.worker, call.task]),
@@ -88,8 +88,7 @@ impl Writer {
     fn two_faults(&mut self) {
         for command in CALLS {
             let faults = faults(command);
-            let shapes = [Shape::of(2, 1), Shape::of(2, 2)];
-            let good = shapes.map(|shape| self.accepted_call(command, shape));
+            let good = [self.accepted_call(command, 1), self.accepted_call(command, 2)];
             for first in 0..faults.len() {
                 for second in first..faults.len() {
                     for way in 0..if first == second || faults.len() > 7 { 1 } else { 2 } {
@@ -111,7 +110,7 @@ impl Writer {
     /// Each call with a count of workers lent that is not W, by itself and beside each other fault.
     fn other_counts(&mut self) {
         for command in CALLS {
-            let mut good = self.accepted_call(command, Shape::of(2, 1));
+            let mut good = self.accepted_call(command, 1);
             let beside = faults(command).iter().map(|&fault| Some(fault));
             for (turn, fault) in [None; 5].into_iter().chain(beside).enumerate() {
                 let mut call = good.clone();
@@ -133,7 +132,7 @@ impl Writer {
     /// What was opened for one worker told that there are two, and the other way round.
     fn told_other_workers(&mut self) {
         for (lent, told) in [(1, 2), (2, 1)] {
-            self.fresh(Shape::of(2, 1), lent);
+            self.fresh(Shape { tiles: 2, side: 1 }, lent);
             let sizes = Sizes { workers: told, ..self.told() };
             self.say_with(RUN, sizes, &[u64::MAX]);
             self.say_with(TAKE, sizes, &[1, 0]);
@@ -149,7 +148,7 @@ impl Writer {
     }
 
     /// Lends what is not lent yet.
-    pub fn lend_other(&mut self, lent: &Lent) {
+    fn lend_other(&mut self, lent: &Lent) {
         if lend_line(lent) != self.player.state_line() {
             self.lend(lent);
         }
@@ -157,9 +156,10 @@ impl Writer {
 
     /// A call of N = 2 that nothing refuses. For a take and a column, task 0 is done, worker 0 holds task 1 and worker 1 may take task 2; a solve
     /// finds all tasks done; a run does so for t = 2.
-    pub fn accepted_call(&mut self, command: u64, shape: Shape) -> Call {
+    fn accepted_call(&mut self, command: u64, side: usize) -> Call {
+        let shape = Shape { tiles: 2, side };
         self.start(shape, 3);
-        let ended = command == SOLVE || command == RUN && shape.side == 2;
+        let ended = command == SOLVE || command == RUN && side == 2;
         let mark = |task: usize| if ended { DONE } else { [DONE, TAKEN, WAITING, WAITING, WAITING][task] };
         let mut lent = self.marked(mark);
         let rows = shape.rows();
@@ -179,7 +179,7 @@ impl Writer {
         }
     }
 
-    pub fn add_fault(&mut self, call: &mut Call, fault: u8, way: usize) {
+    fn add_fault(&mut self, call: &mut Call, fault: u8, way: usize) {
         let (shape, lent) = (call.shape, &mut call.lent);
         let last = shape.rows() - 1;
         match fault {
@@ -230,7 +230,7 @@ impl Writer {
 
     /// States at and just beyond what refusal 4 lets pass: columns, marks, tasks and entries.
     fn limits(&mut self) {
-        let shape = Shape::of(2, 2);
+        let shape = Shape { tiles: 2, side: 2 };
         for beyond in [0, 1] {
             for which in 0..9 {
                 self.start(shape, 3);
@@ -270,14 +270,14 @@ impl Writer {
 
     /// Each call told that one of its sizes is 0, or just above its most.
     fn other_sizes(&mut self) {
-        for wrong in [(0, 0, 0), (17, 17, 33)] {
+        for wrong in [Sizes { tiles: 0, side: 0, workers: 0 }, Sizes { tiles: 17, side: 17, workers: 33 }] {
             for field in 0..3 {
                 for command in CALLS {
-                    let mut call = self.accepted_call(command, Shape::of(2, 2));
+                    let mut call = self.accepted_call(command, 2);
                     match field {
-                        0 => call.told.tiles = wrong.0,
-                        1 => call.told.side = wrong.1,
-                        _ => call.told.workers = wrong.2,
+                        0 => call.told.tiles = wrong.tiles,
+                        1 => call.told.side = wrong.side,
+                        _ => call.told.workers = wrong.workers,
                     }
                     self.say_call(&call);
                 }
@@ -287,13 +287,13 @@ impl Writer {
 
     /// Sizes, workers and tasks that are those of the state but for a bit above the lowest 8, 16 or 32.
     fn wide_numbers(&mut self) {
-        self.start(Shape::of(2, 2), 3);
+        self.start(Shape { tiles: 2, side: 2 }, 3);
         let lent = self.marked(|task| [DONE, TAKEN, WAITING, WAITING, WAITING][task]);
         self.lend(&lent);
         for more in [1 << 8, 1 << 16, 1 << 32] {
             for field in 0..3 {
                 for command in CALLS {
-                    let mut call = self.accepted_call(command, Shape::of(2, 2));
+                    let mut call = self.accepted_call(command, 2);
                     match field {
                         0 => call.told.tiles += more,
                         1 => call.told.side += more,
@@ -311,7 +311,7 @@ impl Writer {
     /// Budgets that are large, but not the largest.
     fn wide_budgets(&mut self) {
         for budget in [1 << 32, (1 << 32) + 3, 1 << 16, 256, 1 << 63, u64::MAX - 1] {
-            self.fresh(Shape::of(2, 1), 2);
+            self.fresh(Shape { tiles: 2, side: 1 }, 2);
             self.run(budget);
             self.outcome();
         }
@@ -320,7 +320,7 @@ impl Writer {
     /// Budgets of all the calls that are due, of one less, and none on what is finished.
     fn exact_budgets(&mut self) {
         for (tiles, side, workers) in [(1, 1, 1), (2, 1, 2), (2, 2, 1), (1, 3, 32), (3, 1, 3)] {
-            let shape = Shape::of(tiles, side);
+            let shape = Shape { tiles, side };
             let due = (table(tiles).tasks.len() * (side + 1)) as u64;
             self.fresh(shape, workers);
             self.run(due);
@@ -335,7 +335,7 @@ impl Writer {
     }
 
     /// A system of plain numbers, opened.
-    pub fn fresh(&mut self, shape: Shape, workers: usize) {
+    fn fresh(&mut self, shape: Shape, workers: usize) {
         self.start(shape, workers);
         let matrix = numbers(&mut self.rng, 0, shape.matrix_length());
         let lent = before_opening(&mut self.rng, shape, workers, matrix);
@@ -350,7 +350,7 @@ impl Writer {
         let cases: [(usize, usize, &[usize]); 5] =
             [(2, 1, &[1, 3]), (1, 2, &[3, 0]), (2, 2, &[9, 12]), (2, 9, &[256]), (3, 6, &[319, 261])];
         for (tiles, side, offsets) in cases {
-            let shape = Shape::of(tiles, side);
+            let shape = Shape { tiles, side };
             self.start(shape, 1);
             let mut matrix = numbers(&mut self.rng, 1, shape.matrix_length());
             for &offset in offsets {
@@ -360,7 +360,7 @@ impl Writer {
             self.lend(&lent);
             self.open();
         }
-        let shape = Shape::of(2, 2);
+        let shape = Shape { tiles: 2, side: 2 };
         self.start(shape, 2);
         let mut lent = self.marked(|_| DONE);
         for row in 0..4 {
@@ -378,7 +378,7 @@ impl Writer {
 
     /// Tasks above 255, which N = 9 has: waiting, held, failed, and asked for.
     fn high_tasks(&mut self) {
-        self.start(Shape::of(9, 1), 3);
+        self.start(Shape { tiles: 9, side: 1 }, 3);
         for marks in
             [[WAITING, DONE, DONE, DONE], [DONE, TAKEN, WAITING, DONE], [DONE, DONE, FAILED, SPOILED]]
         {
@@ -425,7 +425,7 @@ impl Writer {
 
     /// Outcomes of states that refusal 4 would stop: any marks, records, lists and elements.
     fn odd_outcomes(&mut self) {
-        let shape = Shape::of(2, 1);
+        let shape = Shape { tiles: 2, side: 1 };
         self.start(shape, 2);
         for mark in [5, 16, 18, 19, 130, 255] {
             for task in [0, 4] {
@@ -452,7 +452,7 @@ impl Writer {
 
     /// T-3(k,i) at each column, with an element below the diagonal of A(k,k) that is not finite.
     fn lower_parts(&mut self) {
-        let shape = Shape::of(3, 3);
+        let shape = Shape { tiles: 3, side: 3 };
         self.start(shape, 1);
         for (number, &task) in
             table(3).tasks.iter().enumerate().filter(|(_, task)| task.kind == 3 && task.i == task.k + 1)
@@ -470,7 +470,7 @@ impl Writer {
     /// T-1(1), T-3(0,1) and T-3(1,2) spoiled beside lists that hold entries, and a T-1(1) that fails after an exchange.
     fn filled_lists(&mut self) {
         for (tiles, number, spoiler) in [(2, 4, 3), (2, 2, 0), (3, 11, 9)] {
-            self.start(Shape::of(tiles, 2), 1);
+            self.start(Shape { tiles, side: 2 }, 1);
             let mut lent = self.marked(|task| match task {
                 task if task == number => TAKEN,
                 task if task == spoiler => FAILED,
@@ -484,7 +484,7 @@ impl Writer {
             self.lend(&lent);
             self.column(0);
         }
-        self.start(Shape::of(2, 2), 1);
+        self.start(Shape { tiles: 2, side: 2 }, 1);
         let mut lent = self.marked(|task| if task == 4 { TAKEN } else { DONE });
         lent.matrix[12..].copy_from_slice(&[0.5, LARGEST, -1.0, LARGEST]);
         self.lend(&lent);
@@ -502,7 +502,7 @@ impl Writer {
     fn skipped_zeros(&mut self) {
         for (tiles, side) in [(1, 2), (2, 1), (1, 3), (2, 2), (3, 1)] {
             for (zero, diagonal) in [(0.0, 1.0), (-0.0, 1.0), (0.0, -4.0)] {
-                let rows = self.factored(Shape::of(tiles, side), diagonal, zero, zero);
+                let rows = self.factored(Shape { tiles, side }, diagonal, zero, zero);
                 for last in [-3.0, 3.0, number(&mut self.rng, 5)] {
                     let mut right = vec![-0.0; rows];
                     right[rows - 1] = last;
@@ -513,7 +513,7 @@ impl Writer {
         // The same of the multipliers below it: where one is zero a −0 stays, where the number it meets is zero it is computed.
         for (tiles, side) in [(1, 2), (2, 1), (2, 2)] {
             for lower in [0.0, -0.0, 1.0, -1.0] {
-                let rows = self.factored(Shape::of(tiles, side), 2.0, 0.0, lower);
+                let rows = self.factored(Shape { tiles, side }, 2.0, 0.0, lower);
                 for first in [3.0, -3.0, 0.0, -0.0] {
                     let mut right = vec![-0.0; rows];
                     right[0] = first;
@@ -522,7 +522,7 @@ impl Writer {
             }
         }
         // A diagonal list whose last entry names an earlier row.
-        self.start(Shape::of(1, 2), 1);
+        self.start(Shape { tiles: 1, side: 2 }, 1);
         let mut lent = self.marked(|_| DONE);
         lent.lists.fill(0);
         self.lend(&lent);

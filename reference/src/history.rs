@@ -65,7 +65,7 @@ impl Writer {
     fn mixed_calls(&mut self) {
         let mut systems: Vec<(Shape, Vec<f64>)> = Vec::new();
         for (tiles, side) in [(2, 1), (1, 3), (2, 2), (3, 1), (2, 3), (3, 2)] {
-            let shape = Shape::of(tiles, side);
+            let shape = Shape { tiles, side };
             systems.push((shape, numbers(&mut self.rng, 0, shape.matrix_length())));
         }
         for crafted in overflows().into_iter().skip(1).chain(couple_overflows()).step_by(2) {
@@ -116,7 +116,7 @@ impl Writer {
     /// Openings over full records and the largest number, one of them refused; openings amid a run.
     fn other_openings(&mut self) {
         for (tiles, side, workers) in [(1, 2, 1), (2, 1, 3), (3, 1, 32)] {
-            let shape = Shape::of(tiles, side);
+            let shape = Shape { tiles, side };
             self.start(shape, workers);
             let matrix = numbers(&mut self.rng, 0, shape.matrix_length());
             let mut lent = before_opening(&mut self.rng, shape, workers, matrix);
@@ -140,7 +140,7 @@ impl Writer {
 
     /// States in which some tasks are finished and others under work, with a number from none to the most: columns, then runs to the end.
     fn states_gone_on_with(&mut self) {
-        self.start(Shape::of(3, 2), 4);
+        self.start(Shape { tiles: 3, side: 2 }, 4);
         let marks = [DONE, DONE, TAKEN, DONE, DONE, TAKEN, FAILED, WAITING, SPOILED];
         for turn in 0..6 {
             let mut lent = self.marked(|task| *marks.get(task).unwrap_or(&WAITING));
@@ -160,7 +160,7 @@ impl Writer {
             self.outcome();
         }
         // Above 255.
-        self.start(Shape::of(7, 1), 32);
+        self.start(Shape { tiles: 7, side: 1 }, 32);
         for run_number in [253, 254] {
             let mut lent = self.marked(|task| if task < 135 { DONE } else { WAITING });
             lent.run_number = run_number;
@@ -178,7 +178,7 @@ impl Writer {
     /// Each task of N = 2 with a worker and call numbers before it is taken: calls on another task, then its take and its columns by
     /// worker 1, so that it is done, failed or spoiled.
     fn own_calls(&mut self) {
-        self.start(Shape::of(2, 2), 3);
+        self.start(Shape { tiles: 2, side: 2 }, 3);
         for task in 0..5 {
             for mark in [DONE, FAILED, SPOILED] {
                 let link = table(2).links[task].first().copied();
@@ -233,7 +233,7 @@ impl Writer {
     /// One task in each stand, the others waiting, or finished in one way.
     fn limits_of_the_number(&mut self) {
         for (place, (mark, column)) in STANDS.into_iter().enumerate() {
-            self.start(Shape::of(2, [3, 1 + column as usize][place % 2]), 2);
+            self.start(Shape { tiles: 2, side: [3, 1 + column as usize][place % 2] }, 2);
             for (task, others) in [(0, WAITING), (place % 5, [DONE, FAILED, SPOILED][place % 3])] {
                 let mut lent = self.marked(|other| if other == task { mark } else { others });
                 lent.workers[0].column = column;
@@ -241,7 +241,7 @@ impl Writer {
             }
         }
         // Tasks in all stands.
-        self.start(Shape::of(3, 3), 4);
+        self.start(Shape { tiles: 3, side: 3 }, 4);
         let marks = [DONE, TAKEN, FAILED, TAKEN, SPOILED, WAITING, TAKEN];
         let mut lent = self.marked(|task| *marks.get(task).unwrap_or(&WAITING));
         for column in [0, 1, 2] {
@@ -253,7 +253,7 @@ impl Writer {
     /// Two tasks held at different columns, in either order; and a worker that is idle, or beyond W, with the task that another one holds and
     /// a higher column.
     fn number_by_its_workers(&mut self) {
-        self.start(Shape::of(2, 3), 3);
+        self.start(Shape { tiles: 2, side: 3 }, 3);
         for columns in [[0, 2], [2, 0], [1, 2]] {
             let mut lent = self.marked(|task| [DONE, TAKEN, TAKEN, WAITING, WAITING][task]);
             lent.workers[0].column = columns[0];
@@ -272,7 +272,7 @@ impl Writer {
 
     /// A task above 255 at a later column, which N = 9 has.
     fn number_of_a_high_task(&mut self) {
-        self.start(Shape::of(9, 2), 2);
+        self.start(Shape { tiles: 9, side: 2 }, 2);
         let mut lent = self.marked(|task| if task == 258 { TAKEN } else { DONE });
         lent.workers[0].column = 1;
         self.at_and_above_number(&lent);
@@ -280,7 +280,7 @@ impl Writer {
 
     /// Run's numbers whose low bytes would pass, the largest, and none.
     fn wide_run_numbers(&mut self) {
-        self.start(Shape::of(2, 1), 2);
+        self.start(Shape { tiles: 2, side: 1 }, 2);
         let lent = self.marked(|task| [DONE, TAKEN, WAITING, WAITING, WAITING][task]);
         for wide in WIDE {
             self.with_number(&lent, wide);
@@ -295,7 +295,7 @@ impl Writer {
         self.with_number(&full, u32::MAX);
         self.outcome();
         // Above 255.
-        self.start(Shape::of(7, 1), 2);
+        self.start(Shape { tiles: 7, side: 1 }, 2);
         let mut lent = self.marked(|task| if task == 139 { TAKEN } else { DONE });
         self.at_and_above_number(&lent);
         lent.records[20] = Record { took: 257, ended: 258, ..lent.records[20] };
@@ -319,7 +319,7 @@ impl Writer {
     /// A record in each stand with one of its two call numbers at the run's number, just above it, and above it by higher bytes alone.
     fn limits_of_call_numbers(&mut self) {
         for (place, (mark, column)) in STANDS.into_iter().enumerate() {
-            self.start(Shape::of(2, 3), 2);
+            self.start(Shape { tiles: 2, side: 3 }, 2);
             let task = [2, 1, 3, 0, 3, 1, 2][place];
             let mut lent = self.in_stand(task, mark, column);
             lent.run_number = [1, 3, 9, 0, 12, 7, 5][place];
@@ -343,7 +343,7 @@ impl Writer {
     fn limits_of_workers(&mut self) {
         for (place, (mark, column)) in STANDS.into_iter().enumerate() {
             let workers = [2, 1, 3, 32, 2, 5, 4][place];
-            self.start(Shape::of(2, 3), workers);
+            self.start(Shape { tiles: 2, side: 3 }, workers);
             let task = [1, 0, 2, 3, 3, 2, 1][place];
             let mut lent = self.in_stand(task, mark, column);
             for worker in [workers - 1, workers, if place % 2 == 0 { 255 } else { 128 }] {

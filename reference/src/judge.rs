@@ -96,7 +96,7 @@ fn judge_system(out: &mut String, text: &[u8]) {
     let (mut matrix, _) = buffers(text);
     let answer = read_system(text, &mut matrix);
     let mut digest = Digest::new();
-    digest.numbers(&matrix);
+    digest.matrix(&matrix);
     put_verdict(out, answer.map(|_| Outcome::Good), digest);
 }
 
@@ -104,7 +104,7 @@ fn judge_result(out: &mut String, text: &[u8]) {
     let (mut matrix, mut lists) = buffers(text);
     let answer = read_result(text, &mut matrix, &mut lists);
     let mut digest = Digest::new();
-    digest.numbers(&matrix);
+    digest.matrix(&matrix);
     digest.lists(&lists);
     put_verdict(out, answer.map(|(_, outcome)| outcome), digest);
 }

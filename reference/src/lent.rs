@@ -11,13 +11,12 @@ pub const SPOILED: u8 = 4;
 /// The number of worker slots passed by value.
 pub const SLOTS: usize = 32;
 
-/// N, t, W and b as told to a call, in range or not.
+/// N, t and W as told to a call, in range or not.
 #[derive(Clone, Copy, Debug, PartialEq, Eq)]
 pub struct Sizes {
     pub tiles: u64,
     pub side: u64,
     pub workers: u64,
-    pub block: u64,
 }
 
 #[derive(Clone, Copy, Debug, PartialEq, Eq)]
@@ -55,13 +54,12 @@ pub struct Worker {
 
 pub const IDLE: Worker = Worker { busy: false, task: 0, column: 0 };
 
-/// What is lent. The slice holds the multipliers of T-3's upper rows. Of the worker slots there are as many as the count says, which is a
-/// length like the others. The run's number counts the accepted takes and columns.
+/// What is lent; of the worker slots as many as the count says, which is a length like the others. The run's number counts the accepted
+/// takes and columns.
 #[derive(Clone)]
 pub struct Lent {
     pub matrix: Vec<f64>,
     pub lists: Vec<u8>,
-    pub slice: Vec<f64>,
     pub records: Vec<Record>,
     pub count: u64,
     pub run_number: u32,
@@ -70,8 +68,8 @@ pub struct Lent {
 
 impl Lent {
     pub fn nothing() -> Lent {
-        let (matrix, lists, slice, records) = (Vec::new(), Vec::new(), Vec::new(), Vec::new());
-        Lent { matrix, lists, slice, records, count: 0, run_number: 0, workers: [IDLE; SLOTS] }
+        let (matrix, lists, records) = (Vec::new(), Vec::new(), Vec::new());
+        Lent { matrix, lists, records, count: 0, run_number: 0, workers: [IDLE; SLOTS] }
     }
 
     /// Appends everything lent in the digits of a lend line, without its command.
@@ -80,8 +78,6 @@ impl Lent {
         put_numbers(out, &self.matrix);
         put(out, self.lists.len() as u64, 8);
         put_bytes(out, &self.lists);
-        put(out, self.slice.len() as u64, 8);
-        put_numbers(out, &self.slice);
         put(out, self.records.len() as u64, 8);
         for record in &self.records {
             put_bytes(out, &[record.kind, record.k, record.i, record.j, record.mark]);
@@ -103,7 +99,6 @@ impl Lent {
         let matrix = fields.counted_numbers();
         let entries = fields.take(8) as usize;
         let lists = fields.bytes(entries);
-        let slice = fields.counted_numbers();
         let tasks = fields.take(8) as usize;
         let mut records = Vec::new();
         for _ in 0..tasks {
@@ -124,15 +119,14 @@ impl Lent {
             let column = fields.take(2) as u8;
             workers[slot] = Worker { busy, task, column };
         }
-        Lent { matrix, lists, slice, records, count, run_number, workers }
+        Lent { matrix, lists, records, count, run_number, workers }
     }
 
     /// The digest of everything lent.
     pub fn digest(&self) -> u64 {
         let mut digest = Digest::new();
-        digest.numbers(&self.matrix);
+        digest.matrix(&self.matrix);
         digest.lists(&self.lists);
-        digest.numbers(&self.slice);
         digest.mix(self.records.len() as u64);
         for record in &self.records {
             for byte in [record.kind, record.k, record.i, record.j, record.mark] {
@@ -168,9 +162,9 @@ impl Digest {
         self.value = (self.value * 1_000_003 + x) % 4_294_967_291;
     }
 
-    pub fn numbers(&mut self, numbers: &[f64]) {
-        self.mix(numbers.len() as u64);
-        for number in numbers {
+    pub fn matrix(&mut self, matrix: &[f64]) {
+        self.mix(matrix.len() as u64);
+        for number in matrix {
             self.mix(number.to_bits() >> 32);
             self.mix(number.to_bits() & 0xFFFF_FFFF);
         }

@@ -1,4 +1,4 @@
-//! A second program for document 01, and K2, K4, K5, K7 and K9 of document 02, written from the papers alone, to check another
+//! A second program for document 01, and K2, K4, K7 and K9 of document 02, written from the papers alone, to check another
 //! one against. Straight loops in the order of the document; nothing here is made to be fast.
 
 pub mod calls;
@@ -16,7 +16,6 @@ pub mod lent;
 pub mod loops;
 pub mod numbers;
 pub mod oddities;
-pub mod panels;
 pub mod parts;
 pub mod read;
 pub mod rng;

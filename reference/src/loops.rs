@@ -10,7 +10,6 @@ use crate::tile::{fill, work_column, Shape};
 pub struct Final {
     pub matrix: Vec<f64>,
     pub lists: Vec<u8>,
-    pub slice: Vec<f64>,
     pub marks: Vec<u8>,
     pub tie_sums: Vec<u16>,
     pub outcome: Outcome,
@@ -28,7 +27,6 @@ pub fn old_loops(shape: Shape, system: &[f64]) -> Final {
 fn loops(table: &Table, shape: Shape, system: &[f64]) -> Final {
     let mut matrix = system.to_vec();
     let mut lists = vec![0; shape.lists_length()];
-    let mut slice = vec![0.0; shape.slice_length()];
     let mut marks = vec![WAITING; table.tasks.len()];
     let mut tie_sums = vec![0; table.tasks.len()];
     for number in 0..table.tasks.len() {
@@ -41,7 +39,7 @@ fn loops(table: &Table, shape: Shape, system: &[f64]) -> Final {
         }
         if mark != SPOILED {
             for c in 0..shape.side {
-                let Some(ties) = work_column(shape, &mut matrix, &mut lists, &mut slice, task, c) else {
+                let Some(ties) = work_column(shape, &mut matrix, &mut lists, task, c) else {
                     mark = FAILED;
                     break;
                 };
@@ -49,10 +47,10 @@ fn loops(table: &Table, shape: Shape, system: &[f64]) -> Final {
             }
         }
         if mark != DONE {
-            fill(shape, &mut matrix, &mut lists, &mut slice, task);
+            fill(shape, &mut matrix, &mut lists, task);
         }
         marks[number] = mark;
     }
     let outcome = outcome(shape, &matrix, &marks);
-    Final { matrix, lists, slice, marks, tie_sums, outcome }
+    Final { matrix, lists, marks, tie_sums, outcome }
 }

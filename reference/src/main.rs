@@ -23,8 +23,8 @@ fn main() {
         Some("files") => lines(all_texts(seed(&arguments)).into_iter()),
         Some("vectors") => script(Options {
             seed: seed(&arguments),
-            calls: option(&arguments, "--calls", 6800),
-            max_bytes: option(&arguments, "--max-bytes", 3_750_000),
+            calls: option(&arguments, "--calls", 5650),
+            max_bytes: option(&arguments, "--max-bytes", 2_900_000),
         }),
         _ => {
             eprintln!("reference: see README.md for the subcommands");

@@ -3,7 +3,7 @@
 
 use crate::cases::random_lists;
 use crate::checks::{largest_number, largest_sum};
-use crate::families::{not_finite, number, numbers};
+use crate::families::{not_finite, numbers};
 use crate::lent::{Lent, Record, Worker, IDLE, SLOTS, TAKEN};
 use crate::rng::Rng;
 use crate::tasks::{table, Thing};
@@ -26,7 +26,6 @@ pub fn before_opening(rng: &mut Rng, shape: Shape, workers: usize, matrix: Vec<f
     let mut lent = Lent {
         matrix,
         lists: vec![0; shape.lists_length()],
-        slice: vec![0.0; shape.slice_length()],
         records: vec![EMPTY; count],
         count: workers as u64,
         run_number: 0,
@@ -35,9 +34,6 @@ pub fn before_opening(rng: &mut Rng, shape: Shape, workers: usize, matrix: Vec<f
     if junk {
         for entry in &mut lent.lists {
             *entry = rng.below(256) as u8;
-        }
-        for multiplier in &mut lent.slice {
-            *multiplier = if rng.percent(20) { not_finite(rng) } else { number(rng, 4) };
         }
         for record in &mut lent.records {
             record.kind = rng.below(256) as u8;
@@ -66,7 +62,6 @@ pub fn odd_state(rng: &mut Rng, shape: Shape, workers: usize, family: usize, all
     let mut lent = Lent {
         matrix: numbers(rng, family, shape.matrix_length()),
         lists: random_lists(rng, shape),
-        slice: numbers(rng, family, shape.slice_length()),
         records: Vec::new(),
         count: workers as u64,
         run_number: 0,
@@ -130,7 +125,7 @@ fn hold_random(rng: &mut Rng, shape: Shape, lent: &mut Lent, worker: usize) {
     lent.workers[worker] = Worker { busy: true, task: task as u16, column: rng.below(shape.side) as u8 };
 }
 
-pub const DAMAGES: usize = 20;
+pub const DAMAGES: usize = 19;
 
 /// One damage of a state that passed refusal 4; a few find nothing to damage in some states.
 pub fn damage(rng: &mut Rng, shape: Shape, workers: usize, lent: &mut Lent, which: usize) {
@@ -156,8 +151,7 @@ pub fn damage(rng: &mut Rng, shape: Shape, workers: usize, lent: &mut Lent, whic
         15 => lent.records[task].took = above_number(rng, lent),
         16 => lent.records[task].ended = above_number(rng, lent),
         17 => lent.records[task].worker = rng.pick(&[workers as u8, 255]),
-        18 => spoil_element(rng, shape, workers, lent),
-        _ => spoil_slice(rng, lent),
+        _ => spoil_element(rng, shape, workers, lent),
     }
 }
 
@@ -211,14 +205,6 @@ fn spoil_element(rng: &mut Rng, shape: Shape, workers: usize, lent: &mut Lent) {
         }
     }
     lent.matrix[place] = not_finite(rng);
-}
-
-/// A number of the slice that is not finite, where there is one.
-fn spoil_slice(rng: &mut Rng, lent: &mut Lent) {
-    if !lent.slice.is_empty() {
-        let place = rng.below(lent.slice.len());
-        lent.slice[place] = not_finite(rng);
-    }
 }
 
 /// One entry just above its most, or far above it.

@@ -29,12 +29,12 @@ impl Writer {
             }
         }
         for (tiles, order) in [(2, 1), (2, 2), (2, 3), (3, 1), (3, 2), (3, 3)] {
-            let shape = Shape::of(tiles, 2);
+            let shape = Shape { tiles, side: 2 };
             let matrix = numbers(&mut self.rng, 0, shape.matrix_length());
             self.stage_0(shape, &matrix, ORDERS[order]);
         }
         for (tiles, side) in [(2, 1), (2, 2), (3, 1)] {
-            self.couples_first(Shape::of(tiles, side));
+            self.couples_first(Shape { tiles, side });
         }
         self.single_links();
         self.whole_tiles();
@@ -121,7 +121,7 @@ impl Writer {
     /// Each task of N = 3 with one of those linked to it unfinished, or failed or spoiled, and all others
     /// done; then with those linked to it done, and all others unfinished, or failed or spoiled.
     fn single_links(&mut self) {
-        self.start(Shape::of(3, 1), 2);
+        self.start(Shape { tiles: 3, side: 1 }, 2);
         let table = table(3);
         for task in 0..table.tasks.len() {
             let links = &table.links[task];
@@ -155,7 +155,7 @@ impl Writer {
     /// T-2(0,1) and T-3(0,1) under work side by side, with one element that is not finite: below, on and
     /// above the diagonal of tile (0,0), and in each of the other tiles.
     fn whole_tiles(&mut self) {
-        let shape = Shape::of(2, 2);
+        let shape = Shape { tiles: 2, side: 2 };
         self.start(shape, 2);
         for (i, j, row, column) in
             [(0, 0, 1, 0), (0, 0, 0, 0), (0, 0, 1, 1), (0, 0, 0, 1), (0, 1, 1, 0), (1, 0, 0, 1), (1, 1, 1, 0)]

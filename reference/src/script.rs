@@ -22,8 +22,7 @@ fn sizes(fields: &mut Fields) -> Sizes {
     let tiles = fields.take(16);
     let side = fields.take(16);
     let workers = fields.take(16);
-    let block = fields.take(16);
-    Sizes { tiles, side, workers, block }
+    Sizes { tiles, side, workers }
 }
 
 /// What an answer says: a refusal's number and place; how a run or a system ended, the task or row it
@@ -149,7 +148,7 @@ pub fn call_line(command: u64, numbers: &[u64]) -> String {
 }
 
 pub fn solve_line(told: Sizes, right: &[f64], answers: &[f64]) -> String {
-    let mut line = call_line(SOLVE, &[told.tiles, told.side, told.workers, told.block]);
+    let mut line = call_line(SOLVE, &[told.tiles, told.side, told.workers]);
     for numbers in [right, answers] {
         put(&mut line, numbers.len() as u64, 8);
         put_numbers(&mut line, numbers);

@@ -1,7 +1,7 @@
 //! The outcome of a finished system, and solving with its factors.
 
 use crate::calls::is_finished;
-use crate::checks::{accept_block, accept_elements, accept_lengths, accept_sizes, accept_state};
+use crate::checks::{accept_elements, accept_lengths, accept_sizes, accept_state};
 use crate::lent::{refuse, Lent, Refusal, Sizes, FAILED};
 use crate::numbers::{divide, first_not_finite, update};
 use crate::tile::Shape;
@@ -72,7 +72,7 @@ pub enum Ending {
 /// The outcome call.
 pub fn ending(sizes: Sizes, lent: &Lent) -> Result<Ending, Refusal> {
     let (shape, workers) = accept_sizes(sizes)?;
-    accept_lengths(shape, sizes.block, workers, lent)?;
+    accept_lengths(shape, workers, lent)?;
     Ok(match lowest_unfinished(lent) {
         Some(number) => Ending::Unfinished(number),
         None => Ending::Ended(outcome(shape, &lent.matrix, &marks(lent))),
@@ -82,11 +82,10 @@ pub fn ending(sizes: Sizes, lent: &Lent) -> Result<Ending, Refusal> {
 /// Solves for one right side; the answers are written only when nothing is refused.
 pub fn solve(sizes: Sizes, lent: &Lent, right: &[f64], answers: &mut [f64]) -> Result<(), Refusal> {
     let (shape, workers) = accept_sizes(sizes)?;
-    accept_lengths(shape, sizes.block, workers, lent)?;
+    accept_lengths(shape, workers, lent)?;
     if right.len() != shape.rows() || answers.len() != shape.rows() {
         return refuse(2, 0);
     }
-    let shape = accept_block(shape, sizes.block)?;
     accept_state(shape, workers, lent)?;
     accept_elements(lent)?;
     if let Some(number) = lowest_unfinished(lent) {
@@ -142,28 +141,16 @@ fn apply_right(shape: Shape, lent: &Lent, numbers: &mut [f64], k: usize) -> Opti
     Some(())
 }
 
-/// Panel by panel: the exchanges, the upper rows by the slice, the lower rows by the panel's columns.
 fn pair_right(shape: Shape, lent: &Lent, numbers: &mut [f64], k: usize, i: usize) -> Option<()> {
     let t = shape.side;
-    for start in (0..t).step_by(shape.block) {
-        let panel = shape.panel(start);
-        for c in panel.clone() {
-            let entry = lent.lists[shape.entry(i, k, c)] as usize;
-            if entry > 0 {
-                numbers.swap(k * t + c, i * t + entry - 1);
-            }
-        }
-        for r in panel.clone() {
-            for c in panel.start..r {
-                let m = lent.slice[shape.slot(i, k, r, c - panel.start)];
-                numbers[k * t + r] = update(numbers[k * t + r], m, numbers[k * t + c])?;
-            }
+    for c in 0..t {
+        let entry = lent.lists[shape.entry(i, k, c)] as usize;
+        if entry > 0 {
+            numbers.swap(k * t + c, i * t + entry - 1);
         }
         for r in 0..t {
-            for c in panel.clone() {
-                let m = lent.matrix[shape.element(i, k, r, c)];
-                numbers[i * t + r] = update(numbers[i * t + r], m, numbers[k * t + c])?;
-            }
+            let m = lent.matrix[shape.element(i, k, r, c)];
+            numbers[i * t + r] = update(numbers[i * t + r], m, numbers[k * t + c])?;
         }
     }
     Some(())

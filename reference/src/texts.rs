@@ -201,7 +201,7 @@ fn crafted_results() -> Vec<String> {
 fn large_programs(rng: &mut Rng) -> Vec<String> {
     let mut texts = Vec::new();
     for (tiles, side) in [(16, 3), (4, 4), (16, 1), (1, 16), (3, 16), (2, 11)] {
-        let shape = Shape::of(tiles, side);
+        let shape = Shape { tiles, side };
         let matrix = numbers(rng, 0, shape.matrix_length());
         texts.push(system_text(shape, &matrix));
     }
@@ -210,7 +210,7 @@ fn large_programs(rng: &mut Rng) -> Vec<String> {
 
 /// A system and results of many lines, damaged beyond line 255.
 fn long_texts(rng: &mut Rng) -> Vec<String> {
-    let shape = Shape::of(13, 1);
+    let shape = Shape { tiles: 13, side: 1 };
     let matrix = numbers(rng, 1, shape.matrix_length());
     let last = published_loops(shape, &matrix);
     let text = result_text(shape, &last.matrix, &last.lists, last.outcome);
@@ -224,7 +224,7 @@ fn long_texts(rng: &mut Rng) -> Vec<String> {
     }
     let mut numbers = [1.0; 256];
     numbers[255] = f64::INFINITY;
-    let text = system_text(Shape::of(16, 1), &numbers);
+    let text = system_text(Shape { tiles: 16, side: 1 }, &numbers);
     lines.push(text_line(SYSTEM, text.as_bytes()));
     lines
 }
@@ -233,7 +233,7 @@ fn long_texts(rng: &mut Rng) -> Vec<String> {
 fn wide_results(rng: &mut Rng) -> Vec<String> {
     let mut lines = Vec::new();
     for side in [11, 16] {
-        let shape = Shape::of(1, side);
+        let shape = Shape { tiles: 1, side };
         let matrix = numbers(rng, 4, shape.matrix_length());
         for most in [side, side + 1] {
             let lists: Vec<u8> = (0..side).map(|c| (most - c) as u8).collect();

@@ -27,7 +27,7 @@ impl Writer {
         let mut systems: Vec<(Shape, Vec<f64>)> =
             ties().into_iter().map(|crafted| (crafted.shape, crafted.matrix)).collect();
         for (tiles, side) in [(2, 2), (2, 3), (3, 2), (1, 5)] {
-            let shape = Shape::of(tiles, side);
+            let shape = Shape { tiles, side };
             systems.push((shape, numbers(&mut self.rng, 2, shape.matrix_length())));
         }
         for (place, (shape, matrix)) in systems.iter().enumerate() {
@@ -43,7 +43,7 @@ impl Writer {
     /// Each task of N = 2 in the middle and at its last column, with the most ties so far and others to come; to its end by columns or by a
     /// run, and a solve.
     fn grown_sums(&mut self) {
-        self.start(Shape::of(2, 3), 2);
+        self.start(Shape { tiles: 2, side: 3 }, 2);
         for task in 0..5 {
             for column in [1, 2] {
                 let mut lent = self.marked(|other| if other == task { TAKEN } else { DONE });
@@ -97,7 +97,7 @@ impl Writer {
             (FAILED, 2, 0),
             (SPOILED, 2, 0),
         ] {
-            self.start(Shape::of(2, side), 2);
+            self.start(Shape { tiles: 2, side }, 2);
             for task in 0..4 {
                 let held = if mark == TAKEN { task } else { task + 1 };
                 let mut lent = self.marked(|other| match other {
@@ -114,7 +114,7 @@ impl Writer {
 
     /// A T-3 and a T-4 done, failed and spoiled, all others done.
     fn limits_when_finished(&mut self) {
-        self.start(Shape::of(2, 2), 2);
+        self.start(Shape { tiles: 2, side: 2 }, 2);
         for task in [2, 3] {
             for mark in [DONE, FAILED, SPOILED] {
                 let lent = self.marked(|other| if other == task { mark } else { DONE });
@@ -126,7 +126,7 @@ impl Writer {
     /// T-2 and T-3 held by two workers at different columns, in either order; and a worker that is idle, or beyond W, with the task that
     /// another one holds and a higher column.
     fn sums_by_their_worker(&mut self) {
-        self.start(Shape::of(2, 2), 3);
+        self.start(Shape { tiles: 2, side: 2 }, 3);
         for turn in 0..4 {
             let mut lent = self.marked(|task| [DONE, TAKEN, TAKEN, WAITING, WAITING][task]);
             if turn % 2 == 1 {
@@ -152,7 +152,7 @@ impl Writer {
         self.outcome();
         self.random_solves(1);
 
-        self.start(Shape::of(1, 16), 2);
+        self.start(Shape { tiles: 1, side: 16 }, 2);
         for (mark, column) in [(DONE, 0), (TAKEN, 15)] {
             let mut lent = self.marked(|_| mark);
             lent.workers[0].column = column;
@@ -161,7 +161,7 @@ impl Writer {
         let lent = self.marked(|_| FAILED);
         self.with_sum(&lent, 0, 256);
 
-        self.start(Shape::of(2, 1), 2);
+        self.start(Shape { tiles: 2, side: 1 }, 2);
         for mark in [WAITING, TAKEN, DONE, FAILED, SPOILED] {
             let lent = self.marked(|task| if task == 2 { mark } else { DONE });
             for tie_sum in [256, 257, 65535] {

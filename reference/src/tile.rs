@@ -1,38 +1,19 @@
-//! The columns of T-1 to T-4 on the lent matrix, row lists and slice, and the fill of a failed or spoiled task.
+//! The columns of T-1 to T-4 on the lent matrix and row lists, and the fill of a failed or spoiled task.
 
 use std::cmp::Ordering;
-use std::ops::Range;
 
-use crate::checks::slice_length;
-use crate::lent::Sizes;
 use crate::numbers::{divide, update};
 use crate::search::{search, Pivot};
 use crate::tasks::Task;
 
-/// N and t, both known to be in range, and b, known to divide t.
+/// N and t, both known to be in range.
 #[derive(Clone, Copy, Debug, PartialEq, Eq)]
 pub struct Shape {
     pub tiles: usize,
     pub side: usize,
-    pub block: usize,
 }
 
 impl Shape {
-    /// N and t with inner block size 1.
-    pub fn of(tiles: usize, side: usize) -> Shape {
-        Shape { tiles, side, block: 1 }
-    }
-
-    pub fn with_block(self, block: usize) -> Shape {
-        Shape { block, ..self }
-    }
-
-    /// The sizes that a call is told, with W.
-    pub fn told(self, workers: usize) -> Sizes {
-        let (tiles, side, block) = (self.tiles as u64, self.side as u64, self.block as u64);
-        Sizes { tiles, side, workers: workers as u64, block }
-    }
-
     /// n = N·t.
     pub fn rows(self) -> usize {
         self.tiles * self.side
@@ -44,36 +25,6 @@ impl Shape {
 
     pub fn lists_length(self) -> usize {
         self.tiles * self.tiles * self.side
-    }
-
-    /// The numbers that the slice has for each lower tile: none where b is 1.
-    pub fn part_length(self) -> usize {
-        if self.block == 1 {
-            0
-        } else {
-            self.side * self.block
-        }
-    }
-
-    pub fn slice_length(self) -> usize {
-        slice_length(self, self.block as u64) as usize
-    }
-
-    /// The slice's part of lower tile (i, k), the lower tiles being counted in tile order.
-    pub fn part(self, i: usize, k: usize) -> Range<usize> {
-        let start = (i * (i - 1) / 2 + k) * self.part_length();
-        start..start + self.part_length()
-    }
-
-    /// The offset in the slice of the multiplier that upper row r has in T-3(k, i) for column p of its panel.
-    pub fn slot(self, i: usize, k: usize, r: usize, p: usize) -> usize {
-        self.part(i, k).start + r * self.block + p
-    }
-
-    /// The columns of the panel in which column c stands.
-    pub fn panel(self, c: usize) -> Range<usize> {
-        let start = c - c % self.block;
-        start..start + self.block
     }
 
     /// The offset of row r, column c of tile (i, j).
@@ -104,19 +55,12 @@ impl Shape {
 
 /// Works one column of a task: the ties of its pivot, 0 in T-2 and T-4. Nothing where a computed number is not finite; what was written by
 /// then is left.
-pub fn work_column(
-    shape: Shape,
-    matrix: &mut [f64],
-    lists: &mut [u8],
-    slice: &mut [f64],
-    task: Task,
-    c: usize,
-) -> Option<u16> {
+pub fn work_column(shape: Shape, matrix: &mut [f64], lists: &mut [u8], task: Task, c: usize) -> Option<u16> {
     match task.kind {
         1 => factor_column(shape, matrix, lists, task.k, c),
         2 => apply_column(shape, matrix, lists, task.k, task.j, c).map(|()| 0),
-        3 => couple_column(shape, matrix, lists, slice, task, c),
-        _ => pair_column(shape, matrix, lists, slice, task, c).map(|()| 0),
+        3 => couple_column(shape, matrix, lists, task.k, task.i, c),
+        _ => pair_column(shape, matrix, lists, task, c).map(|()| 0),
     }
 }
 
@@ -171,102 +115,57 @@ fn apply_column(shape: Shape, matrix: &mut [f64], lists: &[u8], k: usize, j: usi
     Some(())
 }
 
-/// T-3: pivot among the upper diagonal element and the lower column. Inside the panel the two rows are exchanged, left of c their multipliers,
-/// and the columns right of c updated. With its last column the panel changes all columns right of it.
+/// T-3: pivot among the upper diagonal element and the lower column, columns c and right of it exchanged.
 fn couple_column(
     shape: Shape,
     matrix: &mut [f64],
     lists: &mut [u8],
-    slice: &mut [f64],
-    task: Task,
+    k: usize,
+    i: usize,
     c: usize,
 ) -> Option<u16> {
-    let (t, k, i) = (shape.side, task.k, task.i);
-    let panel = shape.panel(c);
+    let t = shape.side;
     let mut candidates = vec![matrix[shape.element(k, k, c, c)]];
     candidates.extend((0..t).map(|r| matrix[shape.element(i, k, r, c)]));
     let Pivot { row: entry, magnitude, ties } = search(0, &candidates);
     if magnitude == 0.0 {
         lists[shape.entry(i, k, c)] = 0;
-    } else {
-        lists[shape.entry(i, k, c)] = entry as u8;
-        if entry > 0 {
-            for s in panel.start..c {
-                let slot = shape.slot(i, k, c, s - panel.start);
-                std::mem::swap(&mut slice[slot], &mut matrix[shape.element(i, k, entry - 1, s)]);
-            }
-            for s in c..panel.end {
-                matrix.swap(shape.element(k, k, c, s), shape.element(i, k, entry - 1, s));
-            }
-        }
-        let pivot = matrix[shape.element(k, k, c, c)];
-        for r in 0..t {
-            let place = shape.element(i, k, r, c);
-            matrix[place] = divide(matrix[place], pivot)?;
-        }
-        for r in 0..t {
-            for s in c + 1..panel.end {
-                let place = shape.element(i, k, r, s);
-                let m = matrix[shape.element(i, k, r, c)];
-                let y = matrix[shape.element(k, k, c, s)];
-                matrix[place] = update(matrix[place], m, y)?;
-            }
+        return Some(ties);
+    }
+    lists[shape.entry(i, k, c)] = entry as u8;
+    if entry > 0 {
+        for s in c..t {
+            matrix.swap(shape.element(k, k, c, s), shape.element(i, k, entry - 1, s));
         }
     }
-    if c + 1 == panel.end {
-        for s in panel.end..t {
-            follow_panel(shape, matrix, lists, slice, Task { j: k, ..task }, &panel, s)?;
+    let pivot = matrix[shape.element(k, k, c, c)];
+    for r in 0..t {
+        let place = shape.element(i, k, r, c);
+        matrix[place] = divide(matrix[place], pivot)?;
+    }
+    for r in 0..t {
+        for s in c + 1..t {
+            let place = shape.element(i, k, r, s);
+            let m = matrix[shape.element(i, k, r, c)];
+            let y = matrix[shape.element(k, k, c, s)];
+            matrix[place] = update(matrix[place], m, y)?;
         }
     }
     Some(ties)
 }
 
-/// T-4: nothing before the panel's last column, with which the panel changes both tiles in all their columns.
-fn pair_column(
-    shape: Shape,
-    matrix: &mut [f64],
-    lists: &[u8],
-    slice: &[f64],
-    task: Task,
-    c: usize,
-) -> Option<()> {
-    let panel = shape.panel(c);
-    if c + 1 == panel.end {
-        for s in 0..shape.side {
-            follow_panel(shape, matrix, lists, slice, task, &panel, s)?;
-        }
-    }
-    Some(())
-}
-
-/// What a panel of T-3(k, i) does to column s of tiles (k, j) and (i, j): its entries' exchanges in order; then its upper rows, in rising order, by
-/// their multipliers in the slice; then all lower rows by its columns.
-fn follow_panel(
-    shape: Shape,
-    matrix: &mut [f64],
-    lists: &[u8],
-    slice: &[f64],
-    task: Task,
-    panel: &Range<usize>,
-    s: usize,
-) -> Option<()> {
+/// T-4: entry c says which row of A(i,j), if any, changes places with row c of A(k,j); then every row of A(i,j) is updated.
+fn pair_column(shape: Shape, matrix: &mut [f64], lists: &[u8], task: Task, c: usize) -> Option<()> {
+    let t = shape.side;
     let (k, i, j) = (task.k, task.i, task.j);
-    for c in panel.clone() {
-        let entry = lists[shape.entry(i, k, c)] as usize;
-        if entry > 0 {
+    let entry = lists[shape.entry(i, k, c)] as usize;
+    if entry > 0 {
+        for s in 0..t {
             matrix.swap(shape.element(k, j, c, s), shape.element(i, j, entry - 1, s));
         }
     }
-    for r in panel.clone() {
-        for c in panel.start..r {
-            let place = shape.element(k, j, r, s);
-            let m = slice[shape.slot(i, k, r, c - panel.start)];
-            let y = matrix[shape.element(k, j, c, s)];
-            matrix[place] = update(matrix[place], m, y)?;
-        }
-    }
-    for r in 0..shape.side {
-        for c in panel.clone() {
+    for r in 0..t {
+        for s in 0..t {
             let place = shape.element(i, j, r, s);
             let m = matrix[shape.element(i, k, r, c)];
             let y = matrix[shape.element(k, j, c, s)];
@@ -276,8 +175,8 @@ fn follow_panel(
     Some(())
 }
 
-/// Fills what a task writes: numbers with +0, entries with 0; of T-3's upper tile the diagonal and above, and its part of the slice.
-pub fn fill(shape: Shape, matrix: &mut [f64], lists: &mut [u8], slice: &mut [f64], task: Task) {
+/// Fills what a task writes: numbers with +0, entries with 0; of T-3's upper tile the diagonal and above.
+pub fn fill(shape: Shape, matrix: &mut [f64], lists: &mut [u8], task: Task) {
     let (k, i, j) = (task.k, task.i, task.j);
     match task.kind {
         1 => {
@@ -289,7 +188,6 @@ pub fn fill(shape: Shape, matrix: &mut [f64], lists: &mut [u8], slice: &mut [f64
             fill_upper(shape, matrix, k, k);
             fill_tile(shape, matrix, i, k);
             fill_list(shape, lists, i, k);
-            slice[shape.part(i, k)].fill(0.0);
         }
         _ => {
             fill_tile(shape, matrix, k, j);

@@ -1,9 +1,9 @@
 //! Writes scripts for the player by playing them: the edges of what calls are told and answer, walks through random
-//! and crafted systems, the parts of the diagonal tile, tied pivots, call numbers, inner blocks, odd and damaged states, wrong sizes and lengths.
+//! and crafted systems, the parts of the diagonal tile, tied pivots, call numbers, odd and damaged states, wrong sizes and lengths.
 
 use crate::crafted::{all_crafted, Crafted};
 use crate::families::{not_finite, numbers, FAMILIES};
-use crate::lent::{Lent, DONE, SLOTS, SPOILED};
+use crate::lent::{Lent, SLOTS};
 use crate::oddities::{before_opening, damage, odd_state, DAMAGES};
 use crate::tasks::table;
 use crate::tile::Shape;
@@ -12,12 +12,8 @@ use crate::writer::{Options, Writer};
 /// The bytes of the lend line of a shape with its right lengths.
 fn lend_bytes(shape: Shape) -> usize {
     let count = table(shape.tiles).tasks.len();
-    let numbers = shape.matrix_length() + shape.slice_length();
-    3 + 48 + 16 * numbers + 2 * shape.lists_length() + 32 * count + 8 * SLOTS
+    3 + 40 + 16 * shape.matrix_length() + 2 * shape.lists_length() + 32 * count + 8 * SLOTS
 }
-
-/// The bytes that lend lines need but for those of N = t = 16.
-const OTHERS: usize = 1_800_000;
 
 /// The whole script.
 pub fn script(options: Options) -> String {
@@ -29,7 +25,6 @@ pub fn script(options: Options) -> String {
     writer.diagonal_parts();
     writer.tied_pivots();
     writer.call_numbers();
-    writer.inner_blocks();
     writer.damaged_systems();
     while !writer.is_full() {
         match writer.rng.below(10) {
@@ -57,17 +52,17 @@ impl Writer {
         self.wrong_sizes();
     }
 
-    /// Systems whose lend line is long: as many as the room allows, one or two of N = t = 16 where it is left beside the others.
+    /// Systems whose lend line is long: as many as the room allows, a second one of N = t = 16 where half of it stays free.
     fn large_systems(&mut self) {
-        let full = Shape::of(16, 16);
+        let full = Shape { tiles: 16, side: 16 };
         for (family, lends) in [(0, 1), (1, 2)] {
-            if self.spare() > lends * lend_bytes(full) + OTHERS {
+            if self.spare() > lends * lend_bytes(full) + 60_000 {
                 let workers = self.rng.between(3, 32);
                 self.walk_system(full, workers, family, 40);
             }
         }
         for (tiles, side) in [(16, 1), (1, 16), (4, 4), (8, 2), (2, 8), (5, 3), (3, 5), (7, 1), (1, 9)] {
-            let shape = Shape::of(tiles, side);
+            let shape = Shape { tiles, side };
             if self.spare() > 3 * lend_bytes(shape) {
                 let workers = self.rng.pick(&[1, 2, 5, 16, 32]);
                 let family = self.rng.pick(&[0, 0, 1, 7]);
@@ -149,37 +144,14 @@ impl Writer {
         self.random_solves(2);
     }
 
-    /// Each field of the first and of the last record wrong by itself.
-    fn damaged_records(&mut self) {
-        self.start(Shape::of(2, 1), 1);
-        for task in [0, 4] {
-            for field in 0..5 {
-                let mut lent = self.marked(|_| DONE);
-                let record = &mut lent.records[task];
-                match field {
-                    0 => record.kind += 1,
-                    1 => record.k += 1,
-                    2 => record.i += 1,
-                    3 => record.j += 1,
-                    _ => record.mark = SPOILED + 1,
-                }
-                self.lend(&lent);
-                self.run(0);
-                self.take(0, 0);
-            }
-        }
-    }
-
     /// Each damage by itself, on states with tasks under work.
     fn damaged_systems(&mut self) {
-        self.damaged_records();
         for which in 0..3 * DAMAGES {
             if self.is_full() {
                 return;
             }
             let side = 1 + which % 2;
-            let block = if which < 2 * DAMAGES { 1 } else { side };
-            self.start(Shape::of(2, side).with_block(block), 3);
+            self.start(Shape { tiles: 2, side }, 3);
             let family = self.rng.pick(&[0, 1, 6]);
             let mut lent = odd_state(&mut self.rng, self.shape, 3, family, false);
             damage(&mut self.rng, self.shape, 3, &mut lent, which % DAMAGES);
@@ -220,7 +192,7 @@ impl Writer {
         let workers = self.rng.between(1, 4);
         self.start(shape, workers);
         let mut lent = odd_state(&mut self.rng, shape, workers, 0, false);
-        match self.rng.below(10) {
+        match self.rng.below(8) {
             0 => lent.matrix.push(1.0),
             1 => drop(lent.matrix.pop()),
             2 => lent.lists.push(0),
@@ -228,8 +200,6 @@ impl Writer {
             4 => lent.records.push(lent.records[0]),
             5 => drop(lent.records.pop()),
             6 => lent.matrix.clear(),
-            7 => lent.slice.push(1.0),
-            8 => drop(lent.slice.pop()),
             _ => {}
         }
         if self.rng.percent(30) && !lent.matrix.is_empty() {
@@ -257,8 +227,7 @@ impl Writer {
                 18 => (self.rng.between(1, 8), self.rng.between(1, 2)),
                 _ => (1, 1),
             };
-            let blocks: Vec<usize> = (1..=side).filter(|block| side % block == 0).collect();
-            let shape = Shape::of(tiles, side).with_block(self.rng.pick(&blocks));
+            let shape = Shape { tiles, side };
             if shape.rows() <= 2 || lend_bytes(shape) < room {
                 return shape;
             }

@@ -37,7 +37,7 @@ impl Writer {
             script: String::new(),
             calls: 0,
             options,
-            shape: Shape::of(1, 1),
+            shape: Shape { tiles: 1, side: 1 },
             workers: 1,
         }
     }
@@ -80,11 +80,11 @@ impl Writer {
     }
 
     pub fn told(&self) -> Sizes {
-        self.shape.told(self.workers)
+        Sizes { tiles: self.shape.tiles as u64, side: self.shape.side as u64, workers: self.workers as u64 }
     }
 
     pub fn say_with(&mut self, command: u64, told: Sizes, more: &[u64]) -> bool {
-        let mut fields = vec![told.tiles, told.side, told.workers, told.block];
+        let mut fields = vec![told.tiles, told.side, told.workers];
         fields.extend_from_slice(more);
         self.say(call_line(command, &fields))
     }
@@ -129,7 +129,6 @@ impl Writer {
         Lent {
             matrix: numbers(&mut self.rng, 0, self.shape.matrix_length()),
             lists: random_lists(&mut self.rng, self.shape),
-            slice: numbers(&mut self.rng, 0, self.shape.slice_length()),
             records: (0..count).map(|task| record_of(self.shape, task, mark(task))).collect(),
             count: self.workers as u64,
             run_number: 0,
@@ -265,8 +264,7 @@ impl Writer {
     pub fn wrong_sizes(&mut self) {
         let mut told = self.told();
         let wrong = self.rng.pick(&[0, 17, 33, 256, 1 << 32, u64::MAX]);
-        let fields = if self.shape.block > 1 { 10 } else { 7 };
-        match self.rng.below(fields) {
+        match self.rng.below(7) {
             0 | 1 => told.tiles = wrong,
             2 | 3 => told.side = wrong,
             4 => told.workers = self.rng.pick(&[0, 33, 1 << 32, u64::MAX]),
@@ -274,16 +272,11 @@ impl Writer {
                 told.tiles = self.rng.between(1, 16) as u64;
                 told.side = self.rng.between(1, 16) as u64;
             }
-            6 => told.workers = self.rng.between(1, 32) as u64,
-            _ => told.block = self.rng.pick(&[0, 1, 2, 3, 5, wrong]),
+            _ => told.workers = self.rng.between(1, 32) as u64,
         }
         let worker = self.rng.below(self.workers) as u64;
         match self.rng.below(6) {
-            0 if told.workers != self.workers as u64
-                || told.tiles > 16
-                || told.side > 16
-                || told.block > 16 =>
-            {
+            0 if told.workers != self.workers as u64 || told.tiles > 16 || told.side > 16 => {
                 self.say_with(OPENING, told, &[]);
             }
             0 | 1 => drop(self.say_with(TAKE, told, &[worker, 0])),

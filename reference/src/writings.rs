@@ -35,7 +35,7 @@ pub fn all_writings(seed: u64) -> Vec<Writing> {
     let mut rng = Rng::new(seed);
     let mut all = Vec::new();
     for (tiles, side) in SHAPES {
-        let shape = Shape::of(tiles, side);
+        let shape = Shape { tiles, side };
         for is_result in [false, true] {
             for size in 0..8 {
                 for length in 0..5 {

@@ -13,10 +13,10 @@ use reference::tile::Shape;
 use reference::vectors::script;
 use reference::writer::Options;
 
-const TOLD: Sizes = Sizes { tiles: 2, side: 1, workers: 2, block: 1 };
+const TOLD: Sizes = Sizes { tiles: 2, side: 1, workers: 2 };
 
 fn opened() -> Lent {
-    let shape = Shape::of(2, 1);
+    let shape = Shape { tiles: 2, side: 1 };
     let mut lent = before_opening(&mut Rng::new(1), shape, 2, vec![1.0, 2.0, 4.0, 4.0]);
     opening(TOLD, &mut lent).expect("a good system");
     lent
@@ -70,7 +70,7 @@ fn slots_beyond_the_count_stay() {
 fn scripts_have_other_counts() {
     let mut met = BTreeSet::new();
     let mut player = Player::new();
-    for line in script(Options { seed: 1, calls: 6800, max_bytes: 2_600_000 }).lines() {
+    for line in script(Options { seed: 1, calls: 5650, max_bytes: 1_600_000 }).lines() {
         let answer = player.play(line);
         let mut fields = Fields::new(line);
         let command = fields.take(2);

@@ -9,7 +9,7 @@ use reference::vectors::script;
 use reference::writer::{Options, Writer};
 
 fn options(seed: u64) -> Options {
-    Options { seed, calls: 6800, max_bytes: 2_600_000 }
+    Options { seed, calls: 5650, max_bytes: 1_600_000 }
 }
 
 /// What a script meets, in words.
@@ -32,7 +32,6 @@ fn call(met: &mut BTreeSet<String>, command: u64, fields: &mut Fields, before: &
     let (number, place) = (value(answer[..2].as_bytes()), value(answer[2..18].as_bytes()));
     let (kind, count) = (value(answer[18..20].as_bytes()), value(answer[20..36].as_bytes()));
     let sizes = [fields.take(16), fields.take(16), fields.take(16)];
-    let _block = fields.take(16);
     if place > 255 && place < 65536 {
         met.insert(format!("{command:X} answered {number}, {kind}, place above 255"));
     }

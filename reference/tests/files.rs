@@ -48,8 +48,8 @@ fn the_example_judged() {
 /// The same by calls with one worker.
 #[test]
 fn the_example_by_calls() {
-    let shape = Shape::of(2, 1);
-    let told = Sizes { tiles: 2, side: 1, workers: 1, block: 1 };
+    let shape = Shape { tiles: 2, side: 1 };
+    let told = Sizes { tiles: 2, side: 1, workers: 1 };
     let mut matrix = vec![0.0; 4];
     read_system(SYSTEM.as_bytes(), &mut matrix).expect("a system");
     let mut lent = before_opening(&mut Rng::new(1), shape, 1, matrix);
@@ -108,7 +108,7 @@ fn result_refusals() {
 
 #[test]
 fn places_are_hexadecimal() {
-    let shape = Shape::of(16, 1);
+    let shape = Shape { tiles: 16, side: 1 };
     let text = result_text(shape, &[1.0; 256], &[0; 256], Outcome::Good);
     let mut lines: Vec<&str> = text.lines().collect();
     lines[299] = "03000";

@@ -5,7 +5,7 @@ use std::collections::BTreeSet;
 
 use reference::calls::{all_finished, column, is_finished, lowest_ready, opening, run, take, Run};
 use reference::cases::cases_script;
-use reference::checks::{accept_lengths, accept_shape, accept_state, slice_length};
+use reference::checks::{accept_lengths, accept_shape, accept_state};
 use reference::crafted::all_crafted;
 use reference::families::{numbers, FAMILIES};
 use reference::hex::{value, Fields};
@@ -21,12 +21,16 @@ use reference::vectors::script;
 use reference::writer::{Options, Writer};
 
 fn options(seed: u64) -> Options {
-    Options { seed, calls: 6800, max_bytes: 2_600_000 }
+    Options { seed, calls: 5650, max_bytes: 1_600_000 }
+}
+
+fn told(shape: Shape, workers: usize) -> Sizes {
+    Sizes { tiles: shape.tiles as u64, side: shape.side as u64, workers: workers as u64 }
 }
 
 fn opened(rng: &mut Rng, shape: Shape, workers: usize, matrix: &[f64]) -> Lent {
     let mut lent = before_opening(rng, shape, workers, matrix.to_vec());
-    opening(shape.told(workers), &mut lent).expect("a good system");
+    opening(told(shape, workers), &mut lent).expect("a good system");
     lent
 }
 
@@ -36,14 +40,14 @@ fn story(lent: &Lent) -> Vec<(u8, u32, u32)> {
 }
 
 /// Everything but those fields and the run's number.
-fn rest(lent: &Lent) -> (Vec<u64>, Vec<u8>, Vec<u64>, Vec<Record>) {
+fn rest(lent: &Lent) -> (Vec<u64>, Vec<u8>, Vec<Record>) {
     let bare = |&record: &Record| Record { worker: 0, took: 0, ended: 0, ..record };
-    (bits(&lent.matrix), lent.lists.clone(), bits(&lent.slice), lent.records.iter().map(bare).collect())
+    (bits(&lent.matrix), lent.lists.clone(), lent.records.iter().map(bare).collect())
 }
 
 /// A run by single calls: the calls made.
 fn turns(sizes: Sizes, lent: &mut Lent, budget: u64) -> u64 {
-    let shape = Shape::of(sizes.tiles as usize, sizes.side as usize);
+    let shape = Shape { tiles: sizes.tiles as usize, side: sizes.side as usize };
     let mut count = 0;
     for worker in (0..sizes.workers).cycle() {
         if all_finished(&lent.records) || count == budget {
@@ -64,10 +68,10 @@ fn turns(sizes: Sizes, lent: &mut Lent, budget: u64) -> u64 {
 
 #[test]
 fn two_workers_by_hand() {
-    let shape = Shape::of(2, 2);
+    let shape = Shape { tiles: 2, side: 2 };
     let matrix = numbers(&mut Rng::new(1), 0, 16);
     let mut lent = opened(&mut Rng::new(1), shape, 2, &matrix);
-    assert_eq!(run(shape.told(2), &mut lent, u64::MAX), Ok(Run::Finished(15)));
+    assert_eq!(run(told(shape, 2), &mut lent, u64::MAX), Ok(Run::Finished(15)));
     assert_eq!(story(&lent), [(0, 1, 3), (1, 4, 8), (0, 5, 9), (1, 10, 12), (0, 13, 15)]);
     assert_eq!(lent.run_number, 15);
 }
@@ -75,9 +79,9 @@ fn two_workers_by_hand() {
 /// P5: task 3 fails and task 4 is spoiled; both have a worker and two calls like the others.
 #[test]
 fn failed_and_spoiled_by_hand() {
-    let shape = Shape::of(2, 1);
+    let shape = Shape { tiles: 2, side: 1 };
     let mut lent = opened(&mut Rng::new(1), shape, 3, &[1.0, f64::MAX, -1.0, f64::MAX]);
-    let sizes = shape.told(3);
+    let sizes = told(shape, 3);
     for (task, worker) in [2, 1, 0, 2, 1].into_iter().enumerate() {
         take(sizes, &mut lent, worker, task as u64).expect("a take");
         assert_eq!(story(&lent)[task], (0, 2 * task as u32 + 1, 0));
@@ -119,7 +123,7 @@ impl Told {
 
 /// One call of a worker, refused or not, or a run of a few.
 fn any_call(rng: &mut Rng, shape: Shape, workers: usize, lent: &mut Lent, due: &mut Told) {
-    let sizes = shape.told(workers);
+    let sizes = told(shape, workers);
     let before = lent.clone();
     let worker = rng.below(workers + 1) as u64;
     if rng.percent(10) {
@@ -176,7 +180,7 @@ fn orders_differ_in_nothing_else() {
     let mut systems: Vec<(Shape, Vec<f64>)> =
         all_crafted().into_iter().map(|crafted| (crafted.shape, crafted.matrix)).collect();
     for round in 0..60 {
-        let shape = Shape::of(rng.between(1, 4), rng.between(1, 3));
+        let shape = Shape { tiles: rng.between(1, 4), side: rng.between(1, 3) };
         systems.push((shape, numbers(&mut rng, round % FAMILIES, shape.matrix_length())));
     }
     let mut others = 0;
@@ -211,7 +215,7 @@ struct Line {
 
 impl Line {
     fn shape(&self) -> Shape {
-        Shape::of(self.sizes.tiles as usize, self.sizes.side as usize)
+        Shape { tiles: self.sizes.tiles as usize, side: self.sizes.side as usize }
     }
 
     fn fits(&self, lent: &Lent) -> bool {
@@ -229,8 +233,7 @@ fn each_line(script: &str, mut look: impl FnMut(&str, Line)) {
         if command == LEND {
             continue;
         }
-        let (tiles, side) = (fields.take(16), fields.take(16));
-        let sizes = Sizes { tiles, side, workers: fields.take(16), block: fields.take(16) };
+        let sizes = Sizes { tiles: fields.take(16), side: fields.take(16), workers: fields.take(16) };
         let more = match command {
             TAKE => [fields.take(16), fields.take(16)],
             COLUMN | RUN => [fields.take(16), 0],
@@ -326,7 +329,7 @@ fn limits_of_the_number() {
     let mut writer = Writer::new(options(1));
     for (tiles, tasks) in [(1, 1), (2, 5)] {
         for t in 1..=16 {
-            writer.start(Shape::of(tiles, t as usize), 2);
+            writer.start(Shape { tiles, side: t as usize }, 2);
             let told = writer.told();
             for (turn, (mark, column, most)) in stands(t).into_iter().enumerate() {
                 let task = turn % tasks;
@@ -352,7 +355,7 @@ fn limits_of_the_number() {
 fn limits_of_call_numbers_and_workers() {
     let mut writer = Writer::new(options(1));
     for workers in [2, 3, 31, 32] {
-        writer.start(Shape::of(2, 3), workers);
+        writer.start(Shape { tiles: 2, side: 3 }, workers);
         let told = writer.told();
         for task in 0..5 {
             for (mark, column, most) in stands(3) {
@@ -384,13 +387,13 @@ fn limits_of_call_numbers_and_workers() {
 
 #[test]
 fn an_opening_looks_at_no_number() {
-    let shape = Shape::of(2, 1);
+    let shape = Shape { tiles: 2, side: 1 };
     let mut lent = before_opening(&mut Rng::new(1), shape, 1, vec![1.0, 2.0, 4.0, 4.0]);
     lent.run_number = u32::MAX;
     for record in &mut lent.records {
         *record = Record { worker: 255, took: u32::MAX, ended: u32::MAX, ..*record };
     }
-    opening(shape.told(1), &mut lent).expect("a good system");
+    opening(told(shape, 1), &mut lent).expect("a good system");
     assert_eq!((story(&lent), lent.run_number), (vec![(0, 0, 0); 5], 0));
 }
 
@@ -441,8 +444,7 @@ fn wrong(lent: &Lent) -> bool {
         let tiles = (1..=16).find(|&tiles| table(tiles).tasks.len() == lent.records.len())?;
         let side = (lent.matrix.len() as f64).sqrt() as usize / tiles;
         let shape = accept_shape(tiles as u64, side as u64).ok()?;
-        let block = (1..=16).find(|&block| slice_length(shape, block) == lent.slice.len() as u128)?;
-        accept_lengths(shape, block, lent.count as usize, lent).ok()?;
+        accept_lengths(shape, lent.count as usize, lent).ok()?;
         Some(lent.count <= 32 && accept_state(shape, lent.count as usize, lent).is_ok())
     };
     match fits(lent) {

@@ -1,9 +1,9 @@
-//! Tasks taken and worked by any workers in any order end like the old loops, for every b.
+//! Tasks taken and worked by any workers in any order end like the old loops.
 
 use std::collections::HashSet;
 
 use reference::calls::{all_finished, column, is_finished, is_ready, opening, run, take, Run};
-use reference::crafted::{all_crafted, blocks};
+use reference::crafted::all_crafted;
 use reference::families::{numbers, FAMILIES};
 use reference::lent::{Lent, Record, Sizes, DONE, FAILED, SPOILED};
 use reference::loops::{old_loops, published_loops, Final};
@@ -13,15 +13,13 @@ use reference::rng::Rng;
 use reference::solve::{marks, outcome};
 use reference::tile::Shape;
 
-/// N and t with each b.
-fn with_blocks(shape: Shape) -> Vec<Shape> {
-    let divides = |block: &usize| shape.side % block == 0;
-    (1..=shape.side).filter(divides).map(|block| shape.with_block(block)).collect()
+fn told(shape: Shape, workers: usize) -> Sizes {
+    Sizes { tiles: shape.tiles as u64, side: shape.side as u64, workers: workers as u64 }
 }
 
 fn opened(rng: &mut Rng, shape: Shape, workers: usize, matrix: &[f64]) -> Lent {
     let mut lent = before_opening(rng, shape, workers, matrix.to_vec());
-    opening(shape.told(workers), &mut lent).expect("a good system");
+    opening(told(shape, workers), &mut lent).expect("a good system");
     lent
 }
 
@@ -36,7 +34,6 @@ fn tie_sums(lent: &Lent) -> Vec<u16> {
 fn assert_ended(shape: Shape, lent: &Lent, last: &Final) {
     assert_eq!(bits(&lent.matrix), bits(&last.matrix));
     assert_eq!(lent.lists, last.lists);
-    assert_eq!(bits(&lent.slice), bits(&last.slice));
     assert_eq!(marks(lent), last.marks);
     assert_eq!(tie_sums(lent), last.tie_sums);
     assert_eq!(outcome(shape, &lent.matrix, &marks(lent)), last.outcome);
@@ -106,7 +103,7 @@ fn play_order(
     couple_first: bool,
     met: &mut Met,
 ) -> u64 {
-    let sizes = shape.told(workers);
+    let sizes = told(shape, workers);
     let mut count = 0;
     while !all_finished(&lent.records) {
         let worker = rng.below(workers);
@@ -130,9 +127,9 @@ fn check_system(rng: &mut Rng, shape: Shape, matrix: &[f64], couple_first: bool,
 
     let workers = rng.between(1, 32);
     let mut other = opened(rng, shape, workers, matrix);
-    let half = run(shape.told(workers), &mut other, count / 2).expect("a run");
+    let half = run(told(shape, workers), &mut other, count / 2).expect("a run");
     assert!(half == Run::Spent(count / 2) || half == Run::Finished(count / 2));
-    let rest = run(shape.told(workers), &mut other, u64::MAX).expect("a run");
+    let rest = run(told(shape, workers), &mut other, u64::MAX).expect("a run");
     assert_eq!(rest, Run::Finished(count - count / 2));
     assert_ended(shape, &other, &last);
     assert_ended(shape, &other, &published_loops(shape, matrix));
@@ -142,12 +139,10 @@ fn check_system(rng: &mut Rng, shape: Shape, matrix: &[f64], couple_first: bool,
 fn random_systems() {
     let mut rng = Rng::new(7);
     let mut met = Met::default();
-    for round in 0..800 {
-        let shape = Shape::of(rng.between(1, 5), rng.between(1, 4));
+    for round in 0..240 {
+        let shape = Shape { tiles: rng.between(1, 5), side: rng.between(1, 4) };
         let matrix = numbers(&mut rng, round % FAMILIES, shape.matrix_length());
-        for shape in with_blocks(shape) {
-            check_system(&mut rng, shape, &matrix, round % 4 < 2, &mut met);
-        }
+        check_system(&mut rng, shape, &matrix, round % 4 < 2, &mut met);
     }
     met.assert_all();
 }
@@ -156,11 +151,9 @@ fn random_systems() {
 fn crafted_systems() {
     let mut rng = Rng::new(8);
     let mut met = Met::default();
-    for crafted in all_crafted().into_iter().chain(blocks()) {
-        for shape in with_blocks(crafted.shape) {
-            for round in 0..4 {
-                check_system(&mut rng, shape, &crafted.matrix, round % 2 == 0, &mut met);
-            }
+    for crafted in all_crafted() {
+        for round in 0..4 {
+            check_system(&mut rng, crafted.shape, &crafted.matrix, round % 2 == 0, &mut met);
         }
     }
     met.assert_all();
@@ -169,18 +162,18 @@ fn crafted_systems() {
 // ---- every order
 
 /// All that tells one state from another, whoever holds the tasks.
-type State = (Vec<u64>, Vec<u8>, Vec<u64>, Vec<u8>, Vec<u16>, Vec<(u16, u8)>);
+type State = (Vec<u64>, Vec<u8>, Vec<u8>, Vec<u16>, Vec<(u16, u8)>);
 
 fn state_of(lent: &Lent) -> State {
     let mut held: Vec<(u16, u8)> =
         lent.workers.iter().filter(|worker| worker.busy).map(|worker| (worker.task, worker.column)).collect();
     held.sort();
-    (bits(&lent.matrix), lent.lists.clone(), bits(&lent.slice), marks(lent), tie_sums(lent), held)
+    (bits(&lent.matrix), lent.lists.clone(), marks(lent), tie_sums(lent), held)
 }
 
 /// Goes through every state that takes and columns lead to; each end is that of the old loops.
 fn search(shape: Shape, workers: usize, matrix: &[f64], met: &mut Met) {
-    let sizes = shape.told(workers);
+    let sizes = told(shape, workers);
     let last = old_loops(shape, matrix);
     let mut found = HashSet::new();
     let mut open = vec![opened(&mut Rng::new(1), shape, workers, matrix)];
@@ -211,29 +204,13 @@ fn search(shape: Shape, workers: usize, matrix: &[f64], met: &mut Met) {
 #[test]
 fn every_order() {
     let mut met = Met::default();
-    for crafted in all_crafted().into_iter().chain(blocks()) {
-        for shape in with_blocks(crafted.shape) {
-            match (shape.tiles, shape.side) {
-                (2, _) => search(shape, 2, &crafted.matrix, &mut met),
-                (3, 1) => search(shape, 4, &crafted.matrix, &mut met),
-                (3, _) => search(shape, 2, &crafted.matrix, &mut met),
-                _ => {}
-            }
+    for crafted in all_crafted() {
+        match (crafted.shape.tiles, crafted.shape.side) {
+            (2, _) => search(crafted.shape, 2, &crafted.matrix, &mut met),
+            (3, 1) => search(crafted.shape, 4, &crafted.matrix, &mut met),
+            (3, _) => search(crafted.shape, 2, &crafted.matrix, &mut met),
+            _ => {}
         }
     }
     met.assert_all();
-}
-
-#[test]
-fn every_order_of_random_systems() {
-    let mut rng = Rng::new(9);
-    let mut met = Met::default();
-    for round in 0..60 {
-        let (tiles, side) = rng.pick(&[(2, 2), (2, 3), (2, 4), (3, 2)]);
-        let shape = Shape::of(tiles, side);
-        let matrix = numbers(&mut rng, round % FAMILIES, shape.matrix_length());
-        for shape in with_blocks(shape) {
-            search(shape, 2, &matrix, &mut met);
-        }
-    }
 }

@@ -12,7 +12,7 @@ use reference::vectors::script;
 use reference::writer::{Options, Writer};
 
 fn options(seed: u64) -> Options {
-    Options { seed, calls: 6800, max_bytes: 2_600_000 }
+    Options { seed, calls: 5650, max_bytes: 1_600_000 }
 }
 
 /// How a task stands.
@@ -56,8 +56,8 @@ impl Facts {
         if command != TAKE && command != COLUMN || !["00", "04", "07"].contains(&refusal) {
             return;
         }
-        let shape = Shape::of(fields.take(16) as usize, fields.take(16) as usize);
-        let (_workers, _block) = (fields.take(16), fields.take(16));
+        let shape = Shape { tiles: fields.take(16) as usize, side: fields.take(16) as usize };
+        let _workers = fields.take(16);
         let worker = fields.take(16) as usize;
         let held = before.workers.get(worker).map_or(0, |worker| worker.task as usize);
         match (command, refusal) {

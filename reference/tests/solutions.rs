@@ -2,6 +2,7 @@
 
 use reference::calls::{opening, run};
 use reference::families::numbers;
+use reference::lent::Sizes;
 use reference::oddities::before_opening;
 use reference::rng::Rng;
 use reference::solve::solve;
@@ -11,8 +12,8 @@ use reference::tile::Shape;
 fn answers_fit_their_right_side() {
     let mut rng = Rng::new(11);
     for (tiles, side) in [(1, 1), (1, 6), (6, 1), (2, 2), (3, 4), (4, 3), (5, 2), (2, 7)] {
-        let shape = Shape::of(tiles, side);
-        let told = shape.told(3);
+        let shape = Shape { tiles, side };
+        let told = Sizes { tiles: tiles as u64, side: side as u64, workers: 3 };
         let n = shape.rows();
         let mut system = numbers(&mut rng, 0, n * n);
         for row in 0..n {

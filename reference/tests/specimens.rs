@@ -10,7 +10,7 @@ use reference::tasks::table;
 use reference::tile::Shape;
 
 fn sizes(tiles: u64, side: u64, workers: u64) -> Sizes {
-    Sizes { tiles, side, workers, block: 1 }
+    Sizes { tiles, side, workers }
 }
 
 /// What opening is to overwrite.
@@ -19,12 +19,11 @@ const RECORD: Record =
 
 /// A system opened for one worker.
 fn opened(tiles: usize, side: usize, rows: &[f64]) -> (Sizes, Lent) {
-    let shape = Shape::of(tiles, side);
+    let shape = Shape { tiles, side };
     let told = sizes(tiles as u64, side as u64, 1);
     let mut lent = Lent {
         matrix: tile_order(shape, rows),
         lists: vec![9; shape.lists_length()],
-        slice: Vec::new(),
         records: vec![RECORD; table(tiles).tasks.len()],
         count: 1,
         run_number: 7,
@@ -41,7 +40,7 @@ fn tie_sums(lent: &Lent) -> Vec<u16> {
 /// Runs to the end and compares with the published loops.
 fn finished(tiles: usize, side: usize, rows: &[f64]) -> (Sizes, Lent, Outcome) {
     let (told, mut lent) = opened(tiles, side, rows);
-    let shape = Shape::of(tiles, side);
+    let shape = Shape { tiles, side };
     let last = published_loops(shape, &tile_order(shape, rows));
     match run(told, &mut lent, u64::MAX) {
         Ok(Run::Finished(_)) => {}

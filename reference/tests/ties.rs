@@ -17,7 +17,7 @@ use reference::vectors::script;
 use reference::writer::{Options, Writer};
 
 fn options(seed: u64) -> Options {
-    Options { seed, calls: 6800, max_bytes: 2_600_000 }
+    Options { seed, calls: 5650, max_bytes: 1_600_000 }
 }
 
 fn sums(lent: &Lent) -> Vec<u16> {
@@ -70,9 +70,8 @@ fn each_line(script: &str, mut look: impl FnMut(&str, Line)) {
         if command == LEND || refusal == 1 || refusal == 2 {
             continue;
         }
-        let shape = Shape::of(fields.take(16) as usize, fields.take(16) as usize);
+        let shape = Shape { tiles: fields.take(16) as usize, side: fields.take(16) as usize };
         let workers = fields.take(16) as usize;
-        let shape = shape.with_block(fields.take(16) as usize);
         let worker = if command == COLUMN { fields.take(16) as usize } else { 0 };
         let after = player.lent.clone();
         look(line, Line { command, shape, workers, worker, before, after, refusal });
@@ -144,7 +143,7 @@ fn limits_of_every_mark_and_column() {
     let mut writer = Writer::new(options(1));
     for (tiles, tasks) in [(1, 1), (2, 5)] {
         for t in 1..=16 {
-            writer.start(Shape::of(tiles, t), 2);
+            writer.start(Shape { tiles, side: t }, 2);
             for task in 0..tasks {
                 let mut stands = vec![(WAITING, 0, 0), (DONE, 0, t * t), (FAILED, 0, t * t), (SPOILED, 0, 0)];
                 stands.extend((0..t).map(|column| (TAKEN, column, t * column)));
@@ -165,8 +164,8 @@ fn limits_of_every_mark_and_column() {
 
 #[test]
 fn an_opening_looks_at_no_sum() {
-    let told = Sizes { tiles: 2, side: 1, workers: 1, block: 1 };
-    let shape = Shape::of(2, 1);
+    let told = Sizes { tiles: 2, side: 1, workers: 1 };
+    let shape = Shape { tiles: 2, side: 1 };
     let mut lent = before_opening(&mut Rng::new(1), shape, 1, vec![1.0, 2.0, -1.0, 4.0]);
     for record in &mut lent.records {
         record.tie_sum = 65535;

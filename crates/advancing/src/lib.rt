@@ -19,17 +19,16 @@ pub fn advance(
     z: Sizes,
     matrix: &mut [f64],
     lists: &mut [u8],
-    slice: &mut [f64],
     records: &mut [Record],
     h: Worker,
     w: usize,
     number: u32,
 ) -> Worker
-    requires { ColumnDue z h.task h.column matrix.old lists.old slice.old records.old × (w < most_workers) }
-    ensures { Advanced z h w number matrix.old lists.old slice.old records.old matrix.new lists.new slice.new records.new result }
+    requires { ColumnDue z h.task h.column matrix.old lists.old records.old × (w < most_workers) }
+    ensures { Advanced z h w number matrix.old lists.old records.old matrix.new lists.new records.new result }
 {
     let p = h.task as usize;
-    let end = work_task(z, matrix, lists, slice, records, p, h.column as usize);
+    let end = work_task(z, matrix, lists, records, p, h.column as usize);
     let mark = mark_after(end);
     add_column(records, p, w as u8, number, mark, ties_after(end));
     moved_on(h, mark)
@@ -40,20 +39,19 @@ pub fn advance_worker(
     z: Sizes,
     matrix: &mut [f64],
     lists: &mut [u8],
-    slice: &mut [f64],
     records: &mut [Record],
     workers: Workers,
     w: usize,
 ) -> Workers
-    requires { Working z w matrix.old lists.old slice.old records.old workers.slots workers.number × (workers.count ≡ z.workers) }
-    ensures result_after { all_lent matrix.new lists.new slice.new records.new result
-        ≡ advanced (plan_of z) w (all_lent matrix.old lists.old slice.old records.old workers) }
+    requires { Working z w matrix.old lists.old records.old workers.slots workers.number × (workers.count ≡ z.workers) }
+    ensures result_after { all_lent matrix.new lists.new records.new result
+        ≡ advanced (plan_of z) w (all_lent matrix.old lists.old records.old workers) }
     ensures others_kept { OthersKept workers result }
 {
     let mut slots = workers.slots;
     let h = slots[w];
     let number = workers.number + 1;
-    slots[w] = advance(z, matrix, lists, slice, records, h, w, number);
+    slots[w] = advance(z, matrix, lists, records, h, w, number);
     Workers {
         slots,
         count: workers.count,

@@ -14,7 +14,6 @@ use Rattle.model.specs.declared.Answer.TheVariants.{Accepted, Refused}
 use Rattle.model.specs.Lengths.{LentFits}
 use Rattle.model.specs.Task.{tasks}
 use Rattle.model.specs.Plan.{plan, plan_of, order}
-use Rattle.model.specs.Buffer.{slice_length}
 use Rattle.model.specs.Calls.{Lent}
 use Rattle.model.specs.Refusal.{Reply, refuse, replied, bad_lengths}
 use Rattle.laws.proofs.Tests.{never, and_left, and_right}
@@ -48,16 +47,13 @@ not_accepted (Refused n x) b old new e q = refl
 
 -- ---- lengths
 
-module _ (z : Sizes) (m : List Float) (l : List ℕ) (sl : List Float) (r : List (List ℕ)) (slots : List Worker) (c number : ℕ)
-    (e : bad_lengths (plan_of z) z.workers (lent m l sl r slots c number) ≡ false) where
+module _ (z : Sizes) (m : List Float) (l : List ℕ) (r : List (List ℕ)) (slots : List Worker) (c number : ℕ)
+    (e : bad_lengths (plan_of z) z.workers (lent m l r slots c number) ≡ false) where
   abbrev M : Bool
   M = eqb (length m) (z.tiles * z.side * (z.tiles * z.side))
 
   abbrev L : Bool
   L = eqb (length l) (z.tiles * z.tiles * z.side)
-
-  abbrev S : Bool
-  S = eqb (length sl) (slice_length z.tiles z.side z.block)
 
   abbrev R : Bool
   R = eqb (length (records_from r)) (length (tasks z.tiles))
@@ -65,24 +61,22 @@ module _ (z : Sizes) (m : List Float) (l : List ℕ) (sl : List Float) (r : List
   abbrev W : Bool
   W = eqb (length (crew slots c)) z.workers
 
-  all_fit : (M && L && S && R && W) ≡ true
+  all_fit : (M && L && R && W) ≡ true
   unfolding bad_lengths lent plan order
-  all_fit = not-false (M && L && S && R && W) e
+  all_fit = not-false (M && L && R && W) e
 
-  pub lengths_fit : LentFits z m l sl r
+  pub lengths_fit : LentFits z m l r
   lengths_fit =
-      let four = and_left (M && L && S && R) W all_fit in
-      let three = and_left (M && L && S) R four in
-      let two = and_left (M && L) S three in
+      let three = and_left (M && L && R) W all_fit in
+      let two = and_left (M && L) R three in
       record {
         buffers = record {
           matrix_fits = eqb-true (length m) (z.tiles * z.side * (z.tiles * z.side)) (and_left M L two);
           lists_fit = eqb-true (length l) (z.tiles * z.tiles * z.side) (and_right M L two);
         };
-        slice_fits = eqb-true (length sl) (slice_length z.tiles z.side z.block) (and_right (M && L) S three);
-        records_fit = sym (length_records r) ∙ eqb-true (length (records_from r)) (length (tasks z.tiles)) (and_right (M && L && S) R four);
+        records_fit = sym (length_records r) ∙ eqb-true (length (records_from r)) (length (tasks z.tiles)) (and_right (M && L) R three);
       }
 
   -- the workers are as many as the sizes say
   pub count_fits : c ≡ z.workers
-  count_fits = sym (length_crew slots c) ∙ eqb-true (length (crew slots c)) z.workers (and_right (M && L && S && R) W all_fit)
+  count_fits = sym (length_crew slots c) ∙ eqb-true (length (crew slots c)) z.workers (and_right (M && L && R) W all_fit)

@@ -1,5 +1,5 @@
 // A column of T-2, on the lent matrix and row lists where they lie.
-ghost use Rattle.std.specs.Prelude.{◌≡◌, List, Float};
+ghost use Rattle.std.specs.Prelude.{◌≡◌};
 ghost use Rattle.model.specs.Task.{t_2};
 ghost use Rattle.model.specs.Plan.{plan_of};
 ghost use Rattle.model.specs.Buffer.{ended_with, column_ends};
@@ -22,8 +22,8 @@ pub fn apply_column(
     c: usize,
 ) -> ColumnEnd
     requires { Workable z (t_2 k j) c matrix.old lists.now }
-    ensures { (slice : List Float) → ended_with result (record { matrix = matrix.new; lists = lists.now; slice = slice })
-        ≡ column_ends (plan_of z) (t_2 k j) c (record { matrix = matrix.old; lists = lists.now; slice = slice }) }
+    ensures { ended_with result (record { matrix = matrix.new; lists = lists.now })
+        ≡ column_ends (plan_of z) (t_2 k j) c (record { matrix = matrix.old; lists = lists.now }) }
 {
     let n = z.tiles;
     let t = z.side;

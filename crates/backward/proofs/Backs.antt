@@ -1,7 +1,7 @@
 -- The rows from last to first, as loops do them. Assumes nothing.
 use mathlib.Core.Path.{◌≡◌, refl, sym, ◌∙◌, ap}
 use mathlib.Core.List.{List, [], ◌∷◌, ◌++◌, reverse, reverse-append}
-use Prim.Native.Nat.{ℕ, suc, ◌+◌, ◌-◌, ◌<◌, ◌≤◌}
+use Prim.Native.Nat.{ℕ, zero, suc, ◌+◌, ◌-◌, ◌<◌, ◌≤◌}
 use native.Mathlib.Omega.{arith}
 use lib.ListN.{set}
 use lib.Ieee.{Float}
@@ -14,13 +14,25 @@ use Rattle.model.specs.Solve.{Passed, going, stopped, row, put, back}
 use Rattle.progress.specs.declared.Progress.{Progress}
 use Rattle.progress.specs.declared.Progress.TheVariants.{Going, Stopped}
 use Rattle.progress.specs.Right.{passed_of}
-use Rattle.progress.proofs.Turns.{run_append, turns_stop}
+use Rattle.progress.proofs.Turns.{turns_stop}
 use Rattle.laws.proofs.Runs.{below_last, in_turn_append}
 use Rattle.backward.specs.Rows.{back_below, back_between}
 
 -- the last number comes first
 reverse_below : (k : ℕ) → reverse (below (suc k)) ≡ k ∷ reverse (below k)
 reverse_below k = ap reverse (below_last k) ∙ reverse-append (below k) (k ∷ [])
+
+-- two runs, one after the other
+run_append : (k a b : ℕ) → run k (a + b) ≡ run k a ++ run (k + a) b
+unfolding run
+run_append k zero b =
+    let n : zero + b ≡ b = omega arith in
+    let e : k ≡ k + zero = omega arith in
+    ap (run k) n ∙ ap (λ (x : ℕ). run x b) e
+run_append k (suc a) b =
+    let n : suc a + b ≡ suc (a + b) = omega arith in
+    let e : suc k + a ≡ k + suc a = omega arith in
+    ap (run k) n ∙ ap (λ (xs : List ℕ). k ∷ xs) (run_append (suc k) a b ∙ ap (λ (x : ℕ). run (suc k) a ++ run x b) e)
 
 module _ (z : Plan) (s : Buffers) where
   back_keeps : (x e : ℕ) → back z s x (stopped e) ≡ stopped e

@@ -1,5 +1,5 @@
 // The backward rows of a solve, from last to first.
-ghost use Rattle.std.specs.Prelude.{◌≡◌, List, ℕ, ◌+◌, ◌*◌, ◌<◌, ◌≤◌, Float};
+ghost use Rattle.std.specs.Prelude.{◌≡◌, List, ℕ, ◌+◌, ◌*◌, ◌<◌, ◌≤◌};
 ghost use Rattle.model.specs.Plan.{plan_of};
 ghost use Rattle.model.specs.Solve.{going};
 ghost use Rattle.progress.specs.Right.{passed_of};
@@ -14,11 +14,11 @@ use progress::Progress;
 fn back_tile(z: Sizes, matrix: &[f64], y: &mut [f64], i: usize) -> Progress
     requires backward_fits { BackwardFits z matrix.now y.old }
     requires i_lt_tiles { i < z.tiles }
-    ensures by_index { (lists : List ℕ) (slice : List Float) → back_below (plan_of z) (record { matrix = matrix.old; lists = lists; slice = slice }) (i * z.side) (passed_of result y.new)
-        ≡ back_below (plan_of z) (record { matrix = matrix.old; lists = lists; slice = slice }) (i * z.side + z.side) (going y.old) }
+    ensures by_index { (lists : List ℕ) → back_below (plan_of z) (record { matrix = matrix.old; lists = lists }) (i * z.side) (passed_of result y.new)
+        ≡ back_below (plan_of z) (record { matrix = matrix.old; lists = lists }) (i * z.side + z.side) (going y.old) }
     ensures result_bound { lowest_done (i * z.side) result ≤ i * z.side + z.side }
-    ensures by_index_2 { (lists : List ℕ) (slice : List Float) → going y.new
-        ≡ back_between (plan_of z) (record { matrix = matrix.old; lists = lists; slice = slice }) (lowest_done (i * z.side) result) (i * z.side + z.side) (going y.old) }
+    ensures by_index_2 { (lists : List ℕ) → going y.new
+        ≡ back_between (plan_of z) (record { matrix = matrix.old; lists = lists }) (lowest_done (i * z.side) result) (i * z.side + z.side) (going y.old) }
 {
     let t = z.side;
     let mut r = t;
@@ -37,10 +37,10 @@ fn back_tile(z: Sizes, matrix: &[f64], y: &mut [f64], i: usize) -> Progress
 // All rows, from last to first. Where one isn't finite the row is told, and y is left with the rows beyond it done.
 pub fn back_rows(z: Sizes, matrix: &[f64], y: &mut [f64]) -> Progress
     requires { BackwardFits z matrix.now y.old }
-    ensures by_index { (lists : List ℕ) (slice : List Float) → passed_of result y.new
-        ≡ back_below (plan_of z) (record { matrix = matrix.old; lists = lists; slice = slice }) (z.tiles * z.side) (going y.old) }
-    ensures by_index_2 { (lists : List ℕ) (slice : List Float) → going y.new
-        ≡ back_between (plan_of z) (record { matrix = matrix.old; lists = lists; slice = slice }) (lowest_done 0 result) (z.tiles * z.side) (going y.old) }
+    ensures by_index { (lists : List ℕ) → passed_of result y.new
+        ≡ back_below (plan_of z) (record { matrix = matrix.old; lists = lists }) (z.tiles * z.side) (going y.old) }
+    ensures by_index_2 { (lists : List ℕ) → going y.new
+        ≡ back_between (plan_of z) (record { matrix = matrix.old; lists = lists }) (lowest_done 0 result) (z.tiles * z.side) (going y.old) }
 {
     let mut i = z.tiles;
     while i > 0 {

@@ -21,7 +21,7 @@ use Rattle.subtractions.proofs.Segments.{row_run, row_split, factor_at}
 use Rattle.subtractions.proofs.Places.{Placed}
 use Rattle.laws.proofs.Blocks.{row_end}
 
-module _ (z : Sizes) (m : List Float) (l : List ℕ) (sl y : List Float) (i r : ℕ) (hr : r < z.side) where
+module _ (z : Sizes) (m : List Float) (l : List ℕ) (y : List Float) (i r : ℕ) (hr : r < z.side) where
   abbrev N : ℕ
   N = z.tiles
 
@@ -29,7 +29,7 @@ module _ (z : Sizes) (m : List Float) (l : List ℕ) (sl y : List Float) (i r : 
   t = z.side
 
   abbrev s : Buffers
-  s = record { matrix = m; lists = l; slice = sl }
+  s = record { matrix = m; lists = l }
 
   -- what is left of d after n columns from q on
   abbrev pub left : ℕ → ℕ → Float → Float
@@ -49,7 +49,7 @@ module _ (z : Sizes) (m : List Float) (l : List ℕ) (sl y : List Float) (i r : 
         (λ c hc.
         let q : i * t + r + 1 + c ≡ i * t + (r + 1 + c) = omega arith in
         let a : tile_start N t i i + r * t + (r + 1) + c ≡ tile_start N t i i + r * t + (r + 1 + c) = omega arith in
-        rw (q, a) (factor_at N t z.block i r i (r + 1 + c) m l sl p.room hr (omega arith)))
+        rw (q, a) (factor_at N t i r i (r + 1 + c) m l p.room hr (omega arith)))
         ∙ rw (x, n)
 
     rest_is : rest ≡ row_left (plan_of z) s (i * t + r) y (beyond (order (plan_of z)) (i * t + r)) (get_or y (i * t + r) nan)
@@ -62,7 +62,7 @@ module _ (z : Sizes) (m : List Float) (l : List ℕ) (sl y : List Float) (i r : 
 
     pub value_is : quotient rest (get_or m (tile_start N t i i + r * t + r) nan) ≡ row_value (plan_of z) s (i * t + r) y
     unfolding row_value
-    value_is = rw (rest_is, factor_at N t z.block i r i r m l sl p.room hr hr)
+    value_is = rw (rest_is, factor_at N t i r i r m l p.room hr hr)
 
     pub diagonal_finite : all_finite m ≡ true → finite (coefficient (plan_of z) s (i * t + r) (i * t + r)) ≡ true
-    diagonal_finite f = rw (factor_at N t z.block i r i r m l sl p.room hr hr) (finite_get m (tile_start N t i i + r * t + r) f (omega (arith, p.room, p.row)))
+    diagonal_finite f = rw (factor_at N t i r i r m l p.room hr hr) (finite_get m (tile_start N t i i + r * t + r) f (omega (arith, p.room, p.row)))

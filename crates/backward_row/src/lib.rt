@@ -1,5 +1,5 @@
 // One backward row of a solve: the number that it computes, or that some number on the way is not finite.
-ghost use Rattle.std.specs.Prelude.{◌≡◌, List, ℕ, ◌+◌, ◌*◌, ◌<◌, Float};
+ghost use Rattle.std.specs.Prelude.{◌≡◌, List, ℕ, ◌+◌, ◌*◌, ◌<◌};
 ghost use Rattle.model.specs.Plan.{plan_of};
 ghost use Rattle.model.specs.Solve.{row as row_of};
 ghost use Rattle.subtractions.specs.Subtracted.{BackwardFits};
@@ -13,7 +13,7 @@ use subtractions::{subtract, subtract_tiles};
 pub fn back_row(z: Sizes, matrix: &[f64], y: &[f64], i: usize, r: usize) -> Row
     requires backward_fits { BackwardFits z matrix.now y.now }
     requires i_lt_tiles { (i < z.tiles) × (r < z.side) }
-    ensures { (lists : List ℕ) (slice : List Float) → result ≡ row_of (plan_of z) (record { matrix = matrix.old; lists = lists; slice = slice }) (i * z.side + r) y.now }
+    ensures { (lists : List ℕ) → result ≡ row_of (plan_of z) (record { matrix = matrix.old; lists = lists }) (i * z.side + r) y.now }
 {
     let t = z.side;
     let x = i * t + r;

@@ -1,20 +1,18 @@
-// What bench/ calls from Rust besides the library for hosts: a column of each of the four steps with b = 1, for which no slice of multipliers is lent, and
-// of T-3 and T-4 with any b. Each answers the mark that its task has afterwards, and the column's ties.
-ghost use Rattle.std.specs.Prelude.{◌≡◌, [], ◌+◌, ◌*◌};
+// What bench/ calls from Rust besides the library for hosts: a column of each of the four steps. Each answers the mark that its task has
+// afterwards, and the column's ties.
+ghost use Rattle.std.specs.Prelude.{◌≡◌, ◌+◌, ◌*◌};
 ghost use Rattle.model.specs.Task.{t_1, t_2, T-3, t_4};
-ghost use Rattle.model.specs.Plan.{sizes, sizes_with, plan_of};
+ghost use Rattle.model.specs.Plan.{sizes, plan_of};
 ghost use Rattle.model.specs.Buffer.{mark_after, ties_after, column_ends};
-ghost use Rattle.column_laws.specs.Workable.{Workable, InnerWorkable};
+ghost use Rattle.column_laws.specs.Workable.{Workable};
 ghost use Rattle.bench_host.specs.Ends.{Tells};
 
 use apply_columns::apply_column;
 use column_marks::{mark_after, ties_after};
 use couple_columns::couple_column;
-use couple_singles::couple_single;
 use factor_columns::factor_column;
 use model::{ColumnEnd, Sizes};
 use pair_columns::pair_column;
-use pair_singles::pair_single;
 
 // A column's end as one number: the mark, and 256 times the ties.
 fn told(end: ColumnEnd) -> u32
@@ -34,14 +32,13 @@ pub extern "C" fn bench_factor_column(
     c: usize,
 ) -> u32
     requires { Workable (sizes tiles side 1) (t_1 k) c matrix.old lists.old }
-    ensures { Tells (column_ends (plan_of (sizes tiles side 1)) (t_1 k) c (record { matrix = matrix.old; lists = lists.old; slice = [] }))
-        (record { matrix = matrix.new; lists = lists.new; slice = [] }) result }
+    ensures { Tells (column_ends (plan_of (sizes tiles side 1)) (t_1 k) c (record { matrix = matrix.old; lists = lists.old }))
+        (record { matrix = matrix.new; lists = lists.new }) result }
 {
     let z = Sizes {
         tiles,
         side,
         workers: 1,
-        block: 1,
     };
     told(factor_column(z, matrix, lists, k, c))
 }
@@ -58,14 +55,13 @@ pub extern "C" fn bench_apply_column(
     c: usize,
 ) -> u32
     requires { Workable (sizes tiles side 1) (t_2 k j) c matrix.old lists.now }
-    ensures { Tells (column_ends (plan_of (sizes tiles side 1)) (t_2 k j) c (record { matrix = matrix.old; lists = lists.now; slice = [] }))
-        (record { matrix = matrix.new; lists = lists.now; slice = [] }) result }
+    ensures { Tells (column_ends (plan_of (sizes tiles side 1)) (t_2 k j) c (record { matrix = matrix.old; lists = lists.now }))
+        (record { matrix = matrix.new; lists = lists.now }) result }
 {
     let z = Sizes {
         tiles,
         side,
         workers: 1,
-        block: 1,
     };
     told(apply_column(z, matrix, lists, k, j, c))
 }
@@ -82,16 +78,15 @@ pub extern "C" fn bench_couple_column(
     c: usize,
 ) -> u32
     requires { Workable (sizes tiles side 1) (T-3 k i) c matrix.old lists.old }
-    ensures { Tells (column_ends (plan_of (sizes tiles side 1)) (T-3 k i) c (record { matrix = matrix.old; lists = lists.old; slice = [] }))
-        (record { matrix = matrix.new; lists = lists.new; slice = [] }) result }
+    ensures { Tells (column_ends (plan_of (sizes tiles side 1)) (T-3 k i) c (record { matrix = matrix.old; lists = lists.old }))
+        (record { matrix = matrix.new; lists = lists.new }) result }
 {
     let z = Sizes {
         tiles,
         side,
         workers: 1,
-        block: 1,
     };
-    told(couple_single(z, matrix, lists, k, i, c))
+    told(couple_column(z, matrix, lists, k, i, c))
 }
 
 // Column c of T-4(k,i,j).
@@ -107,67 +102,13 @@ pub extern "C" fn bench_pair_column(
     c: usize,
 ) -> u32
     requires { Workable (sizes tiles side 1) (t_4 k i j) c matrix.old lists.now }
-    ensures { Tells (column_ends (plan_of (sizes tiles side 1)) (t_4 k i j) c (record { matrix = matrix.old; lists = lists.now; slice = [] }))
-        (record { matrix = matrix.new; lists = lists.now; slice = [] }) result }
+    ensures { Tells (column_ends (plan_of (sizes tiles side 1)) (t_4 k i j) c (record { matrix = matrix.old; lists = lists.now }))
+        (record { matrix = matrix.new; lists = lists.now }) result }
 {
     let z = Sizes {
         tiles,
         side,
         workers: 1,
-        block: 1,
     };
-    told(pair_single(z, matrix, lists, k, i, j, c))
-}
-
-// Column c of T-3(k,i), with inner block size `block`.
-#[unsafe(no_mangle)]
-pub extern "C" fn bench_couple_inner(
-    tiles: usize,
-    side: usize,
-    block: usize,
-    matrix: &mut [f64],
-    lists: &mut [u8],
-    slice: &mut [f64],
-    k: usize,
-    i: usize,
-    c: usize,
-) -> u32
-    requires { InnerWorkable (sizes_with tiles side 1 block) (T-3 k i) c matrix.old lists.old slice.old }
-    ensures { Tells (column_ends (plan_of (sizes_with tiles side 1 block)) (T-3 k i) c (record { matrix = matrix.old; lists = lists.old; slice = slice.old }))
-        (record { matrix = matrix.new; lists = lists.new; slice = slice.new }) result }
-{
-    let z = Sizes {
-        tiles,
-        side,
-        workers: 1,
-        block,
-    };
-    told(couple_column(z, matrix, lists, slice, k, i, c))
-}
-
-// Column c of T-4(k,i,j), with inner block size `block`.
-#[unsafe(no_mangle)]
-pub extern "C" fn bench_pair_inner(
-    tiles: usize,
-    side: usize,
-    block: usize,
-    matrix: &mut [f64],
-    lists: &[u8],
-    slice: &[f64],
-    k: usize,
-    i: usize,
-    j: usize,
-    c: usize,
-) -> u32
-    requires { InnerWorkable (sizes_with tiles side 1 block) (t_4 k i j) c matrix.old lists.now slice.now }
-    ensures { Tells (column_ends (plan_of (sizes_with tiles side 1 block)) (t_4 k i j) c (record { matrix = matrix.old; lists = lists.now; slice = slice.now }))
-        (record { matrix = matrix.new; lists = lists.now; slice = slice.now }) result }
-{
-    let z = Sizes {
-        tiles,
-        side,
-        workers: 1,
-        block,
-    };
-    told(pair_column(z, matrix, lists, slice, k, i, j, c))
+    told(pair_column(z, matrix, lists, k, i, j, c))
 }

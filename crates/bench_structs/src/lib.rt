@@ -102,15 +102,14 @@ pub extern "C" fn bench_open(
     z: Sizes,
     matrix: &[f64],
     lists: &mut [u8],
-    slice: &mut [f64],
     records: &mut [TaskRecord],
     number: u32,
 ) -> u8
-    ensures { (result ≡ answer_number (open_call z (whole matrix.old lists.old slice.old records.old (idles z.workers number))).answer)
-        × (record { matrix = matrix.old; lists = lists.new; slice = slice.new } ≡ (open_call z (whole matrix.old lists.old slice.old records.old (idles z.workers number))).left.buffers)
-        × (records.new ≡ (open_call z (whole matrix.old lists.old slice.old records.old (idles z.workers number))).left.records) }
+    ensures { (result ≡ answer_number (open_call z (whole matrix.old lists.old records.old (idles z.workers number))).answer)
+        × (record { matrix = matrix.old; lists = lists.new } ≡ (open_call z (whole matrix.old lists.old records.old (idles z.workers number))).left.buffers)
+        × (records.new ≡ (open_call z (whole matrix.old lists.old records.old (idles z.workers number))).left.records) }
 {
-    let reply = open_call::open(z, matrix, lists, slice, records, idle_workers(z, number));
+    let reply = open_call::open(z, matrix, lists, records, idle_workers(z, number));
     number_in(reply)
 }
 
@@ -120,25 +119,15 @@ pub extern "C" fn bench_take(
     z: Sizes,
     matrix: &[f64],
     lists: &[u8],
-    slice: &[f64],
     records: &mut [TaskRecord],
     number: u32,
     w: usize,
     p: usize,
 ) -> u8
-    ensures { (result ≡ answer_number (take_call z w p (whole matrix.now lists.now slice.now records.old (idles z.workers number))).answer)
-        × (records.new ≡ (take_call z w p (whole matrix.now lists.now slice.now records.old (idles z.workers number))).left.records) }
+    ensures { (result ≡ answer_number (take_call z w p (whole matrix.now lists.now records.old (idles z.workers number))).answer)
+        × (records.new ≡ (take_call z w p (whole matrix.now lists.now records.old (idles z.workers number))).left.records) }
 {
-    let reply = take_call::take(
-        z,
-        matrix,
-        lists,
-        slice,
-        records,
-        idle_workers(z, number),
-        w,
-        p,
-    );
+    let reply = take_call::take(z, matrix, lists, records, idle_workers(z, number), w, p);
     number_in(reply)
 }
 
@@ -148,26 +137,17 @@ pub extern "C" fn bench_column(
     z: Sizes,
     matrix: &mut [f64],
     lists: &mut [u8],
-    slice: &mut [f64],
     records: &mut [TaskRecord],
     number: u32,
     w: usize,
     p: u16,
     c: u8,
 ) -> u8
-    ensures { (result ≡ answer_number (column_call z w (whole matrix.old lists.old slice.old records.old (one_holding z.workers number p c))).answer)
-        × (record { matrix = matrix.new; lists = lists.new; slice = slice.new } ≡ (column_call z w (whole matrix.old lists.old slice.old records.old (one_holding z.workers number p c))).left.buffers)
-        × (records.new ≡ (column_call z w (whole matrix.old lists.old slice.old records.old (one_holding z.workers number p c))).left.records) }
+    ensures { (result ≡ answer_number (column_call z w (whole matrix.old lists.old records.old (one_holding z.workers number p c))).answer)
+        × (record { matrix = matrix.new; lists = lists.new } ≡ (column_call z w (whole matrix.old lists.old records.old (one_holding z.workers number p c))).left.buffers)
+        × (records.new ≡ (column_call z w (whole matrix.old lists.old records.old (one_holding z.workers number p c))).left.records) }
 {
-    let reply = column_call::column(
-        z,
-        matrix,
-        lists,
-        slice,
-        records,
-        one_holding(z, number, p, c),
-        w,
-    );
+    let reply = column_call::column(z, matrix, lists, records, one_holding(z, number, p, c), w);
     number_in(reply)
 }
 
@@ -177,24 +157,15 @@ pub extern "C" fn bench_run(
     z: Sizes,
     matrix: &mut [f64],
     lists: &mut [u8],
-    slice: &mut [f64],
     records: &mut [TaskRecord],
     number: u32,
     budget: u64,
 ) -> u64
-    ensures { (result ≡ calls_of (run_call z budget (whole matrix.old lists.old slice.old records.old (idles z.workers number))).answer)
-        × (record { matrix = matrix.new; lists = lists.new; slice = slice.new } ≡ (run_call z budget (whole matrix.old lists.old slice.old records.old (idles z.workers number))).left.buffers)
-        × (records.new ≡ (run_call z budget (whole matrix.old lists.old slice.old records.old (idles z.workers number))).left.records) }
+    ensures { (result ≡ calls_of (run_call z budget (whole matrix.old lists.old records.old (idles z.workers number))).answer)
+        × (record { matrix = matrix.new; lists = lists.new } ≡ (run_call z budget (whole matrix.old lists.old records.old (idles z.workers number))).left.buffers)
+        × (records.new ≡ (run_call z budget (whole matrix.old lists.old records.old (idles z.workers number))).left.records) }
 {
-    let reply = run_call::run(
-        z,
-        matrix,
-        lists,
-        slice,
-        records,
-        idle_workers(z, number),
-        budget,
-    );
+    let reply = run_call::run(z, matrix, lists, records, idle_workers(z, number), budget);
     calls_in(reply)
 }
 
@@ -204,13 +175,12 @@ pub extern "C" fn bench_outcome(
     z: Sizes,
     matrix: &[f64],
     lists: &[u8],
-    slice: &[f64],
     records: &[TaskRecord],
     number: u32,
 ) -> u8
-    ensures { result ≡ outcome_tells (outcome_call z (whole matrix.now lists.now slice.now records.now (idles z.workers number))) }
+    ensures { result ≡ outcome_tells (outcome_call z (whole matrix.now lists.now records.now (idles z.workers number))) }
 {
-    let answer = outcome_call::outcome(z, matrix, lists, slice, records, idle_workers(z, number));
+    let answer = outcome_call::outcome(z, matrix, lists, records, idle_workers(z, number));
     outcome_number(answer)
 }
 
@@ -220,20 +190,18 @@ pub extern "C" fn bench_solve(
     z: Sizes,
     matrix: &[f64],
     lists: &[u8],
-    slice: &[f64],
     records: &[TaskRecord],
     number: u32,
     right: &[f64],
     answers: &mut [f64],
 ) -> u8
-    ensures { (result ≡ answer_number (solve_call z (whole matrix.now lists.now slice.now records.now (idles z.workers number)) right.now answers.old).answer)
-        × (answers.new ≡ (solve_call z (whole matrix.now lists.now slice.now records.now (idles z.workers number)) right.now answers.old).left) }
+    ensures { (result ≡ answer_number (solve_call z (whole matrix.now lists.now records.now (idles z.workers number)) right.now answers.old).answer)
+        × (answers.new ≡ (solve_call z (whole matrix.now lists.now records.now (idles z.workers number)) right.now answers.old).left) }
 {
     let answer = solve_call::solve(
         z,
         matrix,
         lists,
-        slice,
         records,
         idle_workers(z, number),
         right,

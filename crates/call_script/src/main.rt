@@ -18,13 +18,6 @@ fn list_room() -> [u8; 4200]
     [0; 4200]
 }
 
-// The multipliers of the scripts' systems with inner blocks.
-fn slice_room() -> [f64; 4000]
-    ensures { 4000 ≡ length result }
-{
-    [0.0; 4000]
-}
-
 fn record_room() -> [Record; 1500]
     ensures { 1500 ≡ length result }
 {
@@ -48,7 +41,6 @@ fn play_script(text: &mut [u8]) {
     let n = io::read_full(0, text);
     let mut matrix = matrix_room();
     let mut lists = list_room();
-    let mut slice = slice_room();
     let mut records = record_room();
     let mut right = side_room();
     let mut answers = side_room();
@@ -57,7 +49,6 @@ fn play_script(text: &mut [u8]) {
         &text[..n],
         &mut matrix,
         &mut lists,
-        &mut slice,
         &mut records,
         &mut right,
         &mut answers,
@@ -66,11 +57,11 @@ fn play_script(text: &mut [u8]) {
 }
 
 // The same with a room of fixed length.
-fn play_in(text: &mut [u8; 5000000]) {
+fn play_in(text: &mut [u8; 3700000]) {
     play_script(text);
 }
 
 fn main() {
-    let mut text = [0u8; 5000000];
+    let mut text = [0u8; 3700000];
     play_in(&mut text);
 }

@@ -12,8 +12,7 @@ use Rattle.model.specs.declared.Pivot.{Pivot}
 use Rattle.model.specs.Lists.{run, below}
 use Rattle.model.specs.Num.{is_zero, exceeds}
 use Rattle.model.specs.Tile.{at}
-use Rattle.model.specs.Column.{Factored, candidate, tied, better, search_from, search, factor_candidates, factor_pivot, factor_column, couple_candidates, couple_pivot}
-use Rattle.model.specs.Inner.{Inner, panel_start, panel_ends, couple_within, couple_right, inner_couple_column}
+use Rattle.model.specs.Column.{Factored, Coupled, candidate, tied, better, search_from, search, factor_candidates, factor_pivot, factor_column, couple_candidates, couple_pivot, couple_column}
 use Rattle.laws.proofs.Runs.{length_map_run}
 use Rattle.cells.proofs.Choices.{either}
 
@@ -71,19 +70,8 @@ module _ (t c : ℕ) (h : c < t) where
       (set_at_most (t - 1) s.rows c c (omega arith) l)
       (set_at_most (t - 1) s.rows c (c + (factor_pivot t c s.tile).place) (omega (arith, factor_place t c h s.tile)) l)
 
-  pub within_rows : (b a z : ℕ) (s : Inner) → AtMost t s.rows → AtMost t (couple_within t b a z c s).rows
-  unfolding couple_within
-  within_rows b a z s l = either (λ (x : Inner). AtMost t x.rows) (is_zero (couple_pivot t c s.upper s.lower).magnitude) _ _
+  pub couple_rows : (s : Coupled) → AtMost t s.rows → AtMost t (couple_column t c s).rows
+  unfolding couple_column
+  couple_rows s l = either (λ (x : Coupled). AtMost t x.rows) (is_zero (couple_pivot t c s.upper s.lower).magnitude) _ _
       (set_at_most t s.rows c 0 (omega arith) l)
       (set_at_most t s.rows c (couple_pivot t c s.upper s.lower).place (couple_place t c s.upper s.lower) l)
-
-  pub couple_rows : (b : ℕ) (s : Inner) → AtMost t s.rows → AtMost t (inner_couple_column t b c s).rows
-  unfolding inner_couple_column couple_right
-  couple_rows b s l = go (panel_ends b c)
-    where
-      x : Inner
-      x = couple_within t b (panel_start b c) (panel_start b c + b) c s
-
-      go : (y : Bool) → AtMost t (cond y (couple_right t b (panel_start b c) x) x).rows
-      go true = within_rows b (panel_start b c) (panel_start b c + b) s l
-      go false = within_rows b (panel_start b c) (panel_start b c + b) s l

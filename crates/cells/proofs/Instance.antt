@@ -8,8 +8,7 @@ use lib.Dec.{eqb}
 use lib.Ieee.{Float}
 use Rattle.model.specs.Lists.{some, every}
 use Rattle.model.specs.Num.{finite}
-use Rattle.model.specs.Column.{factor_pivot, couple_pivot, factor_column, factor_computes, apply_column, apply_computes}
-use Rattle.model.specs.Inner.{inner_couple_column, inner_couple_computes, inner_pair_column, inner_pair_computes}
+use Rattle.model.specs.Column.{factor_pivot, couple_pivot, factor_column, factor_computes, apply_column, apply_computes, couple_column, couple_computes, pair_column, pair_computes}
 use Rattle.model.specs.Task.{Task, t_1, t_2, T-3, t_4, Place, A, low, list, low_of, touches, writes, reads}
 use Rattle.model.specs.Links.{task}
 use Rattle.model.specs.Tile.{upper_filled}
@@ -23,12 +22,12 @@ use Rattle.cells.proofs.Members.{Member, first, later}
 use Rattle.cells.proofs.Valid.{Valid}
 use Rattle.cells.proofs.Places.{touched_proper, proper_in, at_member, member_at, writes_touch}
 
-module _ (N t b : ℕ) where
+module _ (N t : ℕ) where
   -- ---- frame
 
   skip : (f : ℕ → Val) (i j : ℕ) (v : Val) → eqb i j ≡ false → set f i v j ≡ f j
   unfolding set
-  skip f i j v e = ap (λ (x : Bool). cond x v (f j)) e
+  skip f i j v e = ap (λ (b : Bool). cond b v (f j)) e
 
   apart : (x : Place) (xs : List Place) (r : ℕ) → at_cell N (x ∷ xs) r ≡ false → eqb (cell_of N x) r ≡ false
   unfolding at_cell some
@@ -43,11 +42,11 @@ module _ (N t b : ℕ) where
   unfolding low_of
   low_skip i j a σ r = go (eqb i j)
     where
-      go : (x : Bool) → at_cell N (cond x (low i ∷ []) []) r ≡ false → cond x (put_low N t i a σ r) (σ r) ≡ σ r
+      go : (b : Bool) → at_cell N (cond b (low i ∷ []) []) r ≡ false → cond b (put_low N t i a σ r) (σ r) ≡ σ r
       go true e = skip σ (low_at N i) r _ (apart _ _ _ e)
       go false e = refl
 
-  worked_frame : (a : Task) (c : ℕ) (σ : ℕ → Val) (r : ℕ) → at_cell N (writes a) r ≡ false → worked_at N t b a c σ r ≡ σ r
+  worked_frame : (a : Task) (c : ℕ) (σ : ℕ → Val) (r : ℕ) → at_cell N (writes a) r ≡ false → worked_at N t a c σ r ≡ σ r
   unfolding worked_at writes
   worked_frame (t_1 k) c σ r e =
       skip _ (tile_at N k k) r _ (apart _ _ _ e) ∙ skip _ (low_at N k) r _ (apart _ _ _ (rest _ _ _ e))
@@ -60,7 +59,7 @@ module _ (N t b : ℕ) where
       skip _ (tile_at N k j) r _ (apart _ _ _ e) ∙ skip _ (tile_at N i j) r _ (apart _ _ _ (rest _ _ _ e))
       ∙ low_skip i j _ σ r (rest _ _ _ (rest _ _ _ e))
 
-  filled_frame : (a : Task) (σ : ℕ → Val) (r : ℕ) → at_cell N (writes a) r ≡ false → filled_at N t b a σ r ≡ σ r
+  filled_frame : (a : Task) (σ : ℕ → Val) (r : ℕ) → at_cell N (writes a) r ≡ false → filled_at N t a σ r ≡ σ r
   unfolding filled_at writes
   filled_frame (t_1 k) σ r e =
       skip _ (tile_at N k k) r _ (apart _ _ _ e) ∙ skip _ (low_at N k) r _ (apart _ _ _ (rest _ _ _ e))
@@ -100,7 +99,7 @@ module _ (N t b : ℕ) where
         let u : σ (tile_at N k k) ≡ τ (tile_at N k k) = agree (T-3 k m) h (A k k) first in
         let d : σ (tile_at N m k) ≡ τ (tile_at N m k) = agree (T-3 k m) h (A m k) (later first) in
         let p : σ (list_at N m k) ≡ τ (list_at N m k) = agree (T-3 k m) h (list m k) (later (later first)) in
-        λ i. record { upper = (u i).floats; lower = (d i).floats; slice = (p i).floats; rows = (p i).bytes }
+        λ i. record { upper = (u i).floats; lower = (d i).floats; rows = (p i).bytes }
 
     same_pair : (k i j : ℕ) → Agrees (t_4 k i j) σ τ
         → (σ (tile_at N i k) ≡ τ (tile_at N i k)) × (σ (list_at N i k) ≡ τ (list_at N i k)) × (pair_in N t k i j σ ≡ pair_in N t k i j τ)
@@ -110,23 +109,23 @@ module _ (N t b : ℕ) where
         let d : σ (tile_at N m j) ≡ τ (tile_at N m j) = agree (t_4 k m j) h (A m j) (later (later (later first))) in
         (agree (t_4 k m j) h (A m k) first, agree (t_4 k m j) h (list m k) (later first), λ i. record { upper = (u i).floats; lower = (d i).floats })
 
-    worked_local : (a : Task) (c : ℕ) → Agrees a σ τ → (r : ℕ) → σ r ≡ τ r → worked_at N t b a c σ r ≡ worked_at N t b a c τ r
+    worked_local : (a : Task) (c : ℕ) → Agrees a σ τ → (r : ℕ) → σ r ≡ τ r → worked_at N t a c σ r ≡ worked_at N t a c τ r
     unfolding worked_at set
     worked_local (t_1 k) c h r e = let x = same_factor k h in λ i. put_factored N t k (factor_column t c (x i)) (λ q. e i) r
     worked_local (t_2 k j) c h r e = let (l, p, x) = same_apply k j h in λ i. put_tile N t k j (apply_column t t c (l i).floats (p i).bytes (x i).floats)
         (λ q. e i) r
-    worked_local (T-3 k m) c h r e = let x = same_couple k m h in λ i. put_coupled N t k m (inner_couple_column t b c (x i)) (λ q. e i) r
-    worked_local (t_4 k m j) c h r e = let (l, p, x) = same_pair k m j h in λ i. put_paired N t k m j (inner_pair_column t t b c (l i).floats (p i).floats (p i).bytes (x i))
+    worked_local (T-3 k m) c h r e = let x = same_couple k m h in λ i. put_coupled N t k m (couple_column t c (x i)) (λ q. e i) r
+    worked_local (t_4 k m j) c h r e = let (l, p, x) = same_pair k m j h in λ i. put_paired N t k m j (pair_column t t c (l i).floats (p i).bytes (x i))
         (λ q. e i) r
 
-    computed_local : (a : Task) (c : ℕ) → Agrees a σ τ → computed_at N t b a c σ ≡ computed_at N t b a c τ
+    computed_local : (a : Task) (c : ℕ) → Agrees a σ τ → computed_at N t a c σ ≡ computed_at N t a c τ
     unfolding computed_at
     computed_local (t_1 k) c h = ap (factor_computes t c) (same_factor k h)
     computed_local (t_2 k j) c h = let (l, p, x) = same_apply k j h in λ i. apply_computes t t c (l i).floats (p i).bytes (x i).floats
-    computed_local (T-3 k m) c h = ap (inner_couple_computes t b c) (same_couple k m h)
-    computed_local (t_4 k m j) c h = let (l, p, x) = same_pair k m j h in λ i. inner_pair_computes t t b c (l i).floats (p i).floats (p i).bytes (x i)
+    computed_local (T-3 k m) c h = ap (couple_computes t c) (same_couple k m h)
+    computed_local (t_4 k m j) c h = let (l, p, x) = same_pair k m j h in λ i. pair_computes t t c (l i).floats (p i).bytes (x i)
 
-    sound_local : (a : Task) (c : ℕ) → Agrees a σ τ → sound_at N t b a c σ ≡ sound_at N t b a c τ
+    sound_local : (a : Task) (c : ℕ) → Agrees a σ τ → sound_at N t a c σ ≡ sound_at N t a c τ
     unfolding sound_at
     sound_local a c h = ap (every finite) (computed_local a c h)
 
@@ -138,16 +137,16 @@ module _ (N t b : ℕ) where
     ties_local (t_4 k m j) c h = refl
 
     -- a fill reads nothing, but for T-3's upper tile
-    filled_local : (a : Task) → Agrees a σ τ → (r : ℕ) → σ r ≡ τ r → filled_at N t b a σ r ≡ filled_at N t b a τ r
+    filled_local : (a : Task) → Agrees a σ τ → (r : ℕ) → σ r ≡ τ r → filled_at N t a σ r ≡ filled_at N t a τ r
     unfolding filled_at set
-    filled_local (t_1 k) h r e = λ i. filled_at N t b (t_1 k) (λ q. e i) r
-    filled_local (t_2 k j) h r e = λ i. filled_at N t b (t_2 k j) (λ q. e i) r
+    filled_local (t_1 k) h r e = λ i. filled_at N t (t_1 k) (λ q. e i) r
+    filled_local (t_2 k j) h r e = λ i. filled_at N t (t_2 k j) (λ q. e i) r
     filled_local (T-3 k m) h r e =
         let a : σ (tile_at N k k) ≡ τ (tile_at N k k) = unfold touches reads in (agree (T-3 k m) h (A k k) first) in
-        λ i. put_tile N t k k (upper_filled t (put_zeros N t b m k (λ q. a i) (tile_at N k k)).floats) (put_zeros N t b m k (λ q. e i)) r
-    filled_local (t_4 k m j) h r e = λ i. filled_at N t b (t_4 k m j) (λ q. e i) r
+        λ i. put_tile N t k k (upper_filled t (put_zeros N t m k (λ q. a i) (tile_at N k k)).floats) (put_zeros N t m k (λ q. e i)) r
+    filled_local (t_4 k m j) h r e = λ i. filled_at N t (t_4 k m j) (λ q. e i) r
 
-  pub system_laws : (ts : List Task) → Each (Valid N) ts → 1 ≤ t → Laws (system N t b ts)
+  pub system_laws : (ts : List Task) → Each (Valid N) ts → 1 ≤ t → Laws (system N t ts)
   system_laws ts va ht = record {
     in_range = λ p r h e. let (x, m, q) = at_member N (touches (task ts p)) r e in subst (λ (y : ℕ). y < N * N + N + N * N) q
         (proper_in N x (touched_proper N ts va p h x m));
@@ -161,5 +160,5 @@ module _ (N t b : ℕ) where
     local_fill = λ p σ τ h a r e. filled_local σ τ (task ts p) a r (a r (writes_touch N (task ts p) r e));
   }
 
-  pub ties_laws : (ts : List Task) → Local (system N t b ts) (ties N t b ts)
+  pub ties_laws : (ts : List Task) → Local (system N t ts) (ties N t ts)
   ties_laws ts p c σ τ h l a = ties_local σ τ (task ts p) c a

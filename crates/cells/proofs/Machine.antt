@@ -15,7 +15,7 @@ use Rattle.model.specs.declared.Sizes.{Sizes}
 use Rattle.model.specs.declared.TaskRecord.{TaskRecord}
 use Rattle.worker.specs.declared.Worker as MW
 use Rattle.model.specs.Task.{t_1, tasks}
-use Rattle.model.specs.Plan.{plan, plan_with, plan_of}
+use Rattle.model.specs.Plan.{plan, plan_of}
 use Rattle.model.specs.Links.{task, mark}
 use Rattle.model.specs.Links as ML
 use Rattle.model.specs.Buffer.{sound, column_ends}
@@ -45,7 +45,7 @@ use Rattle.cells.proofs.Loops.{Ends, either_ends, either_ties, σ₀, start_same
 
 -- the system of all tasks, and how many they are
 abbrev pub S : Sizes → System
-S z = system z.tiles z.side z.block (tasks z.tiles)
+S z = system z.tiles z.side (tasks z.tiles)
 
 abbrev pub count : Sizes → ℕ
 count z = length (tasks z.tiles)
@@ -58,14 +58,14 @@ busy_of h e = rw e
 
 unfoldable pub abs : (z : Sizes) → Lent → State (S z)
 abs z s = record {
-  cells = view z.tiles z.side z.block s.buffers;
+  cells = view z.tiles z.side s.buffers;
   marks = λ p. to_mark (mark (marks_of s) p);
   workers = λ w. worker_of (worker s w);
 }
 
 -- what is lent has the lengths that the sizes ask for
 pub record Stated (z : Sizes) (s : Lent) : Type 0 where
-  pub sized : Sized z.tiles z.side z.block s.buffers
+  pub sized : Sized z.tiles z.side s.buffers
   pub records : length s.records ≡ count z
   pub workers : length s.workers ≡ z.workers
 
@@ -112,7 +112,7 @@ module _ (z : Sizes) where
 
   -- the ties as order_free's gain
   abbrev pub tie_gain : Gain (S z)
-  tie_gain = ties z.tiles z.side z.block (tasks z.tiles)
+  tie_gain = ties z.tiles z.side (tasks z.tiles)
 
   -- ---- take
 
@@ -123,7 +123,7 @@ module _ (z : Sizes) where
   pub took_is : (s : Lent) → Stated z s → (w p : ℕ) → w < z.workers → p < count z → abs z (took (plan_of z) w p s) ≡ effect (S z) (take w p) (abs z s)
   unfolding abs took effect marks_of worker with_take
   took_is s g w p h l = λ i. record {
-    cells = view z.tiles z.side z.block s.buffers;
+    cells = view z.tiles z.side s.buffers;
     marks = changed_view s g p (with_take (suc s.number)) l i;
     workers = list_view worker_of MH.idle s.workers w (holding p 0) (subst (λ (k : ℕ). w < k) (sym g.workers) h) i;
   }
@@ -144,44 +144,42 @@ module _ (z : Sizes) where
   goes_on false = (refl, omega arith, omega arith)
 
   pub column_ends_lem : (s : Lent) → Stated z s → (p c : ℕ) → p < count z
-      → Ends z.tiles z.side z.block (tasks z.tiles) (column_of (plan_of z) s p c)
-      (perform (S z) p c (marks_fn s) (view z.tiles z.side z.block s.buffers))
+      → Ends z.tiles z.side (tasks z.tiles) (column_of (plan_of z) s p c)
+      (perform (S z) p c (marks_fn s) (view z.tiles z.side s.buffers))
   unfolding column_of column_ends perform plan
   column_ends_lem s g p c h =
       let N = z.tiles in
       let t = z.side in
-      let b = z.block in
       let ts = tasks N in
       let va = tasks_valid N in
-      let σ : ℕ → Val = view N t b s.buffers in
-      let w : Same N t b s.buffers σ = (g.sized, refl) in
-      let w' = worked_same N t b ts va p h s.buffers σ w c in
+      let σ : ℕ → Val = view N t s.buffers in
+      let w : Same N t s.buffers σ = (g.sized, refl) in
+      let w' = worked_same N t ts va p h s.buffers σ w c in
       let on = goes_on (eqb (suc c) t) in
-      either_ends N t b ts (eqb c 0 && ML.spoils ts (marks_of s) p) (eqb c 0 && spoils (S z) (marks_fn s) p)
-      (ap (λ (x : Bool). eqb c 0 && x) (sym (spoils_is N t b ts va (marks_of s) p h)))
+      either_ends N t ts (eqb c 0 && ML.spoils ts (marks_of s) p) (eqb c 0 && spoils (S z) (marks_fn s) p)
+      (ap (λ (b : Bool). eqb c 0 && b) (sym (spoils_is N t ts va (marks_of s) p h)))
       _ _ (record { cells = (S z).fill p σ; mark = G.spoiled }) _
-      (record { left = filled_same N t b ts va p h _ _ w; mark = refl; begun = omega arith; most = omega arith })
-      (either_ends N t b ts (sound (plan_with N t b) (task ts p) c s.buffers) ((S z).ok p c σ) (sound_same N t b ts va p h s.buffers σ w c)
+      (record { left = filled_same N t ts va p h _ _ w; mark = refl; begun = omega arith; most = omega arith })
+      (either_ends N t ts (sound (plan N t) (task ts p) c s.buffers) ((S z).ok p c σ) (sound_same N t ts va p h s.buffers σ w c)
       _ _ (record { cells = (S z).col p c σ; mark = cond (eqb (suc c) t) G.done G.taken }) (record { cells = (S z).fill p ((S z).col p c σ); mark = G.failed })
       (record { left = w'; mark = on.0; begun = on.1; most = on.2 })
-      (record { left = filled_same N t b ts va p h _ _ w'; mark = refl; begun = omega arith; most = omega arith }))
+      (record { left = filled_same N t ts va p h _ _ w'; mark = refl; begun = omega arith; most = omega arith }))
 
   -- its ties
   column_ties_lem : (s : Lent) → Stated z s → (p c : ℕ) → p < count z
-      → (column_of (plan_of z) s p c).ties ≡ gained (S z) tie_gain p c (marks_fn s) (view z.tiles z.side z.block s.buffers)
+      → (column_of (plan_of z) s p c).ties ≡ gained (S z) tie_gain p c (marks_fn s) (view z.tiles z.side s.buffers)
   unfolding column_of column_ends gained plan
   column_ties_lem s g p c h =
       let N = z.tiles in
       let t = z.side in
-      let b = z.block in
       let ts = tasks N in
       let va = tasks_valid N in
-      let σ : ℕ → Val = view N t b s.buffers in
-      let w : Same N t b s.buffers σ = (g.sized, refl) in
-      either_ties N t b ts (eqb c 0 && ML.spoils ts (marks_of s) p) (eqb c 0 && spoils (S z) (marks_fn s) p)
-      (ap (λ (x : Bool). eqb c 0 && x) (sym (spoils_is N t b ts va (marks_of s) p h))) _ _ 0 _ refl
-      (either_ties N t b ts (sound (plan_with N t b) (task ts p) c s.buffers) ((S z).ok p c σ) (sound_same N t b ts va p h s.buffers σ w c) _ _ _ 0
-      (ties_same N t b ts va p h s.buffers σ w c) refl)
+      let σ : ℕ → Val = view N t s.buffers in
+      let w : Same N t s.buffers σ = (g.sized, refl) in
+      either_ties N t ts (eqb c 0 && ML.spoils ts (marks_of s) p) (eqb c 0 && spoils (S z) (marks_fn s) p)
+      (ap (λ (b : Bool). eqb c 0 && b) (sym (spoils_is N t ts va (marks_of s) p h))) _ _ 0 _ refl
+      (either_ties N t ts (sound (plan N t) (task ts p) c s.buffers) ((S z).ok p c σ) (sound_same N t ts va p h s.buffers σ w c) _ _ _ 0
+      (ties_same N t ts va p h s.buffers σ w c) refl)
 
   -- the worker stays with its task or is freed alike
   worker_next : (m p c : ℕ) → 1 ≤ m → worker_of (cond (ML.finished m) MH.idle (holding p (suc c))) ≡ next (to_mark m) p c
@@ -234,16 +232,16 @@ module _ (z : Sizes) where
     pub opened_stated : Stated z (opened (plan_of z) z.workers m)
     unfolding opened plan
     opened_stated = record {
-      sized = (start_same z.tiles z.side z.block m hm).0;
+      sized = (start_same z.tiles z.side m hm).0;
       records = length-map (tasks z.tiles) record_of;
       workers = length-replicate
           z.workers MH.idle;
     }
 
-    pub opened_is : abs z (opened (plan_of z) z.workers m) ≡ OM.start (S z) (σ₀ z.tiles z.side z.block m)
+    pub opened_is : abs z (opened (plan_of z) z.workers m) ≡ OM.start (S z) (σ₀ z.tiles z.side m)
     unfolding abs opened plan OM.start σ₀ marks_of worker
     opened_is = λ i. record {
-      cells = view z.tiles z.side z.block (start (plan_of z) m).buffers;
+      cells = view z.tiles z.side (start (plan_of z) m).buffers;
       marks = λ p. to_mark (opened_marks (tasks z.tiles) p i);
       workers = λ w. worker_of (get_or_same z.workers w MH.idle i);
     }

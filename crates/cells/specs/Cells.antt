@@ -1,24 +1,22 @@
 -- The places that tasks share as numbered cells, and a list of tasks on them as a system of order_free. Tile (i,j) is cell i·N + j, the
 -- strictly lower part of tile (k,k) is cell N² + k, and list (i,j) is cell N² + N + i·N + j. The cell of tile (k,k) holds the tile whole, and
--- that of its strictly lower part a copy: T-3 leaves that part as it is, so it writes the first and not the second. K5's part of the slice for a
--- tile below the diagonal stands in the cell of that tile's list: the same tasks touch both. A column's arithmetic is the model's own: here stands only
--- which cells it gets and where its results go.
+-- that of its strictly lower part a copy: T-3 leaves that part as it is, so it writes the first and not the second. A column's arithmetic is
+-- the model's own: here stands only which cells it gets and where its results go.
 -- Assumes nothing.
-use Rattle.std.specs.Prelude.{ℕ, zero, suc, ◌+◌, ◌-◌, ◌*◌, ◌/◌, ◌%◌, Bool, false, cond, List, [], length, replicate, eqb, ltb, Float}
+use Rattle.std.specs.Prelude.{ℕ, zero, suc, ◌+◌, ◌-◌, ◌*◌, Bool, false, cond, List, [], length, replicate, eqb, ltb, Float}
 use Rattle.model.specs.Lists.{every, some, part}
 use Rattle.model.specs.Num.{finite}
 use Rattle.model.specs.Tile.{zeros, upper_filled}
-use Rattle.model.specs.Column.{Factored, Paired, factor_pivot, factor_column, factor_computes, apply_column, apply_computes, couple_pivot}
-use Rattle.model.specs.Inner.{Inner, inner_couple_column, inner_couple_computes, inner_pair_column, inner_pair_computes}
+use Rattle.model.specs.Column.{Factored, Coupled, Paired, factor_pivot, factor_column, factor_computes, apply_column, apply_computes, couple_pivot, couple_column, couple_computes, pair_column, pair_computes}
 use Rattle.model.specs.Task.{Task, t_1, t_2, T-3, t_4, Place, touches, writes}
 use Rattle.model.specs.Links.{task}
 use Rattle.model.specs.Plan.{Plan}
-use Rattle.model.specs.Buffer.{Buffers, tile, slice_part}
+use Rattle.model.specs.Buffer.{Buffers, tile}
 use Rattle.order_free.specs.Below.{set}
 use Rattle.order_free.specs.System.{System}
 use Rattle.order_free.specs.Sums.{Gain}
 
--- what a cell holds: the numbers of a tile; or the entries of a row list, with the multipliers of the slice's part beside it
+-- what a cell holds: the numbers of a tile or the entries of a row list, and nothing of the other
 pub record Val : Type 0 where
   pub floats : List Float
   pub bytes : List ℕ
@@ -26,8 +24,8 @@ pub record Val : Type 0 where
 abbrev pub tile_val : List Float → Val
 tile_val a = record { floats = a; bytes = [] }
 
-abbrev pub list_val : List Float → List ℕ → Val
-list_val sl p = record { floats = sl; bytes = p }
+abbrev pub rows_val : List ℕ → Val
+rows_val p = record { floats = []; bytes = p }
 
 -- ---- the cell of a place
 
@@ -54,26 +52,20 @@ module _ (N : ℕ) where
   unfoldable pub at_cell : List Place → ℕ → Bool
   at_cell xs r = some (λ x. eqb (cell_of x) r) xs
 
-module _ (N t b : ℕ) where
-  -- the slice's part beside list x, where list (i,j) is i·N + j: on the diagonal and above it there is none
-  unfoldable pub beside : List Float → ℕ → List Float
-  beside sl x = cond (ltb (x % N) (x / N)) (slice_part t b sl (x / N) (x % N)) []
-
+module _ (N t : ℕ) where
   -- what each cell holds of the lent buffers
   unfoldable pub view : Buffers → ℕ → Val
   view s r = record {
     floats = cond (ltb r (N * N)) (part (r * (t * t)) (t * t) s.matrix)
-        (cond (ltb r (N * N + N)) (upper_filled t (tile N t s.matrix (r - N * N) (r - N * N))) (beside s.slice (r - (N * N + N))));
+        (cond (ltb r (N * N + N)) (upper_filled t (tile N t s.matrix (r - N * N) (r - N * N))) []);
     bytes = cond (ltb r (N * N + N)) [] (part ((r - (N * N + N)) * t) t s.lists);
   }
 
-module _ (N t : ℕ) where
   abbrev pub put_tile : ℕ → ℕ → List Float → (ℕ → Val) → ℕ → Val
   put_tile i j a σ = set σ (tile_at N i j) (tile_val a)
 
-  -- a row list, with the slice's part beside it
-  abbrev pub put_list : ℕ → ℕ → List Float → List ℕ → (ℕ → Val) → ℕ → Val
-  put_list i j sl p σ = set σ (list_at N i j) (list_val sl p)
+  abbrev pub put_rows : ℕ → ℕ → List ℕ → (ℕ → Val) → ℕ → Val
+  put_rows i j p σ = set σ (list_at N i j) (rows_val p)
 
   -- the strictly lower part of the tile a, and +0 elsewhere, as that of tile (k,k); and of tile (i,j), where it is a diagonal tile
   abbrev pub put_low : ℕ → List Float → (ℕ → Val) → ℕ → Val
@@ -85,10 +77,10 @@ module _ (N t : ℕ) where
   -- ---- what a column leaves, and the numbers that it computes
 
   abbrev pub put_factored : ℕ → Factored → (ℕ → Val) → ℕ → Val
-  put_factored k r σ = put_tile k k r.tile (put_low k r.tile (put_list k k [] r.rows σ))
+  put_factored k r σ = put_tile k k r.tile (put_low k r.tile (put_rows k k r.rows σ))
 
-  abbrev pub put_coupled : ℕ → ℕ → Inner → (ℕ → Val) → ℕ → Val
-  put_coupled k i r σ = put_tile k k r.upper (put_tile i k r.lower (put_list i k r.slice r.rows σ))
+  abbrev pub put_coupled : ℕ → ℕ → Coupled → (ℕ → Val) → ℕ → Val
+  put_coupled k i r σ = put_tile k k r.upper (put_tile i k r.lower (put_rows i k r.rows σ))
 
   abbrev pub put_paired : ℕ → ℕ → ℕ → Paired → (ℕ → Val) → ℕ → Val
   put_paired k i j r σ = put_tile k j r.upper (put_tile i j r.lower (put_low_of i j r.lower σ))
@@ -96,16 +88,23 @@ module _ (N t : ℕ) where
   abbrev pub factor_in : ℕ → (ℕ → Val) → Factored
   factor_in k σ = record { tile = (σ (tile_at N k k)).floats; rows = (σ (list_at N k k)).bytes }
 
-  abbrev pub couple_in : ℕ → ℕ → (ℕ → Val) → Inner
-  couple_in k i σ = record {
-    upper = (σ (tile_at N k k)).floats;
-    lower = (σ (tile_at N i k)).floats;
-    slice = (σ (list_at N i k)).floats;
-    rows = (σ (list_at N i k)).bytes;
-  }
+  abbrev pub couple_in : ℕ → ℕ → (ℕ → Val) → Coupled
+  couple_in k i σ = record { upper = (σ (tile_at N k k)).floats; lower = (σ (tile_at N i k)).floats; rows = (σ (list_at N i k)).bytes }
 
   abbrev pub pair_in : ℕ → ℕ → ℕ → (ℕ → Val) → Paired
   pair_in k i j σ = record { upper = (σ (tile_at N k j)).floats; lower = (σ (tile_at N i j)).floats }
+
+  unfoldable pub worked_at : Task → ℕ → (ℕ → Val) → ℕ → Val
+  worked_at (t_1 k) c σ = put_factored k (factor_column t c (factor_in k σ)) σ
+  worked_at (t_2 k j) c σ = put_tile k j (apply_column t t c (σ (low_at N k)).floats (σ (list_at N k k)).bytes (σ (tile_at N k j)).floats) σ
+  worked_at (T-3 k i) c σ = put_coupled k i (couple_column t c (couple_in k i σ)) σ
+  worked_at (t_4 k i j) c σ = put_paired k i j (pair_column t t c (σ (tile_at N i k)).floats (σ (list_at N i k)).bytes (pair_in k i j σ)) σ
+
+  unfoldable pub computed_at : Task → ℕ → (ℕ → Val) → List Float
+  computed_at (t_1 k) c σ = factor_computes t c (factor_in k σ)
+  computed_at (t_2 k j) c σ = apply_computes t t c (σ (low_at N k)).floats (σ (list_at N k k)).bytes (σ (tile_at N k j)).floats
+  computed_at (T-3 k i) c σ = couple_computes t c (couple_in k i σ)
+  computed_at (t_4 k i j) c σ = pair_computes t t c (σ (tile_at N i k)).floats (σ (list_at N i k)).bytes (pair_in k i j σ)
 
   -- the ties of a column's pivot search
   unfoldable pub ties_at : Task → ℕ → (ℕ → Val) → ℕ
@@ -114,39 +113,25 @@ module _ (N t : ℕ) where
   ties_at (T-3 k i) c σ = (couple_pivot t c (σ (tile_at N k k)).floats (σ (tile_at N i k)).floats).ties
   ties_at (t_4 k i j) c σ = 0
 
-module _ (N t b : ℕ) where
-  unfoldable pub worked_at : Task → ℕ → (ℕ → Val) → ℕ → Val
-  worked_at (t_1 k) c σ = put_factored N t k (factor_column t c (factor_in N t k σ)) σ
-  worked_at (t_2 k j) c σ = put_tile N t k j (apply_column t t c (σ (low_at N k)).floats (σ (list_at N k k)).bytes (σ (tile_at N k j)).floats) σ
-  worked_at (T-3 k i) c σ = put_coupled N t k i (inner_couple_column t b c (couple_in N t k i σ)) σ
-  worked_at (t_4 k i j) c σ = put_paired N t k i j (inner_pair_column t t b c (σ (tile_at N i k)).floats (σ (list_at N i k)).floats (σ (list_at N i k)).bytes (pair_in N t k i j σ)) σ
-
-  unfoldable pub computed_at : Task → ℕ → (ℕ → Val) → List Float
-  computed_at (t_1 k) c σ = factor_computes t c (factor_in N t k σ)
-  computed_at (t_2 k j) c σ = apply_computes t t c (σ (low_at N k)).floats (σ (list_at N k k)).bytes (σ (tile_at N k j)).floats
-  computed_at (T-3 k i) c σ = inner_couple_computes t b c (couple_in N t k i σ)
-  computed_at (t_4 k i j) c σ = inner_pair_computes t t b c (σ (tile_at N i k)).floats (σ (list_at N i k)).floats (σ (list_at N i k)).bytes (pair_in N t k i j σ)
-
   unfoldable pub sound_at : Task → ℕ → (ℕ → Val) → Bool
   sound_at a c σ = every finite (computed_at a c σ)
 
   -- ---- what a failed or spoiled task leaves
 
-  -- of T-3, but for its upper tile
   abbrev pub put_zeros : ℕ → ℕ → (ℕ → Val) → ℕ → Val
-  put_zeros i k σ = put_tile N t i k (zeros (t * t)) (put_list N t i k (zeros (t * b)) (replicate t 0) σ)
+  put_zeros i j σ = put_tile i j (zeros (t * t)) (put_rows i j (replicate t 0) σ)
 
   unfoldable pub filled_at : Task → (ℕ → Val) → ℕ → Val
-  filled_at (t_1 k) σ = put_tile N t k k (zeros (t * t)) (put_low N t k (zeros (t * t)) (put_list N t k k [] (replicate t 0) σ))
-  filled_at (t_2 k j) σ = put_tile N t k j (zeros (t * t)) σ
-  filled_at (T-3 k i) σ = put_tile N t k k (upper_filled t (put_zeros i k σ (tile_at N k k)).floats) (put_zeros i k σ)
-  filled_at (t_4 k i j) σ = put_tile N t k j (zeros (t * t)) (put_tile N t i j (zeros (t * t)) (put_low_of N t i j (zeros (t * t)) σ))
+  filled_at (t_1 k) σ = put_tile k k (zeros (t * t)) (put_low k (zeros (t * t)) (put_rows k k (replicate t 0) σ))
+  filled_at (t_2 k j) σ = put_tile k j (zeros (t * t)) σ
+  filled_at (T-3 k i) σ = put_tile k k (upper_filled t (put_zeros i k σ (tile_at N k k)).floats) (put_zeros i k σ)
+  filled_at (t_4 k i j) σ = put_tile k j (zeros (t * t)) (put_tile i j (zeros (t * t)) (put_low_of i j (zeros (t * t)) σ))
 
   -- ---- a list of tasks
 
   -- the plan that has these tasks
   abbrev pub plan_for : List Task → Plan
-  plan_for ts = record { N = N; t = t; b = b; tasks = ts }
+  plan_for ts = record { N = N; t = t; tasks = ts }
 
   -- these tasks and their cells as order_free has them
   abbrev pub system : List Task → System
@@ -165,4 +150,4 @@ module _ (N t b : ℕ) where
 
   -- the ties as order_free's gain: a failing column and spoiling add none
   abbrev pub ties : (ts : List Task) → Gain (system ts)
-  ties ts = record { good = λ p c σ. ties_at N t (task ts p) c σ; failing = 0; spoiling = 0 }
+  ties ts = record { good = λ p c σ. ties_at (task ts p) c σ; failing = 0; spoiling = 0 }

@@ -21,16 +21,16 @@ pub record Sized (z : Sizes) : Type 0 where
 -- ---- parts of what is lent: a test that looks at no more is told no more
 
 abbrev pub records_alone : List (List ℕ) → Lent
-records_alone r = lent [] [] [] r [] 0 0
+records_alone r = lent [] [] r [] 0 0
 
 abbrev pub lists_alone : List ℕ → Lent
-lists_alone l = lent [] l [] [] [] 0 0
+lists_alone l = lent [] l [] [] 0 0
 
 abbrev pub held : List (List ℕ) → List Worker → ℕ → Lent
-held r slots W = lent [] [] [] r slots W 0
+held r slots W = lent [] [] r slots W 0
 
 abbrev pub numbered : List (List ℕ) → List Worker → ℕ → ℕ → Lent
-numbered r slots W n = lent [] [] [] r slots W n
+numbered r slots W n = lent [] [] r slots W n
 
 -- ---- a record as a task: its kind, and the fields that the kind uses
 

@@ -31,21 +31,20 @@ pub fn column(
     z: Sizes,
     matrix: &mut [f64],
     lists: &mut [u8],
-    slice: &mut [f64],
     records: &mut [TaskRecord],
     workers: Workers,
     w: usize,
 ) -> CallReply
     ensures { (record {
       answer = result.answer;
-      left = whole matrix.new lists.new slice.new records.new result.workers;
-    } ≡ column_call z w (whole matrix.old lists.old slice.old records.old workers))
+      left = whole matrix.new lists.new records.new result.workers;
+    } ≡ column_call z w (whole matrix.old lists.old records.old workers))
         × OthersKept workers result.workers }
 {
     let mut flat = [[0; RECORD]; COPIES];
     let n = looked_at(records.len());
     load(records, &mut flat, n);
-    let reply = column_part(z, matrix, lists, slice, &mut flat, n, workers, w);
+    let reply = column_part(z, matrix, lists, &mut flat, n, workers, w);
     let p = task_held(workers, w);
     store(records, &flat, p, past(p, n));
     reply

@@ -17,7 +17,7 @@ use Rattle.model.specs.Links.{task}
 use Rattle.model.specs.Buffer.{Buffers, finite_tiles}
 use Rattle.model.specs.Calls.{Lent, worker}
 use Rattle.worker.specs.Holding.{idle}
-use Rattle.model.specs.Refusal.{refuse, bad_sizes, bad_block, bad_lengths, damaged, bad_tiles, no_worker, column_answer}
+use Rattle.model.specs.Refusal.{refuse, bad_sizes, bad_lengths, damaged, bad_tiles, no_worker, column_answer}
 use Rattle.laws.proofs.Refusals.{passed}
 use Rattle.laws.proofs.Tests.{or_left, or_right, or_false_left, or_false_right, and_true_not}
 use Rattle.records.specs.Records.{records_from, blank, lent}
@@ -28,12 +28,12 @@ use Rattle.states.specs.States.{state_answer, Undamaged}
 use Rattle.states.proofs.Laws.{sound, goes_on, stops}
 use Rattle.call_laws.proofs.Undamaged.{worker_lent, worker_beyond, workers_long, worker_holds, record_named, record_inside}
 
-module _ (z : Sizes) (m : List Float) (l : List ℕ) (sl : List Float) (r : List (List ℕ)) (ws : List Worker) (count number w : ℕ) where
+module _ (z : Sizes) (m : List Float) (l : List ℕ) (r : List (List ℕ)) (ws : List Worker) (count number w : ℕ) where
   abbrev old : Lent
-  old = lent m l sl r ws count number
+  old = lent m l r ws count number
 
   abbrev buffers : Buffers
-  buffers = record { matrix = m; lists = l; slice = sl }
+  buffers = record { matrix = m; lists = l }
 
   abbrev bad : Bool
   bad = damaged (plan_of z) old || bad_tiles (plan_of z) w old
@@ -57,10 +57,10 @@ module _ (z : Sizes) (m : List Float) (l : List ℕ) (sl : List Float) (r : List
 
     module _ (q : b ≡ true) where
       counted : count ≡ z.workers
-      counted = (sound z m l sl r ws count number (sym e ∙ is_accepted a b f q)).0
+      counted = (sound z m l r ws count number (sym e ∙ is_accepted a b f q)).0
 
-      pub is_sound : Undamaged z m l sl r ws number
-      is_sound = (sound z m l sl r ws count number (sym e ∙ is_accepted a b f q)).1
+      pub is_sound : Undamaged z m l r ws number
+      is_sound = (sound z m l r ws count number (sym e ∙ is_accepted a b f q)).1
 
       -- refusal 4 is left for the tiles
       after_2 : refuse 4 0 (bad_tiles (plan_of z) w old) from_5 ≡ column_answer z w old
@@ -78,12 +78,12 @@ module _ (z : Sizes) (m : List Float) (l : List ℕ) (sl : List Float) (r : List
       pub no_worker_lem : z.workers ≤ w → Refused 5 w ≡ column_answer z w old
       unfolding no_worker
       no_worker_lem x =
-          refused_5 (ap (λ (v : Worker). v.busy) (worker_beyond m l sl r ws count number w (omega (arith, counted))))
-          (or_left (no_worker w old) (not (worker old w).busy) (le-leb (length old.workers) w (omega (arith, workers_long m l sl r ws count number w, counted))))
+          refused_5 (ap (λ (v : Worker). v.busy) (worker_beyond m l r ws count number w (omega (arith, counted))))
+          (or_left (no_worker w old) (not (worker old w).busy) (le-leb (length old.workers) w (omega (arith, workers_long m l r ws count number w, counted))))
 
       module _ (x : w < z.workers) where
         its_slot : worker old w ≡ get_or ws w idle
-        its_slot = worker_lent m l sl r ws count number w (omega (arith, counted))
+        its_slot = worker_lent m l r ws count number w (omega (arith, counted))
 
         busy_is : (worker old w).busy ≡ (get_or ws w idle).busy
         busy_is = ap (λ (v : Worker). v.busy) its_slot
@@ -96,17 +96,17 @@ module _ (z : Sizes) (m : List Float) (l : List ℕ) (sl : List Float) (r : List
           p = (get_or ws w idle).task
 
           pub task_exists : p < length (tasks z.tiles)
-          task_exists = (worker_holds z m l sl r ws number w is_sound.undamaged x y).0
+          task_exists = (worker_holds z m l r ws number w is_sound.undamaged x y).0
 
           pub tiles_there : Inside z.tiles (get_or (records_from r) p blank)
-          tiles_there = record_inside z m l sl r ws number is_sound.sizes is_sound.lengths.records_fit is_sound.undamaged p task_exists
+          tiles_there = record_inside z m l r ws number is_sound.sizes is_sound.lengths.records_fit is_sound.undamaged p task_exists
 
           module _ (t : Bool) (u : t ≡ not (finite_tiles (plan_of z) (task_from (get_or (records_from r) p blank)) buffers)) where
             tiles_are : t ≡ bad_tiles (plan_of z) w old
             unfolding bad_tiles lent plan
             tiles_are =
                 rw (its_slot, y)
-                (u ∙ ap (λ k. not (finite_tiles (plan_of z) k buffers)) (record_named z m l sl r ws number is_sound.sizes is_sound.lengths.records_fit is_sound.undamaged p task_exists))
+                (u ∙ ap (λ k. not (finite_tiles (plan_of z) k buffers)) (record_named z m l r ws number is_sound.sizes is_sound.lengths.records_fit is_sound.undamaged p task_exists))
 
             pub tiles_bad : t ≡ true → Refused 4 0 ≡ column_answer z w old
             tiles_bad v = sym (refuses 4 0 (bad_tiles (plan_of z) w old) from_5 (sym tiles_are ∙ v)) ∙ after_2
@@ -115,7 +115,7 @@ module _ (z : Sizes) (m : List Float) (l : List ℕ) (sl : List Float) (r : List
             unfolding no_worker
             tiles_good v =
                 sym (passes 4 0 (bad_tiles (plan_of z) w old) from_5 (sym tiles_are ∙ v)
-                ∙ passes 5 w bad_worker_lem Accepted (rw (lt-leb (length old.workers) w (omega (arith, workers_long m l sl r ws count number w, counted)), busy_is ∙ y))) ∙ after_2
+                ∙ passes 5 w bad_worker_lem Accepted (rw (lt-leb (length old.workers) w (omega (arith, workers_long m l r ws count number w, counted)), busy_is ∙ y))) ∙ after_2
 
   -- ---- an accepted column
 
@@ -126,19 +126,18 @@ module _ (z : Sizes) (m : List Float) (l : List ℕ) (sl : List Float) (r : List
 
   -- the state is sound, and worker w exists, is busy and has finite tiles
   pub accepted_then : column_answer z w old ≡ Accepted
-      → (count ≡ z.workers) × Undamaged z m l sl r ws number × (w < z.workers) × ((get_or ws w idle).busy ≡ true) × (finite_tiles (plan_of z) (task (tasks z.tiles) (get_or ws w idle).task) buffers ≡ true)
+      → (count ≡ z.workers) × Undamaged z m l r ws number × (w < z.workers) × ((get_or ws w idle).busy ≡ true) × (finite_tiles (plan_of z) (task (tasks z.tiles) (get_or ws w idle).task) buffers ≡ true)
   unfolding column_answer state_answer no_worker bad_tiles
   accepted_then e =
       let a = passed 1 0 (bad_sizes z) _ e in
-      let b = passed 2 0 (bad_lengths (plan_of z) z.workers old) (refuse 17 0 (bad_block z) (refuse 4 0 bad from_5)) a.1 in
-      let k = passed 17 0 (bad_block z) (refuse 4 0 bad from_5) b.1 in
-      let c = passed 4 0 bad from_5 k.1 in
+      let b = passed 2 0 (bad_lengths (plan_of z) z.workers old) (refuse 4 0 bad from_5) a.1 in
+      let c = passed 4 0 bad from_5 b.1 in
       let d = passed 5 w bad_worker_lem Accepted c.1 in
       let u = or_false_left (damaged (plan_of z) old) (bad_tiles (plan_of z) w old) c.0 in
-      let (n, s) = sound z m l sl r ws count number (passes 1 0 (bad_sizes z) _ a.0 ∙ passes 2 0 (bad_lengths (plan_of z) z.workers old) _ b.0 ∙ passes 17 0 (bad_block z) _ k.0 ∙ passes 4 0 (damaged (plan_of z) old) Accepted u) in
-      let g = workers_long m l sl r ws count number w in
+      let (n, s) = sound z m l r ws count number (passes 1 0 (bad_sizes z) _ a.0 ∙ passes 2 0 (bad_lengths (plan_of z) z.workers old) _ b.0 ∙ passes 4 0 (damaged (plan_of z) old) Accepted u) in
+      let g = workers_long m l r ws count number w in
       let x : w < z.workers = omega (arith, g, n, leb-false (length old.workers) w (or_false_left (no_worker w old) (not (worker old w).busy) d.0)) in
-      let o = worker_lent m l sl r ws count number w (omega (arith, n)) in
+      let o = worker_lent m l r ws count number w (omega (arith, n)) in
       let y = not-false (worker old w).busy (or_false_right (no_worker w old) (not (worker old w).busy) d.0) in
       let t = and_true_not (worker old w).busy _ y (or_false_right (damaged (plan_of z) old) (bad_tiles (plan_of z) w old) c.0) in
       (n, s, x, ap (λ (v : Worker). v.busy) (sym o) ∙ y, finite_then o t)

@@ -16,14 +16,13 @@ pub fn column_answer(
     z: Sizes,
     matrix: &[f64],
     lists: &[u8],
-    slice: &[f64],
     records: &[Record],
     workers: Workers,
     w: usize,
 ) -> Answer
-    ensures { result ≡ column_answer z w (all_lent matrix.now lists.now slice.now records.now workers) }
+    ensures { result ≡ column_answer z w (all_lent matrix.now lists.now records.now workers) }
 {
-    let state = state_answer(z, matrix, lists, slice, records, workers);
+    let state = state_answer(z, matrix, lists, records, workers);
     if !accepted(state) {
         return state;
     }
@@ -36,7 +35,7 @@ pub fn column_answer(
         return Answer::Refused(5, w);
     }
     let p = h.task as usize;
-    if bad_tiles(z, matrix, slice, record_at(records, p)) {
+    if bad_tiles(z, matrix, record_at(records, p)) {
         return Answer::Refused(4, 0);
     }
     Answer::Accepted

@@ -1,14 +1,13 @@
--- A part of a finite part is finite; how many zeros there are. Assumes nothing.
+-- A part of a finite part is finite. Assumes nothing.
 use mathlib.Core.Path.{◌≡◌}
 use mathlib.Core.Bool.{true}
 use mathlib.Core.List.{List}
 use Prim.Native.Nat.{ℕ, ◌+◌, ◌-◌, ◌<◌, ◌≤◌}
 use native.Mathlib.Omega.{arith}
-use lib.ListN.{length, length-replicate}
+use lib.ListN.{length}
 use lib.Ieee.{Float, nan}
 use Rattle.model.specs.Lists.{part}
-use Rattle.model.specs.Num.{plus_zero}
-use Rattle.model.specs.Tile.{all_finite, zeros}
+use Rattle.model.specs.Tile.{all_finite}
 use Rattle.laws.proofs.Finite.{finite_get, finite_all}
 use Rattle.laws.proofs.Parts.{length_part, get_part}
 
@@ -21,7 +20,3 @@ finite_part a n s k m room low high e =
     let p = finite_get (part a n m) (s + i - a) e (rw (length_part a n m room) (omega arith)) in
     let q = rw (get_part a n m nan (s + i - a) (omega arith), x) at p in
     rw (get_part s k m nan i l) q)
-
-pub length_zeros : (n : ℕ) → length (zeros n) ≡ n
-unfolding zeros
-length_zeros n = length-replicate n plus_zero

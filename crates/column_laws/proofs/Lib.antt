@@ -9,7 +9,6 @@ pub mod Pairs
 pub mod Permutes
 pub mod Pivots
 pub mod Places
-pub mod Slices
 pub mod Worked
 pub mod Ends
 pub mod Touched

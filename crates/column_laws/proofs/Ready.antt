@@ -1,6 +1,6 @@
 -- What a workable column tells of its slices: that they are short, where its tiles and lists end, that the tiles share no number and are
 -- finite, and that the entries are in range. Assumes nothing.
-use mathlib.Core.List.{List, []}
+use mathlib.Core.List.{List}
 use Prim.Native.Nat.{ℕ, ◌+◌, ◌*◌, ◌<◌, ◌≤◌}
 use native.Mathlib.Omega.{arith}
 use lib.ListN.{length, get_or}
@@ -50,7 +50,7 @@ factor_ready {z} {k} {c} {m} {l} w = record {
   lists_few = lists_few w;
   room = tile_room w k k w.placed w.placed;
   list_room = list_room w k k w.placed w.placed;
-  tile_finite = factor_touched z.tiles z.side z.block m l [] k w.tiles_finite;
+  tile_finite = factor_touched z.tiles z.side m l k w.tiles_finite;
 }
 
 -- ---- T-2
@@ -83,7 +83,7 @@ apply_ready {z} {k} {j} {c} {m} {l} w =
       room = tile_room w k j hk hj;
       list_room = list_room w k k hk hk;
       entries = w.entries;
-      tile_finite = (apply_touched z.tiles z.side z.block m l [] k j w.tiles_finite).1;
+      tile_finite = (apply_touched z.tiles z.side m l k j w.tiles_finite).1;
     }
 
 -- ---- T-3
@@ -106,7 +106,7 @@ pub couple_ready : {z : Sizes} {k i c : ℕ} {m : List Float} {l : List ℕ} →
 couple_ready {z} {k} {i} {c} {m} {l} w =
     let hk : k < z.tiles = omega (arith, w.placed) in
     let hi : i < z.tiles = omega (arith, w.placed) in
-    let f = couple_touched z.tiles z.side z.block m l [] k i w.tiles_finite in
+    let f = couple_touched z.tiles z.side m l k i w.tiles_finite in
     record {
       side_most = w.side_most;
       square = square_most z.side w.side_most;
@@ -146,7 +146,7 @@ pair_ready {z} {k} {i} {j} {c} {m} {l} w =
     let hk : k < z.tiles = omega (arith, w.placed) in
     let hi : i < z.tiles = omega (arith, w.placed) in
     let hj : j < z.tiles = omega (arith, w.placed) in
-    let f = pair_touched z.tiles z.side z.block m l [] k i j w.tiles_finite in
+    let f = pair_touched z.tiles z.side m l k i j w.tiles_finite in
     record {
       side_most = w.side_most;
       square = square_most z.side w.side_most;

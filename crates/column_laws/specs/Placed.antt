@@ -10,9 +10,9 @@ Placed N (t_2 k j) = (k < j) × (j < N)
 Placed N (T-3 k i) = (k < i) × (i < N)
 Placed N (t_4 k i j) = (k < i) × (i < N) × (k < j) × (j < N)
 
--- the list entries that the task reads are in range: below t on the diagonal, at most t below it. With inner blocks T-3 reads its own list
+-- the list entries that the task reads are in range: below t on the diagonal, at most t below it
 abbrev pub EntriesFit : ℕ → ℕ → Task → List ℕ → Type 0
 EntriesFit N t (t_1 k) l = Unit {0}
 EntriesFit N t (t_2 k j) l = (x : ℕ) → x < t → get_or l (list_start N t k k + x) 0 < t
-EntriesFit N t (T-3 k i) l = (x : ℕ) → x < t → get_or l (list_start N t i k + x) 0 ≤ t
+EntriesFit N t (T-3 k i) l = Unit {0}
 EntriesFit N t (t_4 k i j) l = (x : ℕ) → x < t → get_or l (list_start N t i k + x) 0 ≤ t

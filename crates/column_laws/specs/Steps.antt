@@ -5,7 +5,6 @@ use Rattle.std.specs.Float.{nan}
 use Rattle.model.specs.Lists.{below, every, joined, part, with_part}
 use Rattle.model.specs.Num.{finite, update}
 use Rattle.model.specs.Tile.{at, block, exchanged}
-use Rattle.model.specs.Buffer.{lower_place}
 use Rattle.model.specs.Column.{beyond, row_computes, eliminated, elimination_computes, upper_exchanged, lower_exchanged}
 
 -- where tile (i,j) of N by N tiles of side t starts in the matrix, and its row list in the lists
@@ -14,10 +13,6 @@ tile_start N t i j = (i * N + j) * (t * t)
 
 abbrev pub list_start : ℕ → ℕ → ℕ → ℕ → ℕ
 list_start N t i j = (i * N + j) * t
-
--- where the part of tile (i,j), i > j, starts in the slice of multipliers
-abbrev pub part_start : ℕ → ℕ → ℕ → ℕ → ℕ
-part_start t b i j = lower_place i j * (t * b)
 
 -- ---- T-2: the rows of a block below row c, updated by row c
 

@@ -25,7 +25,7 @@ use Rattle.copies.proofs.Steps.{looked_most, looked_there}
 abbrev pub looked : ℕ → ℕ
 looked n = cond (ltb n 1497) n 1497
 
-module _ (ms : List Float) (ls : List ℕ) (sl : List Float) (ys : List TaskRecord) (ws : Workers) (X₀ X : List (List ℕ)) (long : length X ≡ 1497)
+module _ (ms : List Float) (ls : List ℕ) (ys : List TaskRecord) (ws : Workers) (X₀ X : List (List ℕ)) (long : length X ≡ 1497)
     (loaded : records_from X ≡ copied (looked (length ys)) 0 ys (records_from X₀)) where
   abbrev n : ℕ
   n = looked (length ys)
@@ -36,9 +36,9 @@ module _ (ms : List Float) (ls : List ℕ) (sl : List Float) (ys : List TaskReco
   pub front : records_from (take n X) ≡ take n ys
   front = take_records n X ∙ ap (take n) loaded ∙ copied_front n ys (records_from X₀) (looked_there (length ys)) (omega (arith, looked_most (length ys), room))
 
-  pub lent_front : all_lent ms ls sl (take n X) ws ≡ whole ms ls sl (take n ys) ws
+  pub lent_front : all_lent ms ls (take n X) ws ≡ whole ms ls (take n ys) ws
   unfolding lent whole
-  lent_front = λ t. record { buffers = record { matrix = ms; lists = ls; slice = sl }; records = front t; workers = crew ws.slots ws.count; number = ws.number }
+  lent_front = λ t. record { buffers = record { matrix = ms; lists = ls }; records = front t; workers = crew ws.slots ws.count; number = ws.number }
 
   -- ---- all records are copied
 
@@ -46,8 +46,8 @@ module _ (ms : List Float) (ls : List ℕ) (sl : List Float) (ys : List TaskReco
     pub all_copied : n ≡ length ys
     all_copied = rw (lt-ltb (length ys) 1497 few)
 
-    pub lent_whole : all_lent ms ls sl (take n X) ws ≡ whole ms ls sl ys ws
-    lent_whole = lent_front ∙ ap (λ r. whole ms ls sl r ws) (take_all n ys (omega (arith, all_copied)))
+    pub lent_whole : all_lent ms ls (take n X) ws ≡ whole ms ls ys ws
+    lent_whole = lent_front ∙ ap (λ r. whole ms ls r ws) (take_all n ys (omega (arith, all_copied)))
 
   -- ---- more records than any system has
 
@@ -61,48 +61,48 @@ module _ (ms : List Float) (ls : List ℕ) (sl : List Float) (ys : List TaskReco
   -- ---- what a call leaves
 
   module _ {Ans : Type 0} (answer : Lent → Ans) (left : Lent → Lent) (refusal : Ans) (long-answer : (s : Lent) → 1497 ≤ length s.records → answer s ≡ refusal)
-      (a : Ans) (e : a ≡ answer (all_lent ms ls sl (take n X) ws)) where
-    long_whole : 1497 ≤ length ys → 1497 ≤ length (whole ms ls sl ys ws).records
+      (a : Ans) (e : a ≡ answer (all_lent ms ls (take n X) ws)) where
+    long_whole : 1497 ≤ length ys → 1497 ≤ length (whole ms ls ys ws).records
     unfolding whole
     long_whole many = many
 
-    long_front : 1497 ≤ length ys → 1497 ≤ length (whole ms ls sl (take n ys) ws).records
+    long_front : 1497 ≤ length ys → 1497 ≤ length (whole ms ls (take n ys) ws).records
     unfolding whole
     long_front many = front_long many
 
-    pub answers : a ≡ answer (whole ms ls sl ys ws)
+    pub answers : a ≡ answer (whole ms ls ys ws)
     answers =
         ⊎_elim
         (λ few. e ∙ ap answer (lent_whole few))
-        (λ many. e ∙ ap answer lent_front ∙ long-answer (whole ms ls sl (take n ys) ws) (long_front many) ∙ sym (long-answer (whole ms ls sl ys ws) (long_whole many)))
+        (λ many. e ∙ ap answer lent_front ∙ long-answer (whole ms ls (take n ys) ws) (long_front many) ∙ sym (long-answer (whole ms ls ys ws) (long_whole many)))
         (lt_or_le (length ys) 1497)
 
-    module _ (long-left : (s : Lent) → 1497 ≤ length s.records → left s ≡ s) (ms' : List Float) (ls' : List ℕ) (sl' : List Float) (X' : List (List ℕ)) (ws' : Workers) (long' : length X' ≡ 1497)
-        (f : all_lent ms' ls' sl' (take n X') ws' ≡ left (all_lent ms ls sl (take n X) ws)) (zs : List TaskRecord) (stored : zs ≡ copied n 0 (records_from X') ys) where
+    module _ (long-left : (s : Lent) → 1497 ≤ length s.records → left s ≡ s) (ms' : List Float) (ls' : List ℕ) (X' : List (List ℕ)) (ws' : Workers) (long' : length X' ≡ 1497)
+        (f : all_lent ms' ls' (take n X') ws' ≡ left (all_lent ms ls (take n X) ws)) (zs : List TaskRecord) (stored : zs ≡ copied n 0 (records_from X') ys) where
       stored_all : length ys < 1497 → records_from (take n X') ≡ zs
       stored_all few =
           take_records n X' ∙ sym (copied_all n (records_from X') ys (all_copied few) (omega (arith, looked_most (length ys), length_records X', long'))) ∙ sym stored
 
-      left_whole : length ys < 1497 → whole ms' ls' sl' zs ws' ≡ all_lent ms' ls' sl' (take n X') ws'
+      left_whole : length ys < 1497 → whole ms' ls' zs ws' ≡ all_lent ms' ls' (take n X') ws'
       unfolding lent whole
-      left_whole few = λ t. record { buffers = record { matrix = ms'; lists = ls'; slice = sl' }; records = sym (stored_all few) t; workers = crew ws'.slots ws'.count; number = ws'.number }
+      left_whole few = λ t. record { buffers = record { matrix = ms'; lists = ls' }; records = sym (stored_all few) t; workers = crew ws'.slots ws'.count; number = ws'.number }
 
       module _ (many : 1497 ≤ length ys) where
-        unchanged : all_lent ms' ls' sl' (take n X') ws' ≡ whole ms ls sl (take n ys) ws
-        unchanged = f ∙ ap left lent_front ∙ long-left (whole ms ls sl (take n ys) ws) (long_front many)
+        unchanged : all_lent ms' ls' (take n X') ws' ≡ whole ms ls (take n ys) ws
+        unchanged = f ∙ ap left lent_front ∙ long-left (whole ms ls (take n ys) ws) (long_front many)
 
         same_records : zs ≡ ys
         unfolding lent whole
         same_records =
             stored ∙ copied_same n (records_from X') ys (looked_there (length ys)) (sym (take_records n X') ∙ ap (λ (s : Lent). s.records) unchanged)
 
-        still_whole : whole ms' ls' sl' zs ws' ≡ whole ms ls sl ys ws
+        still_whole : whole ms' ls' zs ws' ≡ whole ms ls ys ws
         unfolding lent whole
         still_whole = λ t. record { buffers = (unchanged t).buffers; records = same_records t; workers = (unchanged t).workers; number = (unchanged t).number }
 
-      pub leaves : whole ms' ls' sl' zs ws' ≡ left (whole ms ls sl ys ws)
+      pub leaves : whole ms' ls' zs ws' ≡ left (whole ms ls ys ws)
       leaves =
           ⊎_elim
           (λ few. left_whole few ∙ f ∙ ap left (lent_whole few))
-          (λ many. still_whole many ∙ sym (long-left (whole ms ls sl ys ws) (long_whole many)))
+          (λ many. still_whole many ∙ sym (long-left (whole ms ls ys ws) (long_whole many)))
           (lt_or_le (length ys) 1497)

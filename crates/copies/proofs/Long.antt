@@ -17,7 +17,6 @@ use Rattle.model.specs.declared.RunAnswer.TheVariants.{Finished, RunRefused}
 use Rattle.model.specs.declared.OutcomeAnswer.{OutcomeAnswer}
 use Rattle.model.specs.Task.{tasks}
 use Rattle.model.specs.Plan.{plan, plan_of, order}
-use Rattle.model.specs.Buffer.{slice_length}
 use Rattle.model.specs.Calls.{Lent, RunEnd, opened, took, advanced, whole_run}
 use Rattle.model.specs.Refusal.{Reply, refuse, replied, run_replied, outcome_replied, bad_sizes, bad_lengths, open_answer, open_call, take_answer, take_call, column_answer, column_call, run_answer, run_call, outcome_found, outcome_call}
 use Rattle.model.specs.Solve.{Answers, Passed, answered, solved, solve_answer, solve_call}
@@ -72,7 +71,7 @@ module _ (z : Sizes) (s : Lent) (long : 1497 ≤ length s.records) where
   unfolding bad_lengths plan order
   bad_lengths_lem e =
       let few : length (tasks z.tiles) ≤ 1496 = few_tasks z.tiles (sized z e).few_tiles in
-      third (eqb (length s.buffers.matrix) (z.tiles * z.side * (z.tiles * z.side)) && eqb (length s.buffers.lists) (z.tiles * z.tiles * z.side) && eqb (length s.buffers.slice) (slice_length z.tiles z.side z.block)) (eqb (length s.records) (length (tasks z.tiles))) (eqb (length s.workers) z.workers) (ne_eqb (length s.records) (length (tasks z.tiles)) (λ q. absurd (omega (arith, few, long, q))))
+      third (eqb (length s.buffers.matrix) (z.tiles * z.side * (z.tiles * z.side)) && eqb (length s.buffers.lists) (z.tiles * z.tiles * z.side)) (eqb (length s.records) (length (tasks z.tiles))) (eqb (length s.workers) z.workers) (ne_eqb (length s.records) (length (tasks z.tiles)) (λ q. absurd (omega (arith, few, long, q))))
 
   -- whatever the test of lengths is, where wrong lengths fail it
   chain_by : (b : Bool) (rest : Answer) → (bad_lengths (plan_of z) z.workers s ≡ true → b ≡ true) → refuse 1 0 (bad_sizes z) (refuse 2 0 b rest) ≡ told z

@@ -19,7 +19,7 @@ use Rattle.model.specs.Task.{t_1}
 use Rattle.model.specs.Plan.{plan_of}
 use Rattle.model.specs.Calls.{Lent, worker, record_of, with_take, with_column, changed, took, column_of, advanced}
 use Rattle.worker.specs.Holding.{idle}
-use Rattle.model.specs.Refusal.{Reply, replied, bad_sizes, bad_block, bad_lengths, damaged, bad_tiles, no_worker, take_answer, take_call, column_answer, column_call}
+use Rattle.model.specs.Refusal.{Reply, replied, bad_sizes, bad_lengths, damaged, bad_tiles, no_worker, take_answer, take_call, column_answer, column_call}
 use Rattle.laws.proofs.Refusals.{passed}
 use Rattle.laws.proofs.Tests.{lt_or_le, never, or_right}
 use Rattle.records.specs.Records.{records_from, blank, crew, lent, all_lent}
@@ -67,10 +67,9 @@ module _ (z : Sizes) where
     idle_refused l e =
         let a = passed 1 0 (bad_sizes z) _ e in
         let b = passed 2 0 (bad_lengths (plan_of z) z.workers s) _ a.1 in
-        let c = passed 17 0 (bad_block z) _ b.1 in
-        let d = passed 4 0 (damaged (plan_of z) s || bad_tiles (plan_of z) w s) _ c.1 in
-        let f = passed 5 w (no_worker w s || not (worker s w).busy) _ d.1 in
-        never (or_right (no_worker w s) (not (worker s w).busy) (ap (λ (h : Worker). not h.busy) (no_slot l))) f.0
+        let c = passed 4 0 (damaged (plan_of z) s || bad_tiles (plan_of z) w s) _ b.1 in
+        let d = passed 5 w (no_worker w s || not (worker s w).busy) _ c.1 in
+        never (or_right (no_worker w s) (not (worker s w).busy) (ap (λ (h : Worker). not h.busy) (no_slot l))) d.0
 
     left_record : TaskRecord
     left_record =
@@ -85,48 +84,48 @@ module _ (z : Sizes) where
 
 -- ---- over copies, of which only record p is copied back
 
-module _ (z : Sizes) (ms : List Float) (ls : List ℕ) (sl : List Float) (ys : List TaskRecord) (ws : Workers) where
+module _ (z : Sizes) (ms : List Float) (ls : List ℕ) (ys : List TaskRecord) (ws : Workers) where
   abbrev n : ℕ
   n = looked (length ys)
 
   -- the one record is all that differs
-  all_stored : (p : ℕ) (X₀ X : List (List ℕ)) (ms' : List Float) (ls' : List ℕ) (sl' : List Float) (X' : List (List ℕ)) (ws' : Workers) (zs : List TaskRecord) (left : Lent) → length X ≡ 1497 → records_from X ≡ copied n 0 ys (records_from X₀)
-      → Changes p (all_lent ms ls sl (take n X) ws) left → all_lent ms' ls' sl' (take n X') ws' ≡ left
+  all_stored : (p : ℕ) (X₀ X : List (List ℕ)) (ms' : List Float) (ls' : List ℕ) (X' : List (List ℕ)) (ws' : Workers) (zs : List TaskRecord) (left : Lent) → length X ≡ 1497 → records_from X ≡ copied n 0 ys (records_from X₀)
+      → Changes p (all_lent ms ls (take n X) ws) left → all_lent ms' ls' (take n X') ws' ≡ left
       → zs ≡ copied (cond (ltb p n) (p + 1) 0 - p) p (records_from X') ys → zs ≡ copied n 0 (records_from X') ys
   unfolding lent
-  all_stored p X₀ X ms' ls' sl' X' ws' zs left long loaded changes f stored =
+  all_stored p X₀ X ms' ls' X' ws' zs left long loaded changes f stored =
       stored ∙ copied_one n (records_from X') ys p changes.0 (looked_there (length ys))
-      (sym (take_records n X') ∙ ap (λ (s : Lent). s.records) f ∙ changes.1 ∙ ap (λ r. set r p changes.0) (front ms ls sl ys ws X₀ X long loaded))
+      (sym (take_records n X') ∙ ap (λ (s : Lent). s.records) f ∙ changes.1 ∙ ap (λ r. set r p changes.0) (front ms ls ys ws X₀ X long loaded))
 
-  workers_lent : (X : List (List ℕ)) → (all_lent ms ls sl (take n X) ws).workers ≡ crew ws.slots ws.count
+  workers_lent : (X : List (List ℕ)) → (all_lent ms ls (take n X) ws).workers ≡ crew ws.slots ws.count
   unfolding lent
   workers_lent X = refl
 
-  pub take_whole : (w p : ℕ) (X₀ X : List (List ℕ)) (ms' : List Float) (ls' : List ℕ) (sl' : List Float) (X' : List (List ℕ)) (r : CallReply) (zs : List TaskRecord) → length X ≡ 1497 → length X' ≡ 1497 → records_from X ≡ copied n 0 ys (records_from X₀)
-      → ◌≡◌ {A = Reply} (record { answer = r.answer; left = all_lent ms' ls' sl' (take n X') r.workers }) (take_call z w p (all_lent ms ls sl (take n X) ws))
+  pub take_whole : (w p : ℕ) (X₀ X : List (List ℕ)) (ms' : List Float) (ls' : List ℕ) (X' : List (List ℕ)) (r : CallReply) (zs : List TaskRecord) → length X ≡ 1497 → length X' ≡ 1497 → records_from X ≡ copied n 0 ys (records_from X₀)
+      → ◌≡◌ {A = Reply} (record { answer = r.answer; left = all_lent ms' ls' (take n X') r.workers }) (take_call z w p (all_lent ms ls (take n X) ws))
       → zs ≡ copied (cond (ltb p n) (p + 1) 0 - p) p (records_from X') ys
-      → ◌≡◌ {A = Reply} (record { answer = r.answer; left = whole ms' ls' sl' zs r.workers }) (take_call z w p (whole ms ls sl ys ws))
-  take_whole w p X₀ X ms' ls' sl' X' r zs long long' loaded e stored =
+      → ◌≡◌ {A = Reply} (record { answer = r.answer; left = whole ms' ls' zs r.workers }) (take_call z w p (whole ms ls ys ws))
+  take_whole w p X₀ X ms' ls' X' r zs long long' loaded e stored =
       let answer : Lent → Answer = λ s. (take_call z w p s).answer in
       let left : Lent → Lent = λ s. (take_call z w p s).left in
-      let all = all_stored p X₀ X ms' ls' sl' X' r.workers zs (left (all_lent ms ls sl (take n X) ws)) long loaded (take_changes z w p (all_lent ms ls sl (take n X) ws)) (ap (λ (k : Reply). k.left) e) stored in
+      let all = all_stored p X₀ X ms' ls' X' r.workers zs (left (all_lent ms ls (take n X) ws)) long loaded (take_changes z w p (all_lent ms ls (take n X) ws)) (ap (λ (k : Reply). k.left) e) stored in
       λ t. record {
-        answer = answers ms ls sl ys ws X₀ X long loaded answer left (told z) (λ s h. ap (λ (k : Reply). k.answer) (take_long z s h w p)) r.answer (ap (λ (k : Reply). k.answer) e) t;
-        left = leaves ms ls sl ys ws X₀ X long loaded answer left (told z) (λ s h. ap (λ (k : Reply). k.answer) (take_long z s h w p)) r.answer (ap (λ (k : Reply). k.answer) e)
-            (λ s h. ap (λ (k : Reply). k.left) (take_long z s h w p)) ms' ls' sl' X' r.workers long' (ap (λ (k : Reply). k.left) e) zs all t;
+        answer = answers ms ls ys ws X₀ X long loaded answer left (told z) (λ s h. ap (λ (k : Reply). k.answer) (take_long z s h w p)) r.answer (ap (λ (k : Reply). k.answer) e) t;
+        left = leaves ms ls ys ws X₀ X long loaded answer left (told z) (λ s h. ap (λ (k : Reply). k.answer) (take_long z s h w p)) r.answer (ap (λ (k : Reply). k.answer) e)
+            (λ s h. ap (λ (k : Reply). k.left) (take_long z s h w p)) ms' ls' X' r.workers long' (ap (λ (k : Reply). k.left) e) zs all t;
       }
 
-  pub column_whole : (w : ℕ) (X₀ X : List (List ℕ)) (ms' : List Float) (ls' : List ℕ) (sl' : List Float) (X' : List (List ℕ)) (r : CallReply) (zs : List TaskRecord) → length X ≡ 1497 → length X' ≡ 1497 → records_from X ≡ copied n 0 ys (records_from X₀)
-      → ◌≡◌ {A = Reply} (record { answer = r.answer; left = all_lent ms' ls' sl' (take n X') r.workers }) (column_call z w (all_lent ms ls sl (take n X) ws))
+  pub column_whole : (w : ℕ) (X₀ X : List (List ℕ)) (ms' : List Float) (ls' : List ℕ) (X' : List (List ℕ)) (r : CallReply) (zs : List TaskRecord) → length X ≡ 1497 → length X' ≡ 1497 → records_from X ≡ copied n 0 ys (records_from X₀)
+      → ◌≡◌ {A = Reply} (record { answer = r.answer; left = all_lent ms' ls' (take n X') r.workers }) (column_call z w (all_lent ms ls (take n X) ws))
       → zs ≡ copied (cond (ltb (get_or ws.slots w idle).task n) ((get_or ws.slots w idle).task + 1) 0 - (get_or ws.slots w idle).task) (get_or ws.slots w idle).task (records_from X') ys
-      → ◌≡◌ {A = Reply} (record { answer = r.answer; left = whole ms' ls' sl' zs r.workers }) (column_call z w (whole ms ls sl ys ws))
-  column_whole w X₀ X ms' ls' sl' X' r zs long long' loaded e stored =
+      → ◌≡◌ {A = Reply} (record { answer = r.answer; left = whole ms' ls' zs r.workers }) (column_call z w (whole ms ls ys ws))
+  column_whole w X₀ X ms' ls' X' r zs long long' loaded e stored =
       let answer : Lent → Answer = λ s. (column_call z w s).answer in
       let left : Lent → Lent = λ s. (column_call z w s).left in
-      let changes = column_changes z w (all_lent ms ls sl (take n X) ws) ws (workers_lent X) in
-      let all = all_stored (get_or ws.slots w idle).task X₀ X ms' ls' sl' X' r.workers zs (left (all_lent ms ls sl (take n X) ws)) long loaded changes (ap (λ (k : Reply). k.left) e) stored in
+      let changes = column_changes z w (all_lent ms ls (take n X) ws) ws (workers_lent X) in
+      let all = all_stored (get_or ws.slots w idle).task X₀ X ms' ls' X' r.workers zs (left (all_lent ms ls (take n X) ws)) long loaded changes (ap (λ (k : Reply). k.left) e) stored in
       λ t. record {
-        answer = answers ms ls sl ys ws X₀ X long loaded answer left (told z) (λ s h. ap (λ (k : Reply). k.answer) (column_long z s h w)) r.answer (ap (λ (k : Reply). k.answer) e) t;
-        left = leaves ms ls sl ys ws X₀ X long loaded answer left (told z) (λ s h. ap (λ (k : Reply). k.answer) (column_long z s h w)) r.answer (ap (λ (k : Reply). k.answer) e)
-            (λ s h. ap (λ (k : Reply). k.left) (column_long z s h w)) ms' ls' sl' X' r.workers long' (ap (λ (k : Reply). k.left) e) zs all t;
+        answer = answers ms ls ys ws X₀ X long loaded answer left (told z) (λ s h. ap (λ (k : Reply). k.answer) (column_long z s h w)) r.answer (ap (λ (k : Reply). k.answer) e) t;
+        left = leaves ms ls ys ws X₀ X long loaded answer left (told z) (λ s h. ap (λ (k : Reply). k.answer) (column_long z s h w)) r.answer (ap (λ (k : Reply). k.answer) e)
+            (λ s h. ap (λ (k : Reply). k.left) (column_long z s h w)) ms' ls' X' r.workers long' (ap (λ (k : Reply). k.left) e) zs all t;
       }

@@ -5,10 +5,10 @@ use Rattle.worker.specs.declared.Workers.{Workers}
 use Rattle.model.specs.Calls.{Lent}
 use Rattle.records.specs.Records.{crew}
 
--- what is lent: matrix, lists, slice, records, and the workers
-unfoldable pub whole : List Float → List ℕ → List Float → List TaskRecord → Workers → Lent
-whole matrix lists slice records ws = record {
-  buffers = record { matrix = matrix; lists = lists; slice = slice };
+-- what is lent: matrix, lists, records, and the workers
+unfoldable pub whole : List Float → List ℕ → List TaskRecord → Workers → Lent
+whole matrix lists records ws = record {
+  buffers = record { matrix = matrix; lists = lists };
   records = records;
   workers = crew ws.slots ws.count;
   number = ws.number;

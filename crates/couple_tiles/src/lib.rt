@@ -17,5 +17,5 @@ pub fn couple_rows(m: &mut [f64], t: usize, u: usize, d: usize, c: usize, e: usi
     ensures { TilesCoupled t c e u d m.old m.new result }
 {
     exchange_entry(m, t, t, c, u, d, c, e);
-    eliminate(m, t, t, d, u + c * t, t, c)
+    eliminate(m, t, d, u + c * t, t, c)
 }

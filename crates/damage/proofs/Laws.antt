@@ -227,7 +227,7 @@ number_first N = let z : 0 - 0 ≡ 0 = refl in omega arith
 
 -- ---- all of it
 
-module _ (z : Sizes) (m : List Float) (l : List ℕ) (sl : List Float) (r : List (List ℕ)) (h : List Worker) (n : ℕ) where
+module _ (z : Sizes) (m : List Float) (l : List ℕ) (r : List (List ℕ)) (h : List Worker) (n : ℕ) where
   abbrev W : ℕ
   W = z.workers
 
@@ -242,16 +242,16 @@ module _ (z : Sizes) (m : List Float) (l : List ℕ) (sl : List Float) (r : List
   abbrev pub entries : Bool
   entries = some (bad_entry (plan_of z) (lists_alone l)) (below (z.tiles * z.tiles * z.side))
 
-  parts : damaged (plan_of z) (lent m l sl r h W n) ≡ ((records || workers) || entries)
+  parts : damaged (plan_of z) (lent m l r h W n) ≡ ((records || workers) || entries)
   unfolding damaged bad_record bad_hold bad_ties tie_limit bad_calls call_limit bad_number next_column bad_worker bad_entry lent plan marks_of ties_of
   parts = refl
 
-  pub damaged_1 : (a : Bool) → a ≡ records → a ≡ true → true ≡ damaged (plan_of z) (lent m l sl r h W n)
+  pub damaged_1 : (a : Bool) → a ≡ records → a ≡ true → true ≡ damaged (plan_of z) (lent m l r h W n)
   damaged_1 a e q = rw (parts, sym e ∙ q)
 
   module _ (a : Bool) (e : a ≡ records) (q : a ≡ false) where
-    pub damaged_2 : (b : Bool) → b ≡ workers → b ≡ true → true ≡ damaged (plan_of z) (lent m l sl r h W n)
+    pub damaged_2 : (b : Bool) → b ≡ workers → b ≡ true → true ≡ damaged (plan_of z) (lent m l r h W n)
     damaged_2 b f p = rw (parts, sym e ∙ q, sym f ∙ p)
 
-    pub damaged_3 : (b c : Bool) → b ≡ workers → b ≡ false → c ≡ entries → c ≡ damaged (plan_of z) (lent m l sl r h W n)
+    pub damaged_3 : (b c : Bool) → b ≡ workers → b ≡ false → c ≡ entries → c ≡ damaged (plan_of z) (lent m l r h W n)
     damaged_3 b c f p g = rw (parts, sym e ∙ q, sym f ∙ p) g

@@ -93,7 +93,7 @@ fn bad_records(z: Sizes, records: &[Record], workers: Slots, number: u32) -> boo
 // Whether what is lent is damaged, by refusal 4 but for elements.
 pub fn damaged(z: Sizes, lists: &[u8], records: &[Record], workers: Slots, number: u32) -> bool
     requires { Sized z × ListsFit z lists.now × RecordsFit z records.now }
-    ensures { (matrix slice : List Float) → result ≡ isDamaged (plan_of z) (lent matrix lists.now slice records.now workers z.workers number) }
+    ensures { (matrix : List Float) → result ≡ isDamaged (plan_of z) (lent matrix lists.now records.now workers z.workers number) }
 {
     if bad_records(z, records, workers, number) {
         return true;

@@ -1,7 +1,7 @@
 -- A run is accepted exactly where what is lent is whole; and there a take of a ready task by an idle worker, and a column of a busy one.
 -- Assumes nothing.
 use Prim.Native.Nat.{ℕ, ◌*◌, ◌<◌}
-use mathlib.Core.Bool.{true, false, not, ◌&&◌, ◌||◌}
+use mathlib.Core.Bool.{true, false, not, ◌||◌}
 use mathlib.Core.Path.{◌≡◌, refl, sym, ap, subst}
 use mathlib.Core.List.{map}
 use native.Mathlib.Omega.{arith}
@@ -17,14 +17,14 @@ use Rattle.model.specs.Plan.{plan, plan_of}
 use Rattle.model.specs.Links.{ready}
 use Rattle.model.specs.Calls.{Lent, marks_of, worker}
 use Rattle.worker.specs.Holding.{idle}
-use Rattle.model.specs.Refusal.{bad_sizes, bad_block, no_worker, bad_numbers, bad_lengths, bad_record, bad_hold, bad_ties, bad_calls, call_limit, bad_number, bad_worker, bad_entry, damaged, take_answer, column_answer, run_answer}
+use Rattle.model.specs.Refusal.{bad_sizes, no_worker, bad_lengths, bad_record, bad_hold, bad_ties, bad_calls, call_limit, bad_number, bad_worker, bad_entry, damaged, take_answer, column_answer, run_answer}
 use Rattle.laws.proofs.Refusals.{passed}
-use Rattle.laws.proofs.Tests.{never, and_left, and_right, false_if, or_false, false_or, fails_below}
+use Rattle.laws.proofs.Tests.{never, false_if, or_false, false_or, fails_below}
 use Rattle.cells.proofs.Members.{some_elim, none_below, member_index, index_member}
 use Rattle.cells.proofs.Machine.{count, Stated}
-use Rattle.demand.proofs.Whole.{Whole, numbers_finite}
+use Rattle.demand.proofs.Whole.{Whole, tiles_finite}
 use Rattle.demand.proofs.Checks.{passes, fails, lengths, good_lengths, recorded, good_record, few_ties, good_ties, few_calls, good_calls, one_holder, good_hold, at_work, good_worker}
-use Rattle.demand.proofs.Limits.{in_limits, good_entry, good_tiles, good_numbers}
+use Rattle.demand.proofs.Limits.{in_limits, good_entry, finite_matrix, good_tiles}
 
 module _ (z : Sizes) (s : Lent) where
   pub run_whole : run_answer z s ≡ Accepted → Whole z s
@@ -32,10 +32,8 @@ module _ (z : Sizes) (s : Lent) where
   run_whole e =
       let a = passed 1 0 (bad_sizes z) _ e in
       let b = passed 2 0 (bad_lengths (plan_of z) z.workers s) _ a.1 in
-      let x = passed 17 0 (bad_block z) _ b.1 in
-      let c = passed 4 0 (damaged (plan_of z) s || bad_numbers s) Accepted x.1 in
-      let d = or_false (damaged (plan_of z) s) (bad_numbers s) c.0 in
-      let finite = not-false (all_finite s.buffers.matrix && all_finite s.buffers.slice) (unfold bad_numbers in d.1) in
+      let c = passed 4 0 (damaged (plan_of z) s || not (all_finite s.buffers.matrix)) Accepted b.1 in
+      let d = or_false (damaged (plan_of z) s) (not (all_finite s.buffers.matrix)) c.0 in
       let rs = some (bad_record (plan_of z) s) (below (count z)) in
       let hs = some (bad_hold (plan_of z) s) (below (count z)) in
       let ws = some (bad_worker (plan_of z) s) s.workers in
@@ -51,7 +49,6 @@ module _ (z : Sizes) (s : Lent) where
       let l : Stated z s = lengths z s b.0 in
       record {
         fit = a.0;
-        block = x.0;
         stated = l;
         records = λ p k. recorded z s l p k (fails_below (bad_record (plan_of z) s) (count z) p h.0 k);
         sums = λ p l. few_ties z s p (fails_below (bad_ties (plan_of z) s) (count z) p k.1 l);
@@ -61,8 +58,7 @@ module _ (z : Sizes) (s : Lent) where
         held = λ w k m. at_work z s w (unfold worker in fails (bad_worker (plan_of z) s) s.workers (get_or s.workers w idle) g.1
             (index_member idle s.workers w (subst (λ (n : ℕ). w < n) (sym l.workers) k))) m;
         rows = in_limits z s l.sized (λ x k. fails_below (bad_entry (plan_of z) s) (z.tiles * z.tiles * z.side) x f.1 k);
-        numbers = numbers_finite z.tiles z.side z.block s.buffers (and_left (all_finite s.buffers.matrix) _ finite)
-            (and_right (all_finite s.buffers.matrix) _ finite);
+        tiles = tiles_finite z.tiles z.side s.buffers (not-false (all_finite s.buffers.matrix) d.1);
       }
 
   module _ (h : Whole z s) where
@@ -94,19 +90,19 @@ module _ (z : Sizes) (s : Lent) where
     pub run_accepted : run_answer z s ≡ Accepted
     unfolding run_answer
     run_accepted =
-        passes 1 0 _ _ h.fit (passes 2 0 _ _ (good_lengths z s h.stated) (passes 17 0 _ _ h.block
-        (passes 4 0 _ _ (false_or _ _ undamaged (good_numbers z s h.stated.sized h.numbers)) refl)))
+        passes 1 0 _ _ h.fit (passes 2 0 _ _ (good_lengths z s h.stated)
+        (passes 4 0 _ _ (false_or _ _ undamaged (ap not (finite_matrix z s h.stated.sized h.tiles))) refl))
 
     pub take_accepted : (w p : ℕ) → w < z.workers → (worker s w).busy ≡ false → p < count z → ready (tasks z.tiles) (marks_of s) p ≡ true
         → take_answer z w p s ≡ Accepted
     unfolding take_answer plan
     take_accepted w p hw hb hp hr =
-        passes 1 0 _ _ h.fit (passes 2 0 _ _ (good_lengths z s h.stated) (passes 17 0 _ _ h.block (passes 4 0 _ _ undamaged
-        (passes 5 w _ _ (false_or _ _ (is_worker w hw) hb) (passes 6 0 _ _ (lt-leb (count z) p hp) (passes 7 p _ _ (ap not hr) refl))))))
+        passes 1 0 _ _ h.fit (passes 2 0 _ _ (good_lengths z s h.stated) (passes 4 0 _ _ undamaged
+        (passes 5 w _ _ (false_or _ _ (is_worker w hw) hb) (passes 6 0 _ _ (lt-leb (count z) p hp) (passes 7 p _ _ (ap not hr) refl)))))
 
     pub column_accepted : (w : ℕ) → w < z.workers → (worker s w).busy ≡ true → column_answer z w s ≡ Accepted
     unfolding column_answer
     column_accepted w hw hb =
-        passes 1 0 _ _ h.fit (passes 2 0 _ _ (good_lengths z s h.stated) (passes 17 0 _ _ h.block
-        (passes 4 0 _ _ (false_or _ _ undamaged (good_tiles z s h.stated.sized h.numbers w (h.held w hw hb).task))
-        (passes 5 w _ _ (false_or _ _ (is_worker w hw) (ap not hb)) refl))))
+        passes 1 0 _ _ h.fit (passes 2 0 _ _ (good_lengths z s h.stated)
+        (passes 4 0 _ _ (false_or _ _ undamaged (good_tiles z s h.stated.sized h.tiles w (h.held w hw hb).task))
+        (passes 5 w _ _ (false_or _ _ (is_worker w hw) (ap not hb)) refl)))

@@ -7,6 +7,7 @@ use mathlib.Core.List.{List}
 use native.Mathlib.Nat.{mul-mul-mul_comm}
 use native.Mathlib.Omega.{arith}
 use lib.Dec.{eqb, ltb}
+use native.Mathlib.Omega.{arith}
 use lib.ListN.{length, get_or, get_or-map}
 use borrow.Author.Tests.{eqb-true, eq-eqb, ltb-true, ltb-false, lt-ltb, le-leb, not-false}
 use Rattle.model.specs.declared.Sizes.{Sizes}
@@ -16,7 +17,6 @@ use Rattle.model.specs.declared.Answer.TheVariants.{Accepted, Refused}
 use Rattle.model.specs.Lists.{some, keep}
 use Rattle.model.specs.Task.{Task, t_1, tasks}
 use Rattle.model.specs.Plan.{plan, plan_of, order}
-use Rattle.model.specs.Buffer.{slice_length}
 use Rattle.model.specs.Links.{task, mark}
 use Rattle.model.specs.Calls.{Lent, marks_of, ties_of, record_of, worker}
 use Rattle.worker.specs.Holding.{idle}
@@ -53,28 +53,26 @@ unfolding bad_lengths plan order
 lengths z s e =
     let m = eqb (length s.buffers.matrix) (z.tiles * z.side * (z.tiles * z.side)) in
     let l = eqb (length s.buffers.lists) (z.tiles * z.tiles * z.side) in
-    let k = eqb (length s.buffers.slice) (slice_length z.tiles z.side z.block) in
     let r = eqb (length s.records) (count z) in
     let w = eqb (length s.workers) z.workers in
-    let a = not-false (m && l && k && r && w) e in
-    let b = and_left (m && l && k && r) w a in
-    let c = and_left (m && l && k) r b in
-    let d = and_left (m && l) k c in
+    let a = not-false (m && l && r && w) e in
+    let b = and_left (m && l && r) w a in
+    let c = and_left (m && l) r b in
     record {
       sized = record {
-        matrix = eqb-true _ _ (and_left m l d) ∙ mul-mul-mul_comm z.tiles z.side z.tiles z.side;
-        lists = eqb-true _ _ (and_right m l d);
-        slice = eqb-true _ _ (and_right (m && l) k c);
+        matrix = eqb-true _ _ (and_left m l c) ∙ mul-mul-mul_comm z.tiles z.side z.tiles z.side;
+        lists = eqb-true _ _
+            (and_right m l c);
       };
-      records = eqb-true _ _ (and_right (m && l && k) r b);
-      workers = eqb-true _ _ (and_right (m && l && k && r) w a);
+      records = eqb-true _ _ (and_right (m && l) r b);
+      workers = eqb-true _ _ (and_right (m && l && r) w a);
     }
 
 pub good_lengths : (z : Sizes) (s : Lent) → Stated z s → bad_lengths (plan_of z) z.workers s ≡ false
 unfolding bad_lengths plan order
-good_lengths z s g = ap not (and_intro _ _ (and_intro _ _ (and_intro _ _ (and_intro _ _
+good_lengths z s g = ap not (and_intro _ _ (and_intro _ _ (and_intro _ _
     (eq-eqb _ _ (g.sized.matrix ∙ sym (mul-mul-mul_comm z.tiles z.side z.tiles z.side))) (eq-eqb _ _ g.sized.lists))
-    (eq-eqb _ _ g.sized.slice)) (eq-eqb _ _ g.records)) (eq-eqb _ _ g.workers))
+    (eq-eqb _ _ g.records)) (eq-eqb _ _ g.workers))
 
 module _ (z : Sizes) (s : Lent) where
   abbrev N : ℕ

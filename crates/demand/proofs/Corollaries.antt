@@ -9,7 +9,7 @@ use Rattle.model.specs.declared.Sizes.{Sizes}
 use Rattle.model.specs.declared.Answer.TheVariants.{Accepted}
 use Rattle.model.specs.declared.RunAnswer.TheVariants.{Finished}
 use Rattle.model.specs.Task.{tasks}
-use Rattle.model.specs.Plan.{plan_with, plan_of}
+use Rattle.model.specs.Plan.{plan, plan_of}
 use Rattle.worker.specs.Holding.{idle}
 use Rattle.model.specs.Loops.{loops, outcome}
 use Rattle.model.specs.Calls.{Lent, state_of, without_calls}
@@ -66,7 +66,7 @@ alike z y s r cs ds p = record {
 }
   where
     plans : plan_of z ≡ plan_of y
-    plans = λ i. plan_with (p.tiles i) (p.side i) (p.block i)
+    plans = λ i. plan (p.tiles i) (p.side i)
 
     same : state_of (end z s cs) ≡ state_of (end y r ds)
     same = (demand_3 z s cs p.opened).same p.finished ∙ (λ i. loops (plans i) (p.matrix i)) ∙ sym ((demand_3 y r ds p.opened').same p.finished')

@@ -1,9 +1,9 @@
 -- The run's number is the sum of the accepted takes and columns of all tasks, and each of them is a count that its columns carry along.
 -- Assumes nothing.
 use Prim.Native.Nat.{ℕ, zero, suc, ◌+◌, ◌<◌}
-use mathlib.Core.Bool.{Bool, true, cond}
+use mathlib.Core.Bool.{Bool, true, false, cond}
 use mathlib.Core.Path.{◌≡◌, refl, sym, ap, ◌∙◌, subst}
-use mathlib.Core.List.{List, map}
+use mathlib.Core.List.{List, [], map}
 use native.Mathlib.Omega.{arith}
 use lib.Dec.{eqb}
 use lib.ListN.{length}
@@ -11,27 +11,32 @@ use Rattle.model.specs.declared.Sizes.{Sizes}
 use Rattle.model.specs.declared.Answer.TheVariants.{Accepted}
 use Rattle.model.specs.Lists.{total, run, below}
 use Rattle.model.specs.Task.{tasks}
-use Rattle.model.specs.Plan.{plan_of}
+use Rattle.model.specs.Plan.{plan, plan_of}
+use Rattle.model.specs.Links.{mark}
 use Rattle.model.specs.Links as ML
-use Rattle.model.specs.Calls.{Lent, worker, took, advanced, opened}
+use Rattle.model.specs.Calls.{Lent, marks_of, worker, took, advanced, all_finished, opened}
 use Rattle.model.specs.Refusal.{open_call}
 use Rattle.model.specs.History.{Call, spent_on}
 use Rattle.demand.specs.Demand.{end}
+use Rattle.order_free.specs.Graph.{finished, is_waiting}
 use Rattle.order_free.specs.Machine as OM
 use Rattle.order_free.specs.Machine.{State, Worker, take, column, accepts, step, effect, about, works_on}
-use Rattle.order_free.specs.Sums.{summed}
+use Rattle.order_free.specs.Sums.{summed, loop_gain}
 use Rattle.order_free.specs.Counting.{ones, begun, made_for}
 use Rattle.order_free.proofs.Invariant.{Inv}
+use Rattle.order_free.proofs.Graph.{finished_begun}
 use Rattle.order_free.proofs.Calls.{always}
 use Rattle.order_free.proofs.Sums.{Sums, start_sums, summed_sums}
 use Rattle.order_free.proofs.Counting.{made_step, sums_same}
+use Rattle.laws.proofs.Every.{every_at}
 use Rattle.cells.specs.Cells.{Val}
 use Rattle.cells.proofs.Valid.{tasks_valid}
 use Rattle.cells.proofs.Instance.{system_laws}
+use Rattle.cells.proofs.Marks.{to_mark, finished_is}
 use Rattle.cells.proofs.Loops.{σ₀}
-use Rattle.cells.proofs.Machine.{S, count, busy_of, abs, opened_is, took_is, advanced_is}
+use Rattle.cells.proofs.Machine.{S, count, busy_of, abs, length_marks, opened_is, took_is, advanced_is}
 use Rattle.laws.proofs.Totals.{total_zero, total_last, total_same, total_one_more}
-use Rattle.demand.proofs.Whole.{in_range}
+use Rattle.demand.proofs.Whole.{Whole, in_range}
 use Rattle.demand.proofs.Moves.{Move, takes, works}
 use Rattle.demand.proofs.Reach.{Reach, move_reach, may_take, may_column}
 use Rattle.demand.proofs.Opening.{Opened, opened_by}
@@ -48,7 +53,7 @@ module _ (z : Sizes) (σ : ℕ → Val) (q : ℕ) where
     pub mine : n ≡ made_for (S z) (abs z s) worked q
 
   pub inv_of : {n : ℕ} {s : Lent} → Reach z σ q n s → Inv (S z) z.workers σ (abs z s)
-  inv_of r = subst (Inv (S z) z.workers σ) (sym r.is) (always (S z) z.workers σ (system_laws z.tiles z.side z.block (tasks z.tiles) (tasks_valid z.tiles) (in_range z r.whole.fit).some_side) r.calls)
+  inv_of r = subst (Inv (S z) z.workers σ) (sym r.is) (always (S z) z.workers σ (system_laws z.tiles z.side (tasks z.tiles) (tasks_valid z.tiles) (in_range z r.whole.fit).some_side) r.calls)
 
   -- one more call, about task p
   counts : (n p : ℕ) (s s' : Lent) → Counted n s → Reach z σ q (n + cond (eqb p q) 1 0) s' → (c : OM.Call) → p < count z
@@ -56,7 +61,7 @@ module _ (z : Sizes) (σ : ℕ → Val) (q : ℕ) where
       → s'.number ≡ suc s.number → Counted (n + cond (eqb p q) 1 0) s'
   unfolding step
   counts n p s s' k r c hp a e f g =
-      let laws = system_laws z.tiles z.side z.block (tasks z.tiles) (tasks_valid z.tiles) (in_range z r.whole.fit).some_side in
+      let laws = system_laws z.tiles z.side (tasks z.tiles) (tasks_valid z.tiles) (in_range z r.whole.fit).some_side in
       let I = inv_of k.reach in
       let x : ℕ → ℕ = summed (S z) (ones (S z)) c (abs z s) k.worked in
       let to : step (S z) z.workers c (abs z s) ≡ abs z s' = unfold step in (ap (λ (b : Bool). cond b (effect (S z) c (abs z s)) (abs z s)) a ∙ sym e) in
@@ -104,7 +109,7 @@ module _ (z : Sizes) (s : Lent) (e : (open_call z s).answer ≡ Accepted) where
   o = opened_by z s e
 
   abbrev τ : ℕ → Val
-  τ = σ₀ z.tiles z.side z.block s.buffers.matrix
+  τ = σ₀ z.tiles z.side s.buffers.matrix
 
   first : (q : ℕ) → Counted z τ q 0 (open_call z s).left
   first q =

@@ -1,7 +1,7 @@
 -- What each accepted take and column keeps, any list of calls keeps, with its deeds beside it. Assumes nothing.
 use Prim.Native.Nat.{ℕ, zero, suc, ◌%◌, ◌<◌}
 use mathlib.Core.Bool.{Bool, true, false, cond}
-use mathlib.Core.Path.{◌≡◌, refl, sym, subst, subst₂}
+use mathlib.Core.Path.{◌≡◌, refl, sym, subst}
 use mathlib.Core.Logic.{◌⊎◌, inl, inr}
 use mathlib.Core.List.{List, [], ◌∷◌, ◌++◌, append-nil, append_assoc}
 use native.Mathlib.Nat.{mod-lt}
@@ -12,16 +12,17 @@ use Rattle.model.specs.declared.Answer.TheVariants.{Accepted, Refused}
 use Rattle.model.specs.Lists.{in_turn, first_or}
 use Rattle.model.specs.Plan.{plan_of}
 use Rattle.model.specs.Calls.{Lent, RunEnd, worker, took, advanced, ready_tasks, all_finished, has_work, turn, next_worker, run_from, whole_run}
-use Rattle.model.specs.Refusal.{replied, run_replied, take_answer, take_call, column_answer, column_call, run_answer, run_call}
+use Rattle.model.specs.Refusal.{replied, run_replied, bad_lengths, take_answer, take_call, column_answer, column_call, run_answer, run_call}
 use Rattle.model.specs.History as H
 use Rattle.model.specs.History.{Asked, Call, left_by, after_calls, turn_task}
 use Rattle.laws.proofs.Refusals.{passed}
+use Rattle.laws.proofs.Tests.{true_or_false, never}
 use Rattle.demand.specs.Deeds.{Deed, did_take, did_column, turn_deed, run_deeds, where_accepted, deeds_by, deeds}
 use Rattle.demand.proofs.Whole.{Whole, in_range}
+use Rattle.demand.proofs.Checks.{lengths}
 use Rattle.demand.proofs.Answers.{take_accepted, column_accepted}
 use Rattle.demand.proofs.Progress.{first_ready, next_works}
-use Rattle.demand.proofs.OneTile.{SameCall}
-use Rattle.demand.proofs.Fitting.{Refuses, told, wrong}
+use Rattle.demand.proofs.Calls.{same_sizes}
 
 -- a property of the deeds so far and of what is lent
 pub record Kept (z : Sizes) (P : List Deed → Lent → Type 0) : Type 0 where
@@ -92,19 +93,19 @@ module _ (z : Sizes) (P : List Deed → Lent → Type 0) (k : Kept z P) where
   told_these ds s r (H.whole_run b) = replies_run (λ es. P (ds ++ es)) (run_answer z s) s _ _ (stays ds s r)
       (λ e. run_keeps b 0 0 (in_range z (k.whole r).fit).some_workers ds s r)
 
-  -- a call that is refused for what it is told
-  refused : (ds : List Deed) (s : Lent) → P ds s → (y : Sizes) (a : Asked) → Refuses y s → P (ds ++ deeds_by y a s) (left_by y a s)
+  -- a call that is told other sizes is refused for its lengths
+  refused : (ds : List Deed) (s : Lent) → P ds s → (y : Sizes) (a : Asked) → bad_lengths (plan_of y) y.workers s ≡ true → P (ds ++ deeds_by y a s) (left_by y a s)
   unfolding left_by deeds_by take_call column_call run_call take_answer column_answer run_answer
-  refused ds s r y (H.take w p) e = replies (λ es. P (ds ++ es)) _ s _ _ (stays ds s r) (λ f. let b = passed 2 0 _ _ (passed 1 0 _ _ f).1 in wrong e b.0 (passed 17 0 _ _ b.1).0)
-  refused ds s r y (H.column w) e = replies (λ es. P (ds ++ es)) _ s _ _ (stays ds s r) (λ f. let b = passed 2 0 _ _ (passed 1 0 _ _ f).1 in wrong e b.0 (passed 17 0 _ _ b.1).0)
-  refused ds s r y (H.whole_run b) e = replies_run (λ es. P (ds ++ es)) _ s _ _ (stays ds s r) (λ f. let b = passed 2 0 _ _ (passed 1 0 _ _ f).1 in wrong e b.0 (passed 17 0 _ _ b.1).0)
+  refused ds s r y (H.take w p) e = replies (λ es. P (ds ++ es)) _ s _ _ (stays ds s r) (λ f. never e (passed 2 0 _ _ (passed 1 0 _ _ f).1).0)
+  refused ds s r y (H.column w) e = replies (λ es. P (ds ++ es)) _ s _ _ (stays ds s r) (λ f. never e (passed 2 0 _ _ (passed 1 0 _ _ f).1).0)
+  refused ds s r y (H.whole_run b) e = replies_run (λ es. P (ds ++ es)) _ s _ _ (stays ds s r) (λ f. never e (passed 2 0 _ _ (passed 1 0 _ _ f).1).0)
 
   call_keeps : (ds : List Deed) (s : Lent) → P ds s → (y : Sizes) (a : Asked) → P (ds ++ deeds_by y a s) (left_by y a s)
-  call_keeps ds s r y a = go (told z y s (k.whole r))
+  call_keeps ds s r y a = go (true_or_false (bad_lengths (plan_of y) y.workers s))
     where
-      go : Refuses y s ⊎ ((a : Asked) → SameCall z y a s) → P (ds ++ deeds_by y a s) (left_by y a s)
+      go : (bad_lengths (plan_of y) y.workers s ≡ true) ⊎ (bad_lengths (plan_of y) y.workers s ≡ false) → P (ds ++ deeds_by y a s) (left_by y a s)
       go (inl e) = refused ds s r y a e
-      go (inr e) = subst₂ (λ (es : List Deed) (x : Lent). P (ds ++ es) x) (e a).deeds (e a).left (told_these ds s r a)
+      go (inr e) = subst (λ (x : Sizes). P (ds ++ deeds_by x a s) (left_by x a s)) (same_sizes z y s (k.whole r) (lengths y s e)) (told_these ds s r a)
 
   pub deeds_keep : (cs : List Call) (ds : List Deed) (s : Lent) → P ds s → P (ds ++ deeds cs s) (after_calls cs s)
   unfolding after_calls in_turn deeds

@@ -10,8 +10,6 @@ pub mod Moves
 pub mod Progress
 pub mod Turns
 pub mod Reach
-pub mod OneTile
-pub mod Fitting
 pub mod Calls
 pub mod Opening
 pub mod Theorem

@@ -69,7 +69,7 @@ module _ (z : Sizes) (σ : ℕ → Val) (q : ℕ) where
   unfolding step
   grows n s s' r c a h e f =
       let end = after (S z) z.workers r.calls (start (S z) σ) in
-      let laws = system_laws z.tiles z.side z.block (tasks z.tiles) (tasks_valid z.tiles) (in_range z r.whole.fit).some_side in
+      let laws = system_laws z.tiles z.side (tasks z.tiles) (tasks_valid z.tiles) (in_range z r.whole.fit).some_side in
       let x : counted c end ≡ cond (about (S z) c (abs z s) q) 1 0 =
       ap (counted c) (sym r.is) ∙ ap (λ (b : Bool). cond (b && about (S z) c (abs z s) q) 1 0) a in
       record {
@@ -80,7 +80,7 @@ module _ (z : Sizes) (σ : ℕ → Val) (q : ℕ) where
         sums =
             let I : Inv (S z) z.workers σ (abs z s) = subst (Inv (S z) z.workers σ) (sym r.is) (always (S z) z.workers σ laws r.calls) in
             let g : step (S z) z.workers c (abs z s) ≡ abs z s' = unfold step in (ap (λ (b : Bool). cond b (effect (S z) c (abs z s)) (abs z s)) a ∙ sym e) in
-            let y = summed_sums (S z) (tie_gain z) z.workers σ laws (ties_laws z.tiles z.side z.block (tasks z.tiles)) (abs z s) I (sums_fn z s) r.sums c a in
+            let y = summed_sums (S z) (tie_gain z) z.workers σ laws (ties_laws z.tiles z.side (tasks z.tiles)) (abs z s) I (sums_fn z s) r.sums c a in
             subst (λ (u : ℕ → ℕ). Sums (S z) (tie_gain z) z.workers σ (abs z s') u) (sym f)
             (subst (λ (k : State (S z)). Sums (S z) (tie_gain z) z.workers σ k (summed (S z) (tie_gain z) c (abs z s) (sums_fn z s))) g y);
         made = omega (arith, x, spent_last r.calls c (start (S z) σ), r.made);
@@ -94,7 +94,7 @@ module _ (z : Sizes) (σ : ℕ → Val) (q : ℕ) where
   may_take s w p hw hb hp hr =
       let waits = is_waiting (to_mark (mark (marks_of s) p)) in
       let links = ready (S z) (λ q. to_mark (mark (marks_of s) q)) p in
-      let e : (waits && links) ≡ true = ready_is z.tiles z.side z.block (tasks z.tiles) (tasks_valid z.tiles) (marks_of s) p hp ∙ hr in
+      let e : (waits && links) ≡ true = ready_is z.tiles z.side (tasks z.tiles) (tasks_valid z.tiles) (marks_of s) p hp ∙ hr in
       and_intro _ _ (and_intro _ _ (and_intro _ _ (and_intro _ _ (lt-ltb w z.workers hw) (idle_of (worker s w) hb)) (lt-ltb p (count z) hp))
       (and_left waits links e)) (and_right waits links e)
 

@@ -12,7 +12,6 @@ use Rattle.model.specs.declared.Sizes.{Sizes}
 use Rattle.model.specs.declared.TaskRecord.{TaskRecord}
 use Rattle.model.specs.Task.{tasks}
 use Rattle.model.specs.Plan.{plan, plan_of}
-use Rattle.model.specs.Lengths.{BlockFits}
 use Rattle.model.specs.Links.{task, mark, finished, ready}
 use Rattle.model.specs.Links as ML
 use Rattle.model.specs.Buffer.{Buffers, Ended, worked, filled, column_ties, sound, column_ends}
@@ -31,12 +30,12 @@ use Rattle.demand.proofs.Single.{Single, single_kept}
 use Rattle.demand.proofs.Totals.{limit_for, calls_for}
 use Rattle.cells.proofs.Choices.{either}
 use Rattle.cells.proofs.Valid.{Valid, tasks_valid, task_valid}
-use Rattle.cells.proofs.View.{Sized, tile_cell, rows_cell, slice_cell, length_tile, length_rows, length_multipliers}
-use Rattle.cells.proofs.Kept.{Rows, Numbers, Long, worked_rows, worked_numbers}
-use Rattle.cells.proofs.Fills.{filled_rows, spoiled_numbers, failed_numbers}
+use Rattle.cells.proofs.View.{Sized, tile_cell, length_tile}
+use Rattle.cells.proofs.Kept.{Tiles, Rows, Long, worked_rows, worked_tiles}
+use Rattle.cells.proofs.Fills.{filled_rows, spoiled_tiles, failed_tiles}
 use Rattle.cells.proofs.Marks.{to_mark}
 use Rattle.cells.proofs.Machine.{S, count, record_at, took_stated, advanced_stated, column_ends_lem}
-use Rattle.demand.proofs.Whole.{AtWork, Whole, in_range, block_fits}
+use Rattle.demand.proofs.Whole.{AtWork, Whole, in_range}
 use Rattle.demand.proofs.Stores.{holds_busy, holds_task, busy_holds, Suits, rests, works, stored_whole}
 
 module _ (z : Sizes) where
@@ -64,7 +63,7 @@ module _ (z : Sizes) where
       unfold with_take in record { took_most = omega arith; ended_most = omega (arith, a.ended_most); worker_below = a.worker_below })
       (let l : call_limit (plan_of z) s p ≡ 0 = unfold call_limit plan finished in ap (λ (m : ℕ). calls_for z.side m (next_column s p)) (ready_waits s p hr) in
       unfold with_take in omega (arith, l))
-      (unfold took changed in took_stated z s h.stated w p) h.rows h.numbers
+      (unfold took changed in took_stated z s h.stated w p) h.rows h.tiles
 
   -- ---- column
 
@@ -129,32 +128,21 @@ module _ (z : Sizes) where
       go false e = either fine (sound (plan_of z) (task (tasks z.tiles) p) c s.buffers) good bad (fits (eqb (suc c) t) refl)
           (let l : c ≤ t = omega arith in let m : t * c ≤ t * t = mul-le-mul_left t l in omega (arith, m))
 
-  long : (s : Buffers) → Sized z.tiles z.side z.block s → Long z.tiles z.side z.block (view z.tiles z.side z.block s)
-  long s d =
-      let N = z.tiles in
-      let t = z.side in
-      let b = z.block in
-      record {
-        tiles = λ i j hi hj. ap length (tile_cell N t b s i j hi hj) ∙ length_tile N t b s d i j hi hj;
-        slices = λ i k hi hk. ap length (slice_cell N t b s i k hk (omega arith)) ∙ length_multipliers N t b s d i k hk hi;
-        lists = λ i j hi hj. ap length (rows_cell N t b s i j) ∙ length_rows N t b s d i j hi hj;
-      }
+  long : (b : Buffers) → Sized z.tiles z.side b → Long z.tiles z.side (view z.tiles z.side b)
+  long b d i j hi hj = ap length (tile_cell z.tiles z.side b i j hi hj) ∙ length_tile z.tiles z.side b d i j hi hj
 
   -- the cells that a column leaves, by which of its three ways it goes
-  performed_kept : BlockFits z → (p c : ℕ) → p < count z → c < z.side → (m : ℕ → Mark) (σ : ℕ → Val) → Numbers z.tiles z.side σ → Rows z.tiles z.side σ
-      → Long z.tiles z.side z.block σ
-      → Numbers z.tiles z.side (perform (S z) p c m σ).cells × Rows z.tiles z.side (perform (S z) p c m σ).cells
+  performed_kept : (p c : ℕ) → p < count z → c < z.side → (m : ℕ → Mark) (σ : ℕ → Val) → Tiles z.tiles z.side σ → Rows z.tiles z.side σ
+      → Long z.tiles z.side σ
+      → Tiles z.tiles z.side (perform (S z) p c m σ).cells × Rows z.tiles z.side (perform (S z) p c m σ).cells
   unfolding perform
-  performed_kept d p c hp hc m σ f r l = go (eqb c 0 && spoils (S z) m p) ((S z).ok p c σ) refl
+  performed_kept p c hp hc m σ f r l = go (eqb c 0 && spoils (S z) m p) ((S z).ok p c σ) refl
     where
       N : ℕ
       N = z.tiles
 
       t : ℕ
       t = z.side
-
-      b : ℕ
-      b = z.block
 
       v : Valid N (task (tasks N) p)
       v = task_valid N (tasks N) (tasks_valid N) p hp
@@ -168,15 +156,13 @@ module _ (z : Sizes) where
       spoilt : TaskEnd (S z)
       spoilt = record { cells = (S z).fill p σ; mark = G.spoiled }
 
-      go : (x o : Bool) → (S z).ok p c σ ≡ o → Numbers N t (cond x spoilt (cond o on off)).cells × Rows N t (cond x spoilt (cond o on off)).cells
-      go true o e = (spoiled_numbers N t b (task (tasks N) p) v σ f l, filled_rows N t b (task (tasks N) p) v σ r)
-      go false true e = (
-        worked_numbers N t b d.some_block d.divides (task (tasks N) p) v c hc σ f r l e,
-        worked_rows N t b (task (tasks N) p) v c hc σ r,
-      )
+      go : (b o : Bool) → (S z).ok p c σ ≡ o → Tiles N t (cond b spoilt (cond o on off)).cells × Rows N t (cond b spoilt (cond o on off)).cells
+      go true o e = (spoiled_tiles N t (task (tasks N) p) v σ f l, filled_rows N t (task (tasks N) p) v σ r)
+      go false true e = (worked_tiles N t (task (tasks N) p) v c hc σ f r l e, worked_rows N t (task (tasks N) p) v c hc σ r)
       go false false e = (
-        failed_numbers N t b (task (tasks N) p) v c hc σ f l,
-        filled_rows N t b (task (tasks N) p) v _ (worked_rows N t b (task (tasks N) p) v c hc σ r),
+        failed_tiles N t (task (tasks N) p) v c hc σ f l,
+        filled_rows N t (task (tasks N) p) v _
+            (worked_rows N t (task (tasks N) p) v c hc σ r),
       )
 
   -- the limit of a held task's sum
@@ -223,8 +209,7 @@ module _ (z : Sizes) where
       let p = (worker s w).task in
       let c = (worker s w).column in
       let en = column_ends_lem z s h.stated p c a.task in
-      let b = z.block in
-      let x = performed_kept (block_fits z h.block) p c a.task a.column (λ q. to_mark (mark (marks_of s) q)) (view N t b s.buffers) h.numbers h.rows
+      let x = performed_kept p c a.task a.column (λ q. to_mark (mark (marks_of s) q)) (view N t s.buffers) h.tiles h.rows
       (long s.buffers h.stated.sized) in
       let one : Single (holds p) idle s.workers = h.holder p a.task a.mark in
       let here : w < length s.workers = subst (λ (k : ℕ). w < k) (sym h.stated.workers) hw in
@@ -244,4 +229,4 @@ module _ (z : Sizes) where
       (column_written w s.number e.mark e.ties (record_at z s p) hw (h.calls p a.task))
       (unfold with_column in subst (λ (k : ℕ). suc k ≤ calls_for t e.mark (cond (finished e.mark) idle (holding p (suc c))).column) (sym calls) (column_calls s p c a.column))
       (unfold advanced changed in advanced_stated z s h.stated w a.task)
-      (subst (Rows N t) (sym en.left.1) x.1) (subst (Numbers N t) (sym en.left.1) x.0)
+      (subst (Rows N t) (sym en.left.1) x.1) (subst (Tiles N t) (sym en.left.1) x.0)

@@ -27,7 +27,7 @@ use Rattle.cells.specs.Cells.{view}
 use Rattle.demand.proofs.Single.{Single, single_kept}
 use Rattle.demand.proofs.Totals.{total_set, column_in, next_total, not_in, limit_for, limit_other, calls_for, calls_other}
 use native.Mathlib.Omega.{arith}
-use Rattle.cells.proofs.Kept.{Rows, Numbers}
+use Rattle.cells.proofs.Kept.{Tiles, Rows}
 use Rattle.cells.proofs.Machine.{count, Stated}
 use Rattle.laws.proofs.Totals.{total_grows}
 use Rattle.run_laws.proofs.Undamaged.{Due, CallsFit, next_of}
@@ -250,10 +250,9 @@ module _ (z : Sizes) (s : Lent) (h : Whole z s) (b : Buffers) (p : ℕ) (new : T
 
     pub stored_whole : Due (task (tasks z.tiles) p) new → new.ties ≤ limit_for z.side v x.column → CallsFit new (suc s.number) z.workers
         → suc (call_limit (plan_of z) s p) ≤ calls_for z.side v x.column → Stated z stored
-        → Rows z.tiles z.side (view z.tiles z.side z.block b) → Numbers z.tiles z.side (view z.tiles z.side z.block b) → Whole z stored
+        → Rows z.tiles z.side (view z.tiles z.side b) → Tiles z.tiles z.side (view z.tiles z.side b) → Whole z stored
     stored_whole d l c n g r f = record {
       fit = h.fit;
-      block = h.block;
       stated = g;
       records = records_kept d;
       sums = sums_kept l;
@@ -262,5 +261,5 @@ module _ (z : Sizes) (s : Lent) (h : Whole z s) (b : Buffers) (p : ℕ) (new : T
       holder = holder_kept;
       held = held_kept;
       rows = r;
-      numbers = f;
+      tiles = f;
     }

@@ -46,23 +46,23 @@ use Rattle.demand.proofs.Calls.{calls_keep}
 -- ---- the opening's tie sums
 
 pub opened_sums : (z : Sizes) (m : List Float) (hm : length m ≡ z.tiles * z.tiles * (z.side * z.side))
-    → Sums (S z) (tie_gain z) z.workers (σ₀ z.tiles z.side z.block m) (abs z (opened (plan_of z) z.workers m))
+    → Sums (S z) (tie_gain z) z.workers (σ₀ z.tiles z.side m) (abs z (opened (plan_of z) z.workers m))
     (sums_fn z (opened (plan_of z) z.workers m))
 unfolding opened plan
 opened_sums z m hm =
-    subst (λ (u : ℕ → ℕ). Sums (S z) (tie_gain z) z.workers (σ₀ z.tiles z.side z.block m) (abs z (opened (plan_of z) z.workers m)) u)
+    subst (λ (u : ℕ → ℕ). Sums (S z) (tie_gain z) z.workers (σ₀ z.tiles z.side m) (abs z (opened (plan_of z) z.workers m)) u)
     (sym (fun_ext (λ p. (opened_untouched (tasks z.tiles) p).no_ties)))
-    (subst (λ k. Sums (S z) (tie_gain z) z.workers (σ₀ z.tiles z.side z.block m) k (λ p. 0)) (sym (opened_is z m hm))
-    (start_sums (S z) (tie_gain z) z.workers (σ₀ z.tiles z.side z.block m)))
+    (subst (λ k. Sums (S z) (tie_gain z) z.workers (σ₀ z.tiles z.side m) k (λ p. 0)) (sym (opened_is z m hm))
+    (start_sums (S z) (tie_gain z) z.workers (σ₀ z.tiles z.side m)))
 
 -- what an opening leaves is reached, by no call
-pub opened_reach : (z : Sizes) (s : Lent) → Opened z s → (q : ℕ) → Reach z (σ₀ z.tiles z.side z.block s.buffers.matrix) q 0 (open_call z s).left
+pub opened_reach : (z : Sizes) (s : Lent) → Opened z s → (q : ℕ) → Reach z (σ₀ z.tiles z.side s.buffers.matrix) q 0 (open_call z s).left
 unfolding after
 opened_reach z s o q = record {
   whole = left_whole z s o;
   calls = [];
   is = ap (abs z) o.left ∙ opened_is z s.buffers.matrix o.long;
-  sums = subst (λ (l : Lent). Sums (S z) (tie_gain z) z.workers (σ₀ z.tiles z.side z.block s.buffers.matrix) (abs z l) (sums_fn z l)) (sym o.left)
+  sums = subst (λ (l : Lent). Sums (S z) (tie_gain z) z.workers (σ₀ z.tiles z.side s.buffers.matrix) (abs z l) (sums_fn z l)) (sym o.left)
       (opened_sums z s.buffers.matrix o.long);
   made = omega arith;
 }
@@ -76,24 +76,21 @@ module _ (z : Sizes) (m : List Float) (hm : length m ≡ z.tiles * z.tiles * (z.
   abbrev t : ℕ
   t = z.side
 
-  abbrev b : ℕ
-  b = z.block
-
   -- where every task is finished, order_free's theorem gives the cells and the marks
-  the_end : (q n : ℕ) (s : Lent) → Reach z (σ₀ N t b m) q n s → all_finished (plan_of z) s ≡ true → state_of s ≡ M.loops (plan_of z) m
+  the_end : (q n : ℕ) (s : Lent) → Reach z (σ₀ N t m) q n s → all_finished (plan_of z) s ≡ true → state_of s ≡ M.loops (plan_of z) m
   unfolding state_of all_finished abs mark
   the_end q n s r e = λ i. record {
-    buffers = same_buffers N t b s.buffers (M.loops (plan_of z) m).buffers r.whole.stated.sized
+    buffers = same_buffers N t s.buffers (M.loops (plan_of z) m).buffers r.whole.stated.sized
         match.cells.0 same_view i;
     marks = same_list i;
     ties = same_sums i;
   }
     where
-      match : Matches N t b (tasks N) (M.loops (plan_of z) m) (loops (S z) (count z) (σ₀ N t b m))
-      match = unfold plan in (loops_match N t b (tasks N) (tasks_valid N) m hm)
+      match : Matches N t (tasks N) (M.loops (plan_of z) m) (loops (S z) (count z) (σ₀ N t m))
+      match = unfold plan in (loops_match N t (tasks N) (tasks_valid N) m hm)
 
-      theorem : T.OrderFree (S z) z.workers (σ₀ N t b m) r.calls
-      theorem = order_free (S z) (system_laws N t b (tasks N) (tasks_valid N) (in_range z r.whole.fit).some_side) z.workers (σ₀ N t b m) r.calls
+      theorem : T.OrderFree (S z) z.workers (σ₀ N t m) r.calls
+      theorem = order_free (S z) (system_laws N t (tasks N) (tasks_valid N) (in_range z r.whole.fit).some_side) z.workers (σ₀ N t m) r.calls
 
       long : length (marks_of s) ≡ count z
       long = length_marks z s r.whole.stated
@@ -101,10 +98,10 @@ module _ (z : Sizes) (m : List Float) (hm : length m ≡ z.tiles * z.tiles * (z.
       done : (p : ℕ) → p < count z → ML.finished (mark (marks_of s) p) ≡ true
       done p h = every_at ML.finished (marks_of s) 0 p e (subst (λ (k : ℕ). p < k) (sym long) h)
 
-      ended : (p : ℕ) → p < count z → finished ((T.end (S z) z.workers (σ₀ N t b m) r.calls).marks p) ≡ true
+      ended : (p : ℕ) → p < count z → finished ((T.end (S z) z.workers (σ₀ N t m) r.calls).marks p) ≡ true
       ended p h = ap (λ x. finished (x.marks p)) (sym r.is) ∙ finished_is (mark (marks_of s) p) ∙ done p h
 
-      same_view : view N t b s.buffers ≡ view N t b (M.loops (plan_of z) m).buffers
+      same_view : view N t s.buffers ≡ view N t (M.loops (plan_of z) m).buffers
       same_view = ap (λ x. x.cells) r.is ∙ (λ i q. theorem.same_cells ended q i) ∙ sym match.cells.1
 
       same_mark : (p : ℕ) → p < count z → to_mark (mark (marks_of s) p) ≡ to_mark (mark (M.loops (plan_of z) m).marks p)
@@ -118,11 +115,11 @@ module _ (z : Sizes) (m : List Float) (hm : length m ≡ z.tiles * z.tiles * (z.
           let f : ML.finished y ≡ true = sym (finished_is y) ∙ ap finished (sym (same_mark p h)) ∙ finished_is x ∙ done p h in
           mark_same x y (finished_most x (done p h)) (finished_most y f) (same_mark p h))
 
-      summed : Summed N t b (tasks N) (tasks_valid N) m hm (count z) (M.loops (plan_of z) m)
-      summed = unfold plan in (loops_sums N t b (tasks N) (tasks_valid N) m hm)
+      summed : Summed N t (tasks N) (tasks_valid N) m hm (count z) (M.loops (plan_of z) m)
+      summed = unfold plan in (loops_sums N t (tasks N) (tasks_valid N) m hm)
 
       -- a finished task has the loops' tie sum
-      sum_same : (p : ℕ) → p < count z → sums_fn z s p ≡ loop_gain (S z) (tie_gain z) (σ₀ N t b m) p
+      sum_same : (p : ℕ) → p < count z → sums_fn z s p ≡ loop_gain (S z) (tie_gain z) (σ₀ N t m) p
       sum_same p h = r.sums.ends p h refl (unfold abs in (finished_is (mark (marks_of s) p) ∙ done p h))
 
       long_sums : length (ties_of s) ≡ count z
@@ -140,7 +137,7 @@ module _ (z : Sizes) (s : Lent) (cs : List Call) (e : (open_call z s).answer ≡
   o = opened_by z s e
 
   cells : ℕ → Val
-  cells = σ₀ z.tiles z.side z.block s.buffers.matrix
+  cells = σ₀ z.tiles z.side s.buffers.matrix
 
   -- what any calls leave is reached
   reached : (q : ℕ) → Reach z cells q (0 + spent_on q cs (open_call z s).left) (end z s cs)
@@ -158,9 +155,9 @@ module _ (z : Sizes) (s : Lent) (cs : List Call) (e : (open_call z s).answer ≡
   few_calls : (q : ℕ) → spent_on q cs (open_call z s).left ≤ z.side + 1
   few_calls q =
       let r = reached q in
-      let laws = system_laws z.tiles z.side z.block (tasks z.tiles) (tasks_valid z.tiles) (in_range z o.fit).some_side in
-      let m = (order_free (S z) laws z.workers cells r.calls).at_most q in
-      omega (arith, r.made, m)
+      let laws = system_laws z.tiles z.side (tasks z.tiles) (tasks_valid z.tiles) (in_range z o.fit).some_side in
+      let b = (order_free (S z) laws z.workers cells r.calls).at_most q in
+      omega (arith, r.made, b)
 
   pub demand_3 : Demand3 z s cs
   unfolding cells

@@ -1,39 +1,36 @@
 -- What a run asks of what is lent: sizes and lengths as told, records as numbered, workers and marks that fit, list entries in range and
--- finite tiles and multipliers. An opening leaves it so.
+-- finite tiles. An opening leaves it so.
 -- Assumes nothing.
-use Prim.Native.Nat.{ℕ, zero, suc, ◌+◌, ◌*◌, ◌%◌, ◌≤◌, ◌<◌}
-use mathlib.Core.Bool.{Bool, true, false, cond, ◌&&◌}
+use Prim.Native.Nat.{ℕ, zero, suc, ◌+◌, ◌*◌, ◌≤◌, ◌<◌}
+use mathlib.Core.Bool.{true, false, ◌&&◌}
 use mathlib.Core.Path.{◌≡◌, refl, sym, ap, ◌∙◌, subst}
 use mathlib.Core.List.{List, [], ◌∷◌, map}
-use mathlib.Core.Logic.{◌≢◌}
 use native.Mathlib.Omega.{arith}
 use lib.Dec.{eqb}
 use lib.Ieee.{Float}
 use lib.ListN.{length, get_or, replicate, take, drop, get_or-map}
-use borrow.Author.Tests.{eqb-true, eqb-false, leb-true, not-false}
+use borrow.Author.Tests.{eqb-true, leb-true, not-false}
 use Rattle.model.specs.declared.Sizes.{Sizes}
 use Rattle.model.specs.declared.TaskRecord.{TaskRecord}
-use Rattle.model.specs.Lists.{every, below, total, part}
+use Rattle.model.specs.Lists.{every, below, total}
 use Rattle.model.specs.Num.{finite}
-use Rattle.model.specs.Tile.{all_finite, zeros}
+use Rattle.model.specs.Tile.{all_finite}
 use Rattle.model.specs.Task.{Task, t_1, tasks}
 use Rattle.model.specs.Plan.{plan, plan_of}
 use Rattle.model.specs.Links.{task, mark}
-use Rattle.model.specs.Lengths.{BlockFits}
-use Rattle.model.specs.Buffer.{Buffers, lower_place, slice_part, slice_length, tile_of, tile, rows_of, rows, slice_of}
+use Rattle.model.specs.Buffer.{Buffers, tile_of, tile, rows_of, rows}
 use Rattle.model.specs.Loops.{start}
 use Rattle.model.specs.Calls.{Lent, marks_of, record_of, worker, opened}
 use Rattle.worker.specs.Holding.{idle}
-use Rattle.model.specs.Refusal.{inside, bad_sizes, bad_block, holds, tie_limit, call_limit}
-use Rattle.laws.proofs.Tests.{never, and_left, and_right, or_false}
+use Rattle.model.specs.Refusal.{inside, bad_sizes, holds, tie_limit, call_limit}
+use Rattle.laws.proofs.Tests.{never, and_left, and_right}
 use Rattle.run_laws.proofs.Undamaged.{Due, CallsFit}
 use Rattle.cells.specs.Cells.{view, list_at}
 use Rattle.laws.proofs.Every.{every_take, every_drop}
 use Rattle.cells.proofs.Elements.{get_or_same}
 use Rattle.demand.proofs.Single.{Single}
-use Rattle.cells.proofs.View.{tile_cell, rows_cell, slice_cell}
-use Rattle.cells.proofs.Kept.{Rows, Numbers}
-use Rattle.cells.proofs.Fills.{zeros_finite}
+use Rattle.cells.proofs.View.{tile_cell, rows_cell}
+use Rattle.cells.proofs.Kept.{Tiles, Rows}
 use Rattle.cells.proofs.Marks.{opened_marks}
 use Rattle.cells.proofs.Machine.{count, Stated, opened_stated}
 
@@ -45,7 +42,6 @@ pub record AtWork (z : Sizes) (s : Lent) (w : ℕ) : Type 0 where
 
 pub record Whole (z : Sizes) (s : Lent) : Type 0 where
   pub fit : bad_sizes z ≡ false
-  pub block : bad_block z ≡ false
   pub stated : Stated z s
   pub records : (p : ℕ) → p < count z → Due (task (tasks z.tiles) p) (get_or s.records p (record_of (t_1 0)))
   -- a tie sum is within its limit
@@ -56,8 +52,8 @@ pub record Whole (z : Sizes) (s : Lent) : Type 0 where
   -- a taken task is held by one worker, and a busy worker is at work
   pub holder : (p : ℕ) → p < count z → mark (marks_of s) p ≡ 1 → Single (holds p) idle s.workers
   pub held : (w : ℕ) → w < z.workers → (worker s w).busy ≡ true → AtWork z s w
-  pub rows : Rows z.tiles z.side (view z.tiles z.side z.block s.buffers)
-  pub numbers : Numbers z.tiles z.side (view z.tiles z.side z.block s.buffers)
+  pub rows : Rows z.tiles z.side (view z.tiles z.side s.buffers)
+  pub tiles : Tiles z.tiles z.side (view z.tiles z.side s.buffers)
 
 -- ---- sizes in range
 
@@ -79,13 +75,6 @@ in_range z e =
       some_side = leb-true 1 z.side (and_left _ _ (and_right n t b));
       some_workers = leb-true 1 z.workers (and_left _ _ (and_right (n && t) w a));
     }
-
-pub block_fits : (z : Sizes) → bad_block z ≡ false → BlockFits z
-unfolding bad_block
-block_fits z e =
-    let (a, c) = or_false (eqb z.block 0) _ e in
-    let d : z.block ≢ 0 = eqb-false z.block 0 a in
-    record { some_block = omega arith; divides = eqb-true _ 0 (not-false (eqb (z.side % z.block) 0) c) }
 
 -- ---- marks and records
 
@@ -128,42 +117,26 @@ zero_list [] h e = refl
 zero_list (x ∷ xs) h zero = eqb-true x 0 (and_left (eqb x 0) (every (λ y. eqb y 0) xs) h)
 zero_list (x ∷ xs) h (suc e) = zero_list xs (and_right (eqb x 0) (every (λ y. eqb y 0) xs) h) e
 
-module _ (N t b : ℕ) where
-  zero_rows_lem : (m sl : List Float) (i j e : ℕ)
-      → ◌≡◌ {A = ℕ} (get_or (view N t b (record { matrix = m; lists = replicate (N * N * t) 0; slice = sl }) (list_at N i j)).bytes e 0) 0
+module _ (N t : ℕ) where
+  zero_rows_lem : (m : List Float) (i j e : ℕ) → ◌≡◌ {A = ℕ} (get_or (view N t (record { matrix = m; lists = replicate (N * N * t) 0 }) (list_at N i j)).bytes e 0) 0
   unfolding rows_of rows plan
-  zero_rows_lem m sl i j e =
-      ap (λ l. get_or l e 0) (rows_cell N t b (record { matrix = m; lists = replicate (N * N * t) 0; slice = sl }) i j)
+  zero_rows_lem m i j e =
+      ap (λ l. get_or l e 0) (rows_cell N t (record { matrix = m; lists = replicate (N * N * t) 0 }) i j)
       ∙ zero_list (take t (drop ((i * N + j) * t) (replicate (N * N * t) 0)))
       (every_take (λ x. eqb x 0) t (drop ((i * N + j) * t) (replicate (N * N * t) 0))
       (every_drop (λ x. eqb x 0) ((i * N + j) * t) (replicate (N * N * t) 0) (zeros_zero (N * N * t)))) e
 
-  -- tiles of a finite matrix, and parts of a finite slice
-  part_finite : (a n : ℕ) (m : List Float) → all_finite m ≡ true → all_finite (part a n m) ≡ true
-  unfolding all_finite
-  part_finite a n m f = every_take finite n (drop a m) (every_drop finite a m f)
+  -- tiles of a finite matrix
+  pub tiles_finite : (b : Buffers) → all_finite b.matrix ≡ true → Tiles N t (view N t b)
+  unfolding tile_of tile plan all_finite
+  tiles_finite b f i j hi hj = subst (λ a. every finite a ≡ true) (sym (tile_cell N t b i j hi hj))
+      (every_take finite (t * t) (drop ((i * N + j) * (t * t)) b.matrix) (every_drop finite ((i * N + j) * (t * t)) b.matrix f))
 
-  slice_finite : (sl : List Float) → all_finite sl ≡ true → (i k : ℕ) → all_finite (slice_part t b sl i k) ≡ true
-  unfolding slice_part
-  slice_finite sl f i k = go (eqb b 1)
-    where
-      go : (x : Bool) → all_finite (cond x (zeros (t * b)) (part (lower_place i k * (t * b)) (t * b) sl)) ≡ true
-      go true = zeros_finite (t * b)
-      go false = part_finite (lower_place i k * (t * b)) (t * b) sl f
-
-  pub numbers_finite : (s : Buffers) → all_finite s.matrix ≡ true → all_finite s.slice ≡ true → Numbers N t (view N t b s)
-  unfolding tile_of tile slice_of plan
-  numbers_finite s f g = record {
-    tiles = λ i j hi hj. subst (λ a. all_finite a ≡ true) (sym (tile_cell N t b s i j hi hj)) (part_finite ((i * N + j) * (t * t)) (t * t) s.matrix f);
-    slices = λ i k hi hk. subst (λ a. all_finite a ≡ true) (sym (slice_cell N t b s i k hk (omega arith))) (slice_finite s.slice g i k);
-  }
-
-pub opened_whole : (z : Sizes) (m : List Float) → bad_sizes z ≡ false → bad_block z ≡ false → length m ≡ z.tiles * z.tiles * (z.side * z.side) → all_finite m ≡ true
+pub opened_whole : (z : Sizes) (m : List Float) → bad_sizes z ≡ false → length m ≡ z.tiles * z.tiles * (z.side * z.side) → all_finite m ≡ true
     → Whole z (opened (plan_of z) z.workers m)
 unfolding opened plan start marks_of worker
-opened_whole z m fit block hm f = record {
+opened_whole z m fit hm f = record {
   fit = fit;
-  block = block;
   stated = unfold opened plan start in opened_stated z m hm;
   records = opened_records (tasks z.tiles);
   sums = λ p l. omega (arith, (opened_untouched (tasks z.tiles) p).no_ties);
@@ -177,6 +150,6 @@ opened_whole z m fit block hm f = record {
   number = omega arith;
   holder = λ p h e. let q : ◌≡◌ {A = ℕ} 0 1 = sym (opened_marks (tasks z.tiles) p) ∙ e in absurd (omega arith);
   held = λ w h e. never e (ap (λ x. x.busy) (get_or_same z.workers w idle));
-  rows = λ i j hi hj e. omega (arith, zero_rows_lem z.tiles z.side z.block m (zeros (slice_length z.tiles z.side z.block)) i j e);
-  numbers = numbers_finite z.tiles z.side z.block _ f (zeros_finite (slice_length z.tiles z.side z.block));
+  rows = λ i j hi hj e. omega (arith, zero_rows_lem z.tiles z.side m i j e);
+  tiles = tiles_finite z.tiles z.side _ f;
 }

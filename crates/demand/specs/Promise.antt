@@ -14,19 +14,18 @@ use Rattle.demand.specs.Demand.{Demand3, end, RunIs}
 use Rattle.demand.specs.Deeds.{Listed}
 use Rattle.demand.specs.Numbered.{Numbered, orderless}
 
--- two accepted openings of one matrix, one grid of tiles and one inner block size, with any two numbers of workers, and for each a list of calls that
--- finishes every task
+-- two accepted openings of one matrix and one grid of tiles, with any two numbers of workers, and for each a list of calls that finishes
+-- every task
 pub record TwoOpenings (z y : Sizes) (s r : Lent) (cs ds : List Call) : Type 0 where
   pub tiles : z.tiles ≡ y.tiles
   pub side : z.side ≡ y.side
-  pub block : z.block ≡ y.block
   pub matrix : s.buffers.matrix ≡ r.buffers.matrix
   pub opened : (open_call z s).answer ≡ Accepted
   pub opened' : (open_call y r).answer ≡ Accepted
   pub finished : all_finished (plan_of z) (end z s cs) ≡ true
   pub finished' : all_finished (plan_of y) (end y r ds) ≡ true
 
--- they end with the same matrix, lists, slice, marks, tie sums and outcome; and where the workers are as many, with the same in everything but what tells the
+-- they end with the same matrix, lists, marks, tie sums and outcome; and where the workers are as many, with the same in everything but what tells the
 -- order of work (K9)
 pub record Alike (z y : Sizes) (s r : Lent) (cs ds : List Call) : Type 0 where
   pub state : state_of (end z s cs) ≡ state_of (end y r ds)

@@ -1,24 +1,22 @@
 -- What the loops of an elimination have done, and that this is the elimination. Assumes nothing.
 use mathlib.Core.Path.{◌≡◌, refl, sym, ap, ◌∙◌, subst}
 use mathlib.Core.Logic.{◌⊎◌, inl, inr, ⊎_elim}
-use mathlib.Core.Bool.{Bool, true, false, cond, ◌&&◌}
+use mathlib.Core.Bool.{Bool, true, false, ◌&&◌}
 use mathlib.Core.List.{List}
 use Prim.Native.Nat.{ℕ, suc, ◌+◌, ◌-◌, ◌*◌, ◌/◌, ◌%◌, ◌≤◌, ◌<◌}
 use native.Mathlib.Nat.{add_assoc, suc-mul, zero-mul}
 use native.Mathlib.Numerals.{add-one}
 use native.Mathlib.Omega.{arith}
-use lib.Dec.{ltb}
 use lib.ListN.{length, get_or, set, length-set}
 use lib.Seq.{get_or-set_same, get_or-set_other}
 use lib.Ieee.{Float, nan}
-use borrow.Author.Tests.{lt-ltb, le-ltb}
-use Rattle.model.specs.Lists.{run, below, every, part, with_part}
+use Rattle.model.specs.Lists.{run, below, every, part}
 use Rattle.model.specs.Num.{finite, update, update_computes, quotient}
 use Rattle.model.specs.Tile.{at, block, all_finite}
 use Rattle.model.specs.Column.{beyond, eliminated, elimination_computes}
 use Rattle.laws.proofs.Tests.{Order, less, equal, more, order, false_if, never, lt_or_le, and_right, every_run_intro, every_run_elim}
 use Rattle.laws.proofs.Every.{every_joined}
-use Rattle.laws.proofs.Blocks.{block_cong, get_or_table, length_block, row_of, column_of_lem, row_end}
+use Rattle.laws.proofs.Blocks.{get_or_table, length_block, row_of, column_of_lem, row_end}
 use Rattle.laws.proofs.Parts.{length_part}
 use Rattle.laws.proofs.Finite.{finite_at}
 use Rattle.float_laws.proofs.Finite.{computed_shows}
@@ -28,9 +26,8 @@ use Rattle.row_updates.proofs.Done.{made_left, made_right, group_not}
 use Rattle.row_updates.proofs.Updated.{RowDone, top_kept, group_same}
 use Rattle.column_laws.specs.Steps.{RowsEliminated, eliminated_rows, eliminated_computes}
 use Rattle.column_laws.proofs.Updates.{compare_less, compare_equal, compare_more, at_part}
-use Rattle.elimination.specs.Before.{RowsEliminatedBefore, eliminated_before, eliminated_before_computes}
 
-module _ (k t z c s top : ℕ) (m : List Float) where
+module _ (k t c s top : ℕ) (m : List Float) where
   -- row i, the row that is eliminated, and the multiplier of row i
   abbrev pub row : ℕ → ℕ → Float
   row i = at t (part s (k * t) m) i
@@ -43,82 +40,77 @@ module _ (k t z c s top : ℕ) (m : List Float) where
 
   -- number j of the rows, once the row is eliminated
   unfoldable pub gone : ℕ → Float
-  gone j = cond (ltb (j % t) z) (eliminated c pivot_row (row (j / t)) (j % t)) (row (j / t) (j % t))
+  gone j = eliminated c pivot_row (row (j / t)) (j % t)
 
 -- the pivot row is eliminated from r rows
-pub record RowsGone (k t z c s top : ℕ) (m : List Float) (r : ℕ) (after : List Float) : Type 0 where
-  pub stored : Stored nan s (r * t) (gone k t z c s top m) m after
-  pub fine : (i q : ℕ) → i < r → c < q → q < z → finite (update (row k t z c s top m i q) (multiplier k t z c s top m i) (pivot_row k t z c s top m q)) ≡ true
+pub record RowsGone (k t c s top : ℕ) (m : List Float) (r : ℕ) (after : List Float) : Type 0 where
+  pub stored : Stored nan s (r * t) (gone k t c s top m) m after
+  pub fine : (i q : ℕ) → i < r → c < q → q < t → finite (update (row k t c s top m i q) (multiplier k t c s top m i) (pivot_row k t c s top m q)) ≡ true
 
-pub gone_none : (k t z c s top : ℕ) (m : List Float) → RowsGone k t z c s top m 0 m
-gone_none k t z c s top m = record {
-  stored = subst (λ (j : ℕ). Stored nan s j (gone k t z c s top m) m m) (sym (zero-mul t)) (stored_none nan s (gone k t z c s top m) m);
+pub gone_none : (k t c s top : ℕ) (m : List Float) → RowsGone k t c s top m 0 m
+gone_none k t c s top m = record {
+  stored = subst (λ (j : ℕ). Stored nan s j (gone k t c s top m) m m) (sym (zero-mul t)) (stored_none nan s (gone k t c s top m) m);
   fine = λ i q a b d. absurd (omega arith);
 }
 
 -- the division in row r leaves the length
-pub divided_long : {k t z c s top r : ℕ} {m mid : List Float} → RowsGone k t z c s top m r mid
+pub divided_long : {k t c s top r : ℕ} {m mid : List Float} → RowsGone k t c s top m r mid
     → length (set mid (s + r * t + c) (quotient (get_or mid (s + r * t + c) nan) (get_or m (top + c) nan))) ≡ length m
 divided_long {t = t} {c = c} {s = s} {top = top} {r = r} {m = m} {mid = mid} d =
     length-set mid (s + r * t + c) (quotient (get_or mid (s + r * t + c) nan) (get_or m (top + c) nan)) ∙ d.stored.long
 
-module _ (k t z c s top : ℕ) (hc : c < z) (hz : z ≤ t) (m : List Float) (room : s + k * t ≤ length m) (apart : (top + t ≤ s) ⊎ (s + k * t ≤ top)) where
-  row_number_lem : (i q : ℕ) → i < k → q < t → get_or m (s + i * t + q) nan ≡ row k t z c s top m i q
-  row_number_lem i q a b = ap (λ (x : ℕ). get_or m x nan) (add_assoc s (i * t) q) ∙ sym (at_part k t s m i q room a b)
+module _ (k t c s top : ℕ) (hc : c < t) (m : List Float) (room : s + k * t ≤ length m) (apart : (top + t ≤ s) ⊎ (s + k * t ≤ top)) where
+  row_number_lem : (i q : ℕ) → i < k → q < t → get_or m (s + i * t + q) nan ≡ row k t c s top m i q
+  row_number_lem i q a b = ap (λ (z : ℕ). get_or m z nan) (add_assoc s (i * t) q) ∙ sym (at_part k t s m i q room a b)
 
   -- ---- one row more: its number in column c is x, and those right of it are updated by x
 
-  module _ (r : ℕ) (hr : r < k) (mid : List Float) (d : RowsGone k t z c s top m r mid) (x : Float) (ex : x ≡ quotient (get_or mid (s + r * t + c) nan) (get_or m (top + c) nan)) where
+  module _ (r : ℕ) (hr : r < k) (mid : List Float) (d : RowsGone k t c s top m r mid) (x : Float) (ex : x ≡ quotient (get_or mid (s + r * t + c) nan) (get_or m (top + c) nan)) where
     abbrev a : ℕ
     a = s + r * t
 
     abbrev divided : List Float
     divided = set mid (a + c) x
 
-    kept : (q : ℕ) → q < t → get_or mid (a + q) nan ≡ row k t z c s top m r q
+    kept : (q : ℕ) → q < t → get_or mid (a + q) nan ≡ row k t c s top m r q
     kept q h = d.stored.outside (a + q) (inr (omega arith)) ∙ row_number_lem r q hr h
 
-    pub multiplier_is : x ≡ multiplier k t z c s top m r
-    multiplier_is = ex ∙ ap (λ (y : Float). quotient y (get_or m (top + c) nan)) (kept c (omega arith))
+    pub multiplier_is : x ≡ multiplier k t c s top m r
+    multiplier_is = ex ∙ ap (λ (y : Float). quotient y (get_or m (top + c) nan)) (kept c hc)
 
-    top_same : (q : ℕ) → q < t → get_or divided (top + q) nan ≡ pivot_row k t z c s top m q
+    top_same : (q : ℕ) → q < t → get_or divided (top + q) nan ≡ pivot_row k t c s top m q
     top_same q h =
         get_or-set_other mid (a + c) (top + q) x nan (λ e. ⊎_elim (λ l. omega arith) (λ g. omega (arith, row_end r k t hr)) apart)
         ∙ d.stored.outside (top + q) (top_kept k t s top apart r hr q h)
 
-    beside : (q : ℕ) → q < t → (q ≡ c → ⊥) → get_or divided (a + q) nan ≡ row k t z c s top m r q
+    beside : (q : ℕ) → q < t → (q ≡ c → ⊥) → get_or divided (a + q) nan ≡ row k t c s top m r q
     beside q h n = get_or-set_other mid (a + c) (a + q) x nan (λ e. n (omega arith)) ∙ kept q h
 
-    new_number : (q : ℕ) → c < q → q < z → row_number a top x divided q ≡ update (row k t z c s top m r q) (multiplier k t z c s top m r) (pivot_row k t z c s top m q)
-    new_number q h l = rw (beside q (omega arith) (λ e. omega arith), top_same q (omega arith), multiplier_is)
+    new_number : (q : ℕ) → c < q → q < t → row_number a top x divided q ≡ update (row k t c s top m r q) (multiplier k t c s top m r) (pivot_row k t c s top m q)
+    new_number q h l = rw (beside q l (λ e. omega arith), top_same q l, multiplier_is)
 
-    -- the numbers of the divided row are finite
-    pub divided_finite : ((q : ℕ) → q < t → finite (row k t z c s top m r q) ≡ true) → finite (multiplier k t z c s top m r) ≡ true → (q : ℕ) → q < z → finite (get_or divided (a + q) nan) ≡ true
+    -- all numbers of the divided row are finite
+    pub divided_finite : ((q : ℕ) → q < t → finite (row k t c s top m r q) ≡ true) → finite (multiplier k t c s top m r) ≡ true → (q : ℕ) → q < t → finite (get_or divided (a + q) nan) ≡ true
     divided_finite f g q h = by_order (order q c)
       where
         by_order : Order q c → finite (get_or divided (a + q) nan) ≡ true
-        by_order (less l) = ap finite (beside q (omega arith) (λ e. omega arith)) ∙ f q (omega arith)
+        by_order (less l) = ap finite (beside q h (λ e. omega arith)) ∙ f q h
         by_order (equal e) = rw e (ap finite (get_or-set_same mid (a + c) x nan (omega (arith, d.stored.long, row_end r k t hr)) ∙ multiplier_is) ∙ g)
-        by_order (more l) = ap finite (beside q (omega arith) (λ e. omega arith)) ∙ f q (omega arith)
+        by_order (more l) = ap finite (beside q h (λ e. omega arith)) ∙ f q h
 
-    module _ (after : List Float) (e : RowDone (c + 1) a top x z divided after) where
-      cell_by : (q : ℕ) → q < z → Order q c → get_or after (a + q) nan ≡ eliminated c (pivot_row k t z c s top m) (row k t z c s top m r) q
+    module _ (after : List Float) (e : RowDone (c + 1) a top x t divided after) where
+      cell_by : (q : ℕ) → q < t → Order q c → get_or after (a + q) nan ≡ eliminated c (pivot_row k t c s top m) (row k t c s top m r) q
       unfolding eliminated
       cell_by q h (less l) =
-          rw (compare_less q c l) (e.stored.inside q h ∙ sym (made_left (c + 1) a (row_number a top x divided) divided q (omega arith)) ∙ beside q (omega arith) (λ y. omega arith))
-      cell_by q h (equal g) =
-          rw (compare_equal q c g)
+          rw (compare_less q c l) (e.stored.inside q h ∙ sym (made_left (c + 1) a (row_number a top x divided) divided q (omega arith)) ∙ beside q h (λ z. omega arith))
+      cell_by q h (equal z) =
+          rw (compare_equal q c z)
           (e.stored.inside q h ∙ sym (made_left (c + 1) a (row_number a top x divided) divided q (omega arith))
-          ∙ rw g (get_or-set_same mid (a + c) x nan (omega (arith, d.stored.long, row_end r k t hr)) ∙ multiplier_is))
+          ∙ rw z (get_or-set_same mid (a + c) x nan (omega (arith, d.stored.long, row_end r k t hr)) ∙ multiplier_is))
       cell_by q h (more l) =
           rw (compare_more q c l) (e.stored.inside q h ∙ sym (made_right (c + 1) a (row_number a top x divided) divided q (omega arith)) ∙ new_number q l h)
 
-      -- from column z on the row stays
-      cell_at : (q : ℕ) → q < t → (q < z) ⊎ (z ≤ q) → get_or after (a + q) nan ≡ cond (ltb q z) (eliminated c (pivot_row k t z c s top m) (row k t z c s top m r) q) (row k t z c s top m r q)
-      cell_at q h (inl l) = rw (lt-ltb q z l) (cell_by q l (order q c))
-      cell_at q h (inr l) = rw (le-ltb q z l) (e.stored.outside (a + q) (inr (omega arith)) ∙ beside q h (λ y. omega arith))
-
-      gone_at : (q : ℕ) → q < t → cond (ltb q z) (eliminated c (pivot_row k t z c s top m) (row k t z c s top m r) q) (row k t z c s top m r q) ≡ gone k t z c s top m (r * t + q)
+      gone_at : (q : ℕ) → q < t → eliminated c (pivot_row k t c s top m) (row k t c s top m r) q ≡ gone k t c s top m (r * t + q)
       unfolding gone
       gone_at q h = rw (row_of t r q h, column_of_lem t r q h)
 
@@ -126,50 +118,50 @@ module _ (k t z c s top : ℕ) (hc : c < z) (hz : z ≤ t) (m : List Float) (roo
       row_stored = record {
         long = e.stored.long ∙ length-set mid (a + c) x;
         inside = λ j h. refl;
-        outside = λ y o. e.stored.outside y (⊎_elim (λ l. inl l) (λ g. inr (omega arith)) o) ∙ get_or-set_other mid (a + c) y x nan (λ v. ⊎_elim (λ l. omega arith) (λ g. omega arith) o);
+        outside = λ y o. e.stored.outside y o ∙ get_or-set_other mid (a + c) y x nan (λ z. ⊎_elim (λ l. omega arith) (λ g. omega arith) o);
       }
 
-      pub gone_more : RowsGone k t z c s top m (r + 1) after
+      pub gone_more : RowsGone k t c s top m (r + 1) after
       gone_more = record {
-        stored = subst (λ (j : ℕ). Stored nan s j (gone k t z c s top m) m after) (sym (ap (λ (x : ℕ). x * t) (add-one r) ∙ suc-mul r t))
-            (stored_join nan s (r * t) t (gone k t z c s top m) (λ q. get_or after (a + q) nan) m mid after d.stored row_stored (λ j h. cell_at j h (lt_or_le j z) ∙ gone_at j h));
+        stored = subst (λ (j : ℕ). Stored nan s j (gone k t c s top m) m after) (sym (ap (λ (z : ℕ). z * t) (add-one r) ∙ suc-mul r t))
+            (stored_join nan s (r * t) t (gone k t c s top m) (λ q. get_or after (a + q) nan) m mid after d.stored row_stored (λ j h. cell_by j h (order j c) ∙ gone_at j h));
         fine = λ i q g h l.
             ⊎_elim (λ y. d.fine i q y h l)
-            (λ y. subst (λ (w : ℕ). finite (update (row k t z c s top m w q) (multiplier k t z c s top m w) (pivot_row k t z c s top m q)) ≡ true) (omega arith)
+            (λ y. subst (λ (z : ℕ). finite (update (row k t c s top m z q) (multiplier k t c s top m z) (pivot_row k t c s top m q)) ≡ true) (omega arith)
             (ap finite (sym (new_number q h l)) ∙ e.fine q (omega arith) l))
             (lt_or_le i r);
       }
 
   -- ---- the numbers that are computed
 
-  module _ (finites : all_finite (part s (k * t) m) ≡ true) (quotients : (i : ℕ) → i < k → finite (multiplier k t z c s top m i) ≡ true) where
-    pub row_finite : (i q : ℕ) → i < k → q < t → finite (row k t z c s top m i q) ≡ true
+  module _ (finites : all_finite (part s (k * t) m) ≡ true) (quotients : (i : ℕ) → i < k → finite (multiplier k t c s top m i) ≡ true) where
+    pub row_finite : (i q : ℕ) → i < k → q < t → finite (row k t c s top m i q) ≡ true
     row_finite i q a b = finite_at k t (part s (k * t) m) i q finites (length_part s (k * t) m room) a b
 
     abbrev cell_test : ℕ → ℕ → Bool
-    cell_test i q = every finite (update_computes (row k t z c s top m i q) (multiplier k t z c s top m i) (pivot_row k t z c s top m q))
+    cell_test i q = every finite (update_computes (row k t c s top m i q) (multiplier k t c s top m i) (pivot_row k t c s top m q))
 
     -- one test after an update is enough
-    cell_test_lem : (i q : ℕ) → i < k → q < t → cell_test i q ≡ finite (update (row k t z c s top m i q) (multiplier k t z c s top m i) (pivot_row k t z c s top m q))
-    cell_test_lem i q a b = computed_shows (row k t z c s top m i q) (multiplier k t z c s top m i) (pivot_row k t z c s top m q) (row_finite i q a b)
+    cell_test_lem : (i q : ℕ) → i < k → q < t → cell_test i q ≡ finite (update (row k t c s top m i q) (multiplier k t c s top m i) (pivot_row k t c s top m q))
+    cell_test_lem i q a b = computed_shows (row k t c s top m i q) (multiplier k t c s top m i) (pivot_row k t c s top m q) (row_finite i q a b)
 
     abbrev row_test : ℕ → Bool
-    row_test i = every finite (elimination_computes z c (pivot_row k t z c s top m) (row k t z c s top m i))
+    row_test i = every finite (elimination_computes t c (pivot_row k t c s top m) (row k t c s top m i))
 
-    row_test_lem : (i : ℕ) → row_test i ≡ (finite (multiplier k t z c s top m i) && every (cell_test i) (run (suc c) (z - suc c)))
+    row_test_lem : (i : ℕ) → row_test i ≡ (finite (multiplier k t c s top m i) && every (cell_test i) (run (suc c) (t - suc c)))
     unfolding elimination_computes every beyond
     row_test_lem i =
-        ap (λ (b : Bool). finite (multiplier k t z c s top m i) && b)
-        (every_joined finite (λ q. update_computes (row k t z c s top m i q) (multiplier k t z c s top m i) (pivot_row k t z c s top m q)) (run (suc c) (z - suc c)))
+        ap (λ (b : Bool). finite (multiplier k t c s top m i) && b)
+        (every_joined finite (λ q. update_computes (row k t c s top m i q) (multiplier k t c s top m i) (pivot_row k t c s top m q)) (run (suc c) (t - suc c)))
 
     abbrev computed : List Float
-    computed = eliminated_before_computes k t z c (pivot_row k t z c s top m) (part s (k * t) m)
+    computed = eliminated_computes k t c (pivot_row k t c s top m) (part s (k * t) m)
 
     computed_test : every finite computed ≡ every row_test (below k)
-    unfolding eliminated_before_computes
-    computed_test = every_joined finite (λ i. elimination_computes z c (pivot_row k t z c s top m) (row k t z c s top m i)) (below k)
+    unfolding eliminated_computes
+    computed_test = every_joined finite (λ i. elimination_computes t c (pivot_row k t c s top m) (row k t c s top m i)) (below k)
 
-    all_fine : ((i q : ℕ) → i < k → c < q → q < z → finite (update (row k t z c s top m i q) (multiplier k t z c s top m i) (pivot_row k t z c s top m q)) ≡ true) → every finite computed ≡ true
+    all_fine : ((i q : ℕ) → i < k → c < q → q < t → finite (update (row k t c s top m i q) (multiplier k t c s top m i) (pivot_row k t c s top m q)) ≡ true) → every finite computed ≡ true
     unfolding below
     all_fine h =
         computed_test
@@ -177,34 +169,34 @@ module _ (k t z c s top : ℕ) (hc : c < z) (hz : z ≤ t) (m : List Float) (roo
         (λ i _ b.
         row_test_lem i
         ∙ rw (quotients i (omega arith))
-        (every_run_intro (cell_test i) (suc c) (z - suc c) (λ q a d. cell_test_lem i q (omega arith) (omega arith) ∙ h i q (omega arith) (omega arith) (omega arith))))
+        (every_run_intro (cell_test i) (suc c) (t - suc c) (λ q a d. cell_test_lem i q (omega arith) (omega arith) ∙ h i q (omega arith) (omega arith) (omega arith))))
 
-    each_fine : every finite computed ≡ true → (i q : ℕ) → i < k → c < q → q < z → finite (update (row k t z c s top m i q) (multiplier k t z c s top m i) (pivot_row k t z c s top m q)) ≡ true
+    each_fine : every finite computed ≡ true → (i q : ℕ) → i < k → c < q → q < t → finite (update (row k t c s top m i q) (multiplier k t c s top m i) (pivot_row k t c s top m q)) ≡ true
     unfolding below
     each_fine e i q a b d =
         let r = every_run_elim row_test 0 k (sym computed_test ∙ e) i (omega arith) (omega arith) in
-        sym (cell_test_lem i q a (omega arith))
-        ∙ every_run_elim (cell_test i) (suc c) (z - suc c) (and_right (finite (multiplier k t z c s top m i)) (every (cell_test i) (run (suc c) (z - suc c))) (sym (row_test_lem i) ∙ r)) q (omega arith) (omega arith)
+        sym (cell_test_lem i q a d)
+        ∙ every_run_elim (cell_test i) (suc c) (t - suc c) (and_right (finite (multiplier k t c s top m i)) (every (cell_test i) (run (suc c) (t - suc c))) (sym (row_test_lem i) ∙ r)) q (omega arith) (omega arith)
 
     -- the pivot row is eliminated from all rows
-    pub all_gone : (after : List Float) (r : ℕ) (ok : Bool) → r ≡ k → ok ≡ true → RowsGone k t z c s top m r after → RowsEliminatedBefore k t z c s top m after ok
-    unfolding eliminated_before block gone
+    pub all_gone : (after : List Float) (r : ℕ) (ok : Bool) → r ≡ k → ok ≡ true → RowsGone k t c s top m r after → RowsEliminated k t c s top m after ok
+    unfolding eliminated_rows block gone
     all_gone after r ok e good d' =
-        let d : RowsGone k t z c s top m k after = subst (λ (w : ℕ). RowsGone k t z c s top m w after) e d' in
+        let d : RowsGone k t c s top m k after = subst (λ (z : ℕ). RowsGone k t c s top m z after) e d' in
         record {
           long = d.stored.long;
           sound = good ∙ sym (all_fine d.fine);
           whole = λ _.
-              stored_is nan s (k * t) (gone k t z c s top m) m after (eliminated_before k t z c (pivot_row k t z c s top m) (part s (k * t) m)) d.stored
+              stored_is nan s (k * t) (gone k t c s top m) m after (eliminated_rows k t c (pivot_row k t c s top m) (part s (k * t) m)) d.stored
               (record { whole = simp length_block; room = room }) (λ j h. get_or_table (k * t) _ j nan h);
-          frame = stored_frame nan s (k * t) (k * t) (gone k t z c s top m) m after d.stored (omega arith) room;
+          frame = stored_frame nan s (k * t) (k * t) (gone k t c s top m) m after d.stored (omega arith) room;
         }
 
     -- one of the n numbers from column q on of row r isn't finite
-    module _ (r : ℕ) (hr : r < k) (mid : List Float) (d : RowsGone k t z c s top m r mid) (x : Float) (ex : x ≡ quotient (get_or mid (s + r * t + c) nan) (get_or m (top + c) nan)) where
+    module _ (r : ℕ) (hr : r < k) (mid : List Float) (d : RowsGone k t c s top m r mid) (x : Float) (ex : x ≡ quotient (get_or mid (s + r * t + c) nan) (get_or m (top + c) nan)) where
       pub gone_stop : (q n : ℕ) (late after : List Float) (ok : Bool) → RowDone (c + 1) (s + r * t) top x q (set mid (s + r * t + c) x) late
           → NumbersStored n (s + r * t + q) (row_number (s + r * t + q) (top + q) x late) late after ok → ((y : ℕ) → y < n → Outside (s + r * t) q (top + (q + y)))
-          → c + 1 ≤ q → q + n ≤ z → ok ≡ false → RowsEliminatedBefore k t z c s top m after false
+          → c + 1 ≤ q → q + n ≤ t → ok ≡ false → RowsEliminated k t c s top m after false
       gone_stop q n late after ok e g o b l h =
           let p = s + r * t in
           let first = set mid (p + c) x in
@@ -228,13 +220,3 @@ module _ (k t z c s top : ℕ) (hc : c < z) (hz : z ≤ t) (m : List Float) (roo
                 })
                 (omega arith) room;
           }
-
--- with z = t the rows are eliminated whole
-pub whole_rows : (k t c s top : ℕ) (before after : List Float) (answer : Bool) → RowsEliminatedBefore k t t c s top before after answer → RowsEliminated k t c s top before after answer
-unfolding eliminated_before eliminated_rows eliminated_before_computes eliminated_computes
-whole_rows k t c s top before after answer r = record {
-  long = r.long;
-  sound = r.sound;
-  whole = λ h. r.whole h ∙ ap (λ (x : List Float). with_part s (k * t) x before) (block_cong k t _ _ (λ i q hi hq. rw (lt-ltb q t hq)));
-  frame = r.frame;
-}

@@ -1,32 +1,24 @@
 // The elimination of the pivot row from other rows of one slice, T-1's and T-3's.
-ghost use Rattle.std.specs.Prelude.{◌≡◌, true, ℕ, ◌+◌, ◌*◌, ◌<◌, ◌≤◌, get_or};
+ghost use Rattle.std.specs.Prelude.{◌≡◌, true, ℕ, ◌+◌, ◌*◌, ◌<◌, get_or};
 ghost use Rattle.std.specs.Float.{nan};
 ghost use Rattle.model.specs.Lists.{part};
 ghost use Rattle.model.specs.Num.{finite, quotient};
 ghost use Rattle.model.specs.Tile.{at, all_finite};
+ghost use Rattle.column_laws.specs.Steps.{RowsEliminated};
 ghost use Rattle.column_laws.specs.Room.{Rows};
-ghost use Rattle.elimination.specs.Before.{RowsEliminatedBefore};
 
 use row_updates::{row_four, row_one};
 
-// Eliminates the pivot row at top from the rows of width t from `start` on, in the columns before z: in each the number in column c becomes the
-// multiplier, and those right of it are updated while it is at hand. False where a computed number isn't finite.
-pub fn eliminate(
-    m: &mut [f64],
-    t: usize,
-    z: usize,
-    start: usize,
-    top: usize,
-    rows: usize,
-    c: usize,
-) -> bool
+// Eliminates the pivot row at top from the rows of width t from `start` on: in each the number in column c becomes the multiplier, and those right
+// of it are updated while it is at hand. False where a computed number isn't finite.
+pub fn eliminate(m: &mut [f64], t: usize, start: usize, top: usize, rows: usize, c: usize) -> bool
     requires rows { Rows rows t c start top m.old }
-    requires c_lt_z { (c < z) × (z ≤ t) × (all_finite (part start (rows * t) m.old) ≡ true) }
+    requires m_value { all_finite (part start (rows * t) m.old) ≡ true }
     requires by_index { (i : ℕ) → i < rows → finite (quotient (at t (part start (rows * t) m.old) i c) (get_or m.old (top + c) nan)) ≡ true }
-    ensures { RowsEliminatedBefore rows t z c start top m.old m.new result }
+    ensures { RowsEliminated rows t c start top m.old m.new result }
 {
     let pivot = m[top + c];
-    let fours = z - (z - (c + 1)) / 4 * 4;
+    let fours = t - (t - (c + 1)) / 4 * 4;
     let mut ok = true;
     let mut r = 0;
     'rows: while r < rows {
@@ -45,7 +37,7 @@ pub fn eliminate(
             }
             q += 1;
         }
-        while q < z {
+        while q < t {
             if !row_four(m, at + q, top + q, by) {
                 ok = false;
                 break 'rows;

@@ -1,5 +1,5 @@
 // A column of T-1, on the lent matrix and row lists where they lie.
-ghost use Rattle.std.specs.Prelude.{◌≡◌, List, Float};
+ghost use Rattle.std.specs.Prelude.{◌≡◌};
 ghost use Rattle.model.specs.Task.{t_1};
 ghost use Rattle.model.specs.Plan.{plan_of};
 ghost use Rattle.model.specs.Buffer.{ended_with, column_ends};
@@ -21,8 +21,8 @@ pub fn factor_column(
     c: usize,
 ) -> ColumnEnd
     requires { Workable z (t_1 k) c matrix.old lists.old }
-    ensures { (slice : List Float) → ended_with result (record { matrix = matrix.new; lists = lists.new; slice = slice })
-        ≡ column_ends (plan_of z) (t_1 k) c (record { matrix = matrix.old; lists = lists.old; slice = slice }) }
+    ensures { ended_with result (record { matrix = matrix.new; lists = lists.new })
+        ≡ column_ends (plan_of z) (t_1 k) c (record { matrix = matrix.old; lists = lists.old }) }
 {
     let n = z.tiles;
     let t = z.side;

@@ -17,5 +17,5 @@ pub fn factor_rows(m: &mut [f64], t: usize, a: usize, c: usize, y: usize) -> boo
     ensures { TileFactored t c y a m.old m.new result }
 {
     exchange(m, a + c * t, a + y * t, t);
-    eliminate(m, t, t, a + (c + 1) * t, a + c * t, t - (c + 1), c)
+    eliminate(m, t, a + (c + 1) * t, a + c * t, t - (c + 1), c)
 }

@@ -49,9 +49,9 @@ diagonal_is N t x m b =
 
 -- ---- the outcome
 
-module _ (z : Sizes) (m : List Float) (l : List ℕ) (sl : List Float) (ms ns : List ℕ) where
+module _ (z : Sizes) (m : List Float) (l ms ns : List ℕ) where
   abbrev state : State
-  state = record { buffers = record { matrix = m; lists = l; slice = sl }; marks = ms; ties = ns }
+  state = record { buffers = record { matrix = m; lists = l }; marks = ms; ties = ns }
 
   pub outcome_failed : (f : Lowest) (p : ℕ) → f ≡ first_or (failed_tasks ms) At None → f ≡ At p → Overflow p ≡ outcome (plan_of z) state
   unfolding outcome

@@ -1,5 +1,5 @@
 // What decides the outcome of a finished system: failed tasks and zeros on the diagonal, the lowest of each.
-ghost use Rattle.std.specs.Prelude.{◌≡◌, List, ℕ, ◌*◌, ◌<◌, Float};
+ghost use Rattle.std.specs.Prelude.{◌≡◌, List, ℕ, ◌*◌, ◌<◌};
 ghost use Rattle.model.specs.Lengths.{MatrixFits, RecordsFit};
 ghost use Rattle.model.specs.Lists.{first_or};
 ghost use Rattle.model.specs.Plan.{plan_of};
@@ -57,8 +57,8 @@ fn first_zero_row(z: Sizes, matrix: &[f64]) -> Lowest
 // The outcome by the marks and the diagonal that stand now: what it is once every task is finished.
 pub fn outcome_of(z: Sizes, matrix: &[f64], records: &[Record]) -> Outcome
     requires { Sized z × MatrixFits z matrix.now × RecordsFit z records.now }
-    ensures { (lists : List ℕ) (slice : List Float) → result ≡ outcome_of (plan_of z) (record {
-      buffers = record { matrix = matrix.old; lists = lists; slice = slice };
+    ensures { (lists : List ℕ) → result ≡ outcome_of (plan_of z) (record {
+      buffers = record { matrix = matrix.old; lists = lists };
       marks = marks_from records.now;
       ties = ties_from records.now;
     }) }

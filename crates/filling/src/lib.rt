@@ -1,14 +1,14 @@
-// What a failed or spoiled task leaves: +0 in its tiles, 0 in its lists, +0 in the multipliers of a T-3.
+// What a failed or spoiled task leaves: +0 in its tiles, 0 in its lists.
 ghost use Rattle.std.specs.Prelude.{◌≡◌, ◌*◌, ◌<◌, replicate};
-ghost use Rattle.model.specs.Lengths.{MatrixFits, ListsFit, SliceFits, BlockFits};
+ghost use Rattle.model.specs.Lengths.{MatrixFits, ListsFit};
 ghost use Rattle.model.specs.Tile.{zeros, upper_filled};
 ghost use Rattle.model.specs.Plan.{plan_of};
-ghost use Rattle.model.specs.Buffer.{tile, put_tile, put_rows, put_slice, filled};
+ghost use Rattle.model.specs.Buffer.{tile, put_tile, put_rows, filled};
 ghost use Rattle.checks.specs.Checks.{Sized, Inside, task_from};
 
 use fills::{fill_entries, fill_numbers};
 use model::{Sizes, TaskRecord};
-use places::{list_start, part_start, tile_start};
+use places::{list_start, tile_start};
 use upper_fills::fill_upper;
 
 // Fills tile (i,j).
@@ -41,31 +41,11 @@ fn fill_list(z: Sizes, lists: &mut [u8], i: usize, j: usize)
     fill_entries(lists, start, t);
 }
 
-// Fills the multipliers of the upper rows beside tile (i,j), where there are any.
-fn fill_part(z: Sizes, slice: &mut [f64], i: usize, j: usize)
-    requires { Sized z × BlockFits z × SliceFits z slice.old × (j < i) × (i < z.tiles) }
-    ensures { slice.new ≡ put_slice z.side z.block i j (zeros (z.side * z.block)) slice.old }
-{
-    let b = z.block;
-    if b == 1 {
-        return;
-    }
-    let start = part_start(z.side, b, i, j);
-    fill_numbers(slice, start, z.side * b);
-}
-
 // Fills what the task writes.
-pub fn fill_task(
-    z: Sizes,
-    matrix: &mut [f64],
-    lists: &mut [u8],
-    slice: &mut [f64],
-    task: TaskRecord,
-)
-    requires sized { Sized z × MatrixFits z matrix.old × ListsFit z lists.old × Inside z.tiles task }
-    requires block_fits { BlockFits z × SliceFits z slice.old × (task.kind ≡ 3 → task.k < task.i) }
-    ensures { record { matrix = matrix.new; lists = lists.new; slice = slice.new }
-        ≡ filled (plan_of z) (task_from task) (record { matrix = matrix.old; lists = lists.old; slice = slice.old }) }
+pub fn fill_task(z: Sizes, matrix: &mut [f64], lists: &mut [u8], task: TaskRecord)
+    requires { Sized z × MatrixFits z matrix.old × ListsFit z lists.old × Inside z.tiles task }
+    ensures { record { matrix = matrix.new; lists = lists.new }
+        ≡ filled (plan_of z) (task_from task) (record { matrix = matrix.old; lists = lists.old }) }
 {
     let k = task.k as usize;
     let i = task.i as usize;
@@ -83,7 +63,6 @@ pub fn fill_task(
         fill_tile(z, matrix, i, k);
         fill_upper_part(z, matrix, k);
         fill_list(z, lists, i, k);
-        fill_part(z, slice, i, k);
         return;
     }
     fill_tile(z, matrix, i, j);

@@ -19,7 +19,7 @@ use Rattle.host_answers.specs.declared.ReadTold.{ReadTold}
 
 -- the version of the calls for hosts: another one where a function or a struct that crosses has changed
 abbrev pub interface_version : ℕ
-interface_version = 6
+interface_version = 5
 
 -- a refusal's number and place, both 0 where there is none
 abbrev pub told : Answer → Told

@@ -20,15 +20,15 @@ use Rattle.host_workers.proofs.Laws.{own_left}
 use Rattle.host_calls.specs.Hosted.{Hosted, Kept, Called, Ran, Solved}
 
 -- b, t, c and left are the workers in the arrays before and after; those by value are the same
-module _ (m m' : List Float) (l l' : List ℕ) (sl sl' : List Float) (r r' : List (List ℕ)) (b b' t c : List ℕ) (count number number' : ℕ) (left : List Worker) (gathered : Workers) (g : gathered ≡ workers_in b t c count number) (said : Told) where
+module _ (m m' : List Float) (l l' : List ℕ) (r r' : List (List ℕ)) (b b' t c : List ℕ) (count number number' : ℕ) (left : List Worker) (gathered : Workers) (g : gathered ≡ workers_in b t c count number) (said : Told) where
   abbrev given : Workers
   given = workers_in b t c count number
 
   abbrev before : Hosted
-  before = record { matrix = m; lists = l; slice = sl; records = r; busy = b; workers = given }
+  before = record { matrix = m; lists = l; records = r; busy = b; workers = given }
 
   abbrev after : Hosted
-  after = record { matrix = m'; lists = l'; slice = sl'; records = r'; busy = b'; workers = record { slots = left; count = given.count; number = number' } }
+  after = record { matrix = m'; lists = l'; records = r'; busy = b'; workers = record { slots = left; count = given.count; number = number' } }
 
   module _ (ws : Workers) (k : OthersKept gathered ws) (s : left ≡ ws.slots) (q : b' ≡ bytes_left b ws.slots) (n : number' ≡ ws.number) where
     back : after.workers ≡ ws
@@ -44,26 +44,26 @@ module _ (m m' : List Float) (l l' : List ℕ) (sl sl' : List Float) (r r' : Lis
       own = λ v h e. ap (λ (x : List ℕ). get_or x v 0) (q ∙ ap (bytes_left b) (sym s)) ∙ own_left b t c left v h e;
     }
 
-  pub call_said : (call : Lent → Reply) (reply : CallReply) → ◌≡◌ {A = Reply} (record { answer = reply.answer; left = all_lent m' l' sl' r' reply.workers }) (call (all_lent m l sl r gathered))
+  pub call_said : (call : Lent → Reply) (reply : CallReply) → ◌≡◌ {A = Reply} (record { answer = reply.answer; left = all_lent m' l' r' reply.workers }) (call (all_lent m l r gathered))
       → OthersKept gathered reply.workers → left ≡ reply.workers.slots → b' ≡ bytes_left b reply.workers.slots → number' ≡ reply.workers.number → said ≡ told reply.answer → Called call before after said
   call_said call reply e k s q n a = record {
-    tells = a ∙ ap (λ (x : Reply). told x.answer) e ∙ ap (λ x. told (call (all_lent m l sl r x)).answer) g;
-    leaves = ap (all_lent m' l' sl' r') (back reply.workers k s q n) ∙ ap (λ (x : Reply). x.left) e ∙ ap (λ x. (call (all_lent m l sl r x)).left) g;
+    tells = a ∙ ap (λ (x : Reply). told x.answer) e ∙ ap (λ x. told (call (all_lent m l r x)).answer) g;
+    leaves = ap (all_lent m' l' r') (back reply.workers k s q n) ∙ ap (λ (x : Reply). x.left) e ∙ ap (λ x. (call (all_lent m l r x)).left) g;
     keeps = kept reply.workers k s q n;
   }
 
-  pub run_said : (call : Lent → RunEnd) (reply : RunReply) → ◌≡◌ {A = RunEnd} (record { answer = reply.answer; left = all_lent m' l' sl' r' reply.workers }) (call (all_lent m l sl r gathered))
+  pub run_said : (call : Lent → RunEnd) (reply : RunReply) → ◌≡◌ {A = RunEnd} (record { answer = reply.answer; left = all_lent m' l' r' reply.workers }) (call (all_lent m l r gathered))
       → OthersKept gathered reply.workers → left ≡ reply.workers.slots → b' ≡ bytes_left b reply.workers.slots → number' ≡ reply.workers.number → said ≡ run_told reply.answer → Ran call before after said
   run_said call reply e k s q n a = record {
-    tells = a ∙ ap (λ (x : RunEnd). run_told x.answer) e ∙ ap (λ x. run_told (call (all_lent m l sl r x)).answer) g;
-    leaves = ap (all_lent m' l' sl' r') (back reply.workers k s q n) ∙ ap (λ (x : RunEnd). x.left) e ∙ ap (λ x. (call (all_lent m l sl r x)).left) g;
+    tells = a ∙ ap (λ (x : RunEnd). run_told x.answer) e ∙ ap (λ x. run_told (call (all_lent m l r x)).answer) g;
+    leaves = ap (all_lent m' l' r') (back reply.workers k s q n) ∙ ap (λ (x : RunEnd). x.left) e ∙ ap (λ x. (call (all_lent m l r x)).left) g;
     keeps = kept reply.workers k s q n;
   }
 
-module _ (m : List Float) (l : List ℕ) (sl : List Float) (r : List (List ℕ)) (given gathered : Workers) (g : gathered ≡ given) (t : Told) where
-  pub solve_said : (call : Lent → Answers) (a : Answer) (x : List Float) → ◌≡◌ {A = Answers} (record { answer = a; left = x }) (call (all_lent m l sl r gathered))
-      → t ≡ told a → Solved (call (all_lent m l sl r given)) x t
+module _ (m : List Float) (l : List ℕ) (r : List (List ℕ)) (given gathered : Workers) (g : gathered ≡ given) (t : Told) where
+  pub solve_said : (call : Lent → Answers) (a : Answer) (x : List Float) → ◌≡◌ {A = Answers} (record { answer = a; left = x }) (call (all_lent m l r gathered))
+      → t ≡ told a → Solved (call (all_lent m l r given)) x t
   solve_said call a x e s = record {
-    tells = s ∙ ap (λ (k : Answers). told k.answer) e ∙ ap (λ k. told (call (all_lent m l sl r k)).answer) g;
-    leaves = ap (λ (k : Answers). k.left) e ∙ ap (λ k. (call (all_lent m l sl r k)).left) g;
+    tells = s ∙ ap (λ (k : Answers). told k.answer) e ∙ ap (λ k. told (call (all_lent m l r k)).answer) g;
+    leaves = ap (λ (k : Answers). k.left) e ∙ ap (λ k. (call (all_lent m l r k)).left) g;
   }

@@ -11,20 +11,19 @@ use Rattle.host_workers.specs.Workers.{workers_in, bytes_left}
 use Rattle.host_answers.specs.declared.Told.{Told}
 use Rattle.host_answers.specs.Answers.{told, run_told}
 
--- matrix, lists, slice, records and workers, and the bytes that say who is busy
+-- matrix, lists, records and workers, and the bytes that say who is busy
 pub record Hosted : Type 0 where
   pub matrix : List Float
   pub lists : List ℕ
-  pub slice : List Float
   pub records : List (List ℕ)
   pub busy : List ℕ
   pub workers : Workers
 
-abbrev pub hosted : List Float → List ℕ → List Float → List (List ℕ) → List ℕ → List ℕ → List ℕ → ℕ → ℕ → Hosted
-hosted m l sl r b t c count number = record { matrix = m; lists = l; slice = sl; records = r; busy = b; workers = workers_in b t c count number }
+abbrev pub hosted : List Float → List ℕ → List (List ℕ) → List ℕ → List ℕ → List ℕ → ℕ → ℕ → Hosted
+hosted m l r b t c count number = record { matrix = m; lists = l; records = r; busy = b; workers = workers_in b t c count number }
 
 abbrev pub lent_in : Hosted → Lent
-lent_in h = all_lent h.matrix h.lists h.slice h.records h.workers
+lent_in h = all_lent h.matrix h.lists h.records h.workers
 
 -- the slots of other workers stay; the bytes are those left by what was there, and a worker that stays as it was keeps its own
 pub record Kept (before after : Hosted) : Type 0 where

@@ -1,6 +1,6 @@
 // A column call, for hosts. hosts/solumivaf.h declares it.
 ghost use Rattle.model.specs.Refusal.{column_call};
-ghost use Rattle.model.specs.Plan.{sizes_with};
+ghost use Rattle.model.specs.Plan.{sizes};
 ghost use Rattle.host_calls.specs.Hosted.{hosted, Called};
 
 use host_answers::{Told, tell};
@@ -15,10 +15,8 @@ pub extern "C" fn solumivaf_column(
     tiles: usize,
     side: usize,
     workers: usize,
-    block: usize,
     matrix: &mut [f64],
     lists: &mut [u8],
-    slice: &mut [f64],
     records: &mut [Record],
     busy: &mut [u8; SLOTS],
     task: &mut [u16; SLOTS],
@@ -27,18 +25,17 @@ pub extern "C" fn solumivaf_column(
     number: &mut u32,
     w: usize,
 ) -> Told
-    ensures { Called (column_call (sizes_with tiles side workers block) w)
-        (hosted matrix.old lists.old slice.old records.old busy.old task.old column.old count number.old)
-        (hosted matrix.new lists.new slice.new records.new busy.new task.new column.new count number.new) result }
+    ensures { Called (column_call (sizes tiles side workers) w)
+        (hosted matrix.old lists.old records.old busy.old task.old column.old count number.old)
+        (hosted matrix.new lists.new records.new busy.new task.new column.new count number.new) result }
 {
     let z = Sizes {
         tiles,
         side,
         workers,
-        block,
     };
     let given = gather(*busy, *task, *column, count, *number);
-    let reply = working::column(z, matrix, lists, slice, records, given, w);
+    let reply = working::column(z, matrix, lists, records, given, w);
     let left = reply.workers;
     scatter(left, busy, task, column);
     *number = left.number;

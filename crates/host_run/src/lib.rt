@@ -1,6 +1,6 @@
 // The whole run, for hosts. hosts/solumivaf.h declares it.
 ghost use Rattle.model.specs.Refusal.{run_call};
-ghost use Rattle.model.specs.Plan.{sizes_with};
+ghost use Rattle.model.specs.Plan.{sizes};
 ghost use Rattle.host_calls.specs.Hosted.{hosted, Ran};
 
 use host_answers::{Told, tell_run};
@@ -15,10 +15,8 @@ pub extern "C" fn solumivaf_run(
     tiles: usize,
     side: usize,
     workers: usize,
-    block: usize,
     matrix: &mut [f64],
     lists: &mut [u8],
-    slice: &mut [f64],
     records: &mut [Record],
     busy: &mut [u8; SLOTS],
     task: &mut [u16; SLOTS],
@@ -27,18 +25,17 @@ pub extern "C" fn solumivaf_run(
     number: &mut u32,
     budget: u64,
 ) -> Told
-    ensures { Ran (run_call (sizes_with tiles side workers block) budget)
-        (hosted matrix.old lists.old slice.old records.old busy.old task.old column.old count number.old)
-        (hosted matrix.new lists.new slice.new records.new busy.new task.new column.new count number.new) result }
+    ensures { Ran (run_call (sizes tiles side workers) budget)
+        (hosted matrix.old lists.old records.old busy.old task.old column.old count number.old)
+        (hosted matrix.new lists.new records.new busy.new task.new column.new count number.new) result }
 {
     let z = Sizes {
         tiles,
         side,
         workers,
-        block,
     };
     let given = gather(*busy, *task, *column, count, *number);
-    let reply = runs::run(z, matrix, lists, slice, records, given, budget);
+    let reply = runs::run(z, matrix, lists, records, given, budget);
     let left = reply.workers;
     scatter(left, busy, task, column);
     *number = left.number;

@@ -2,7 +2,7 @@
 ghost use Rattle.std.specs.Prelude.{◌≡◌};
 ghost use Rattle.model.specs.Refusal.{outcome_call};
 ghost use Rattle.model.specs.Solve.{solve_call};
-ghost use Rattle.model.specs.Plan.{sizes_with};
+ghost use Rattle.model.specs.Plan.{sizes};
 ghost use Rattle.host_answers.specs.Answers.{outcome_told};
 ghost use Rattle.host_calls.specs.Hosted.{hosted, lent_in, Solved};
 
@@ -18,10 +18,8 @@ pub extern "C" fn solumivaf_outcome(
     tiles: usize,
     side: usize,
     workers: usize,
-    block: usize,
     matrix: &[f64],
     lists: &[u8],
-    slice: &[f64],
     records: &[Record],
     busy: &[u8; SLOTS],
     task: &[u16; SLOTS],
@@ -29,16 +27,15 @@ pub extern "C" fn solumivaf_outcome(
     count: usize,
     number: u32,
 ) -> Told
-    ensures { result ≡ outcome_told (outcome_call (sizes_with tiles side workers block) (lent_in (hosted matrix.now lists.now slice.now records.now busy.now task.now column.now count number))) }
+    ensures { result ≡ outcome_told (outcome_call (sizes tiles side workers) (lent_in (hosted matrix.now lists.now records.now busy.now task.now column.now count number))) }
 {
     let z = Sizes {
         tiles,
         side,
         workers,
-        block,
     };
     let given = gather(*busy, *task, *column, count, number);
-    let answer = outcomes::outcome(z, matrix, lists, slice, records, given);
+    let answer = outcomes::outcome(z, matrix, lists, records, given);
     tell_outcome(answer)
 }
 
@@ -48,10 +45,8 @@ pub extern "C" fn solumivaf_solve(
     tiles: usize,
     side: usize,
     workers: usize,
-    block: usize,
     matrix: &[f64],
     lists: &[u8],
-    slice: &[f64],
     records: &[Record],
     busy: &[u8; SLOTS],
     task: &[u16; SLOTS],
@@ -61,16 +56,15 @@ pub extern "C" fn solumivaf_solve(
     right: &[f64],
     answers: &mut [f64],
 ) -> Told
-    ensures { Solved (solve_call (sizes_with tiles side workers block) (lent_in (hosted matrix.now lists.now slice.now records.now busy.now task.now column.now count number)) right.now answers.old)
+    ensures { Solved (solve_call (sizes tiles side workers) (lent_in (hosted matrix.now lists.now records.now busy.now task.now column.now count number)) right.now answers.old)
         answers.new result }
 {
     let z = Sizes {
         tiles,
         side,
         workers,
-        block,
     };
     let given = gather(*busy, *task, *column, count, number);
-    let answer = solving::solve(z, matrix, lists, slice, records, given, right, answers);
+    let answer = solving::solve(z, matrix, lists, records, given, right, answers);
     tell(answer)
 }

@@ -1,7 +1,7 @@
 // The interface's version, the opening and a take, for hosts. hosts/solumivaf.h declares them.
 ghost use Rattle.std.specs.Prelude.{◌≡◌};
 ghost use Rattle.model.specs.Refusal.{open_call, take_call};
-ghost use Rattle.model.specs.Plan.{sizes_with};
+ghost use Rattle.model.specs.Plan.{sizes};
 ghost use Rattle.host_answers.specs.Answers.{interface_version};
 ghost use Rattle.host_calls.specs.Hosted.{hosted, Called};
 
@@ -11,7 +11,7 @@ use model::Sizes;
 use records::Record;
 use worker::SLOTS;
 
-const VERSION: usize = 6;
+const VERSION: usize = 5;
 
 // The version of the interface, as the header has it.
 #[unsafe(no_mangle)]
@@ -27,10 +27,8 @@ pub extern "C" fn solumivaf_open(
     tiles: usize,
     side: usize,
     workers: usize,
-    block: usize,
     matrix: &[f64],
     lists: &mut [u8],
-    slice: &mut [f64],
     records: &mut [Record],
     busy: &mut [u8; SLOTS],
     task: &mut [u16; SLOTS],
@@ -38,18 +36,17 @@ pub extern "C" fn solumivaf_open(
     count: usize,
     number: &mut u32,
 ) -> Told
-    ensures { Called (open_call (sizes_with tiles side workers block))
-        (hosted matrix.now lists.old slice.old records.old busy.old task.old column.old count number.old)
-        (hosted matrix.now lists.new slice.new records.new busy.new task.new column.new count number.new) result }
+    ensures { Called (open_call (sizes tiles side workers))
+        (hosted matrix.now lists.old records.old busy.old task.old column.old count number.old)
+        (hosted matrix.now lists.new records.new busy.new task.new column.new count number.new) result }
 {
     let z = Sizes {
         tiles,
         side,
         workers,
-        block,
     };
     let given = gather(*busy, *task, *column, count, *number);
-    let reply = opening::open(z, matrix, lists, slice, records, given);
+    let reply = opening::open(z, matrix, lists, records, given);
     let left = reply.workers;
     scatter(left, busy, task, column);
     *number = left.number;
@@ -63,10 +60,8 @@ pub extern "C" fn solumivaf_take(
     tiles: usize,
     side: usize,
     workers: usize,
-    block: usize,
     matrix: &[f64],
     lists: &[u8],
-    slice: &[f64],
     records: &mut [Record],
     busy: &mut [u8; SLOTS],
     task: &mut [u16; SLOTS],
@@ -76,18 +71,17 @@ pub extern "C" fn solumivaf_take(
     w: usize,
     p: usize,
 ) -> Told
-    ensures { Called (take_call (sizes_with tiles side workers block) w p)
-        (hosted matrix.now lists.now slice.now records.old busy.old task.old column.old count number.old)
-        (hosted matrix.now lists.now slice.now records.new busy.new task.new column.new count number.new) result }
+    ensures { Called (take_call (sizes tiles side workers) w p)
+        (hosted matrix.now lists.now records.old busy.old task.old column.old count number.old)
+        (hosted matrix.now lists.now records.new busy.new task.new column.new count number.new) result }
 {
     let z = Sizes {
         tiles,
         side,
         workers,
-        block,
     };
     let given = gather(*busy, *task, *column, count, *number);
-    let reply = taking::take(z, matrix, lists, slice, records, given, w, p);
+    let reply = taking::take(z, matrix, lists, records, given, w, p);
     let left = reply.workers;
     scatter(left, busy, task, column);
     *number = left.number;

@@ -2,7 +2,7 @@
 ghost use Rattle.std.specs.Prelude.{◌≡◌};
 ghost use Rattle.model.specs.Plan.{plan_of};
 ghost use Rattle.model.specs.Buffer.{ended_with, column_ends};
-ghost use Rattle.column_laws.specs.Workable.{InnerWorkable};
+ghost use Rattle.column_laws.specs.Workable.{Workable};
 ghost use Rattle.checks.specs.Checks.{task_from};
 
 use apply_columns::apply_column;
@@ -16,13 +16,12 @@ pub fn work_column(
     z: Sizes,
     matrix: &mut [f64],
     lists: &mut [u8],
-    slice: &mut [f64],
     task: TaskRecord,
     c: usize,
 ) -> ColumnEnd
-    requires { InnerWorkable z (task_from task) c matrix.old lists.old slice.old }
-    ensures { ended_with result (record { matrix = matrix.new; lists = lists.new; slice = slice.new })
-        ≡ column_ends (plan_of z) (task_from task) c (record { matrix = matrix.old; lists = lists.old; slice = slice.old }) }
+    requires { Workable z (task_from task) c matrix.old lists.old }
+    ensures { ended_with result (record { matrix = matrix.new; lists = lists.new })
+        ≡ column_ends (plan_of z) (task_from task) c (record { matrix = matrix.old; lists = lists.old }) }
 {
     let k = task.k as usize;
     let i = task.i as usize;
@@ -34,7 +33,7 @@ pub fn work_column(
         return apply_column(z, matrix, lists, k, j, c);
     }
     if task.kind == 3 {
-        return couple_column(z, matrix, lists, slice, k, i, c);
+        return couple_column(z, matrix, lists, k, i, c);
     }
-    pair_column(z, matrix, lists, slice, k, i, j, c)
+    pair_column(z, matrix, lists, k, i, j, c)
 }

@@ -2,25 +2,21 @@
 -- Assumes nothing.
 use mathlib.Core.Bool.{true, false}
 use mathlib.Core.Path.{◌≡◌, refl}
-use mathlib.Core.List.{List, [], ◌∷◌, ◌++◌, map}
+use mathlib.Core.List.{List, [], ◌∷◌, map}
 use Prim.Native.Nat.{ℕ}
-use lib.Ieee.{Float, binary64, of_int, of_bits, neg}
+use lib.Ieee.{Float, of_int, of_bits, neg}
 use lib.ListN.{take}
 use Rattle.model.specs.Lists.{below}
 use Rattle.model.specs.Num.{plus_zero}
-use Rattle.model.specs.Column.{Paired, search, column_open}
-use Rattle.model.specs.Inner.{inner_pair_column}
-use Rattle.model.specs.declared.Sizes.{Sizes}
-use Rattle.model.specs.declared.Answer.TheVariants.{Refused}
-use Rattle.model.specs.Plan.{plan, plan_with, sizes}
-use Rattle.model.specs.Buffer.{tile, slice_length}
+use Rattle.model.specs.Column.{search, column_open}
+use Rattle.model.specs.Plan.{plan, sizes}
 use Rattle.model.specs.Loops.{loops}
 use Rattle.model.specs.Task.{t_2, t_4, A, low, clash, tasks}
 use Rattle.model.specs.Links.{links_to, link_count, latest_writer, latest_writers, links_open}
 use Rattle.model.specs.Old.{old_link_count, old_open}
 use Rattle.model.specs.Calls.{Lent, opened}
-use Rattle.model.specs.Refusal.{open_call, take_answer, take_call, run_call, bad_calls, bad_number, refusal_open}
-use Rattle.model.proofs.Specimens.{int, M, pair, square, marks}
+use Rattle.model.specs.Refusal.{take_call, run_call, bad_calls, bad_number, refusal_open}
+use Rattle.model.proofs.Specimens.{int, M, square, marks}
 
 -- the tasks that each of the 14 tasks of N = 3 waits for
 abbrev pub waits : List (List ℕ)
@@ -58,27 +54,6 @@ numbered n s = record { buffers = s.buffers; records = s.records; workers = s.wo
 -- with only the first worker lent
 abbrev pub by_one : Lent → Lent
 by_one s = record { buffers = s.buffers; records = s.records; workers = take 1 s.workers; number = s.number }
-
--- 1/2
-abbrev pub half : Float
-half = of_bits binary64 0x3FE0_0000_0000_0000
-
--- a system of 2 by 2 tiles of side 2, tile by tile
-abbrev pub blocked : List Float
-blocked =
-    square (int 0) (int 1) (int 2) (int 1) ++ square (neg (int 2)) (int 1) (neg (int 1)) (neg (int 1))
-    ++ square (neg (int 2)) (int 1) (int 2) (int 2) ++ square (int 1) (int 2) (neg (int 1)) (neg (int 2))
-
--- one tile of side 2, one worker, and an inner block size
-abbrev pub in_blocks : ℕ → Sizes
-in_blocks b = record { tiles = 1; side = 2; workers = 1; block = b }
-
--- four ones, and an upper and a lower block of two rows
-abbrev pub ones : List Float
-ones = square (int 1) (int 1) (int 1) (int 1)
-
-abbrev pub two : Paired
-two = record { upper = pair (int 1) (int 2); lower = pair (int 3) (int 4) }
 
 pub record Requests : Type 0 where
   -- K2: N = 2 has 5 links, where document 01 had 4, and N = 3 has 21
@@ -123,23 +98,6 @@ pub record Requests : Type 0 where
   pub K9_workers : bad_calls (plan 2 1) (by_one (two_workers 5)) 1 ≡ true
   -- K9: a take that is refused, of a task that waits for others, is not counted
   pub K9_refused : (take_call (sizes 2 1 2) 1 4 (two_workers 5)).left.number ≡ 5
-  -- K5: N = t = b = 2. T-3 exchanges in column 1, so that the multiplier -1 of the lower row goes to the slice, where upper row 1 has it for column 0 of its
-  -- panel, and +0 comes down. With b = 1 it stays in the lower tile
-  pub K5_slice : (loops (plan_with 2 2 2) blocked).buffers.slice ≡ int 0 ∷ int 0 ∷ neg (int 1) ∷ int 0 ∷ []
-  pub K5_lower : tile 2 2 (loops (plan_with 2 2 2) blocked).buffers.matrix 1 0 ≡ square (int 0) half (int 1) half
-  pub K5_single : tile 2 2 (loops (plan 2 2) blocked).buffers.matrix 1 0 ≡ square (neg (int 1)) half (int 1) half
-  -- K5: T-4 makes the panel's exchanges and then updates upper row 1 by that multiplier, and both tiles are those of b = 1
-  pub K5_upper : tile 2 2 (loops (plan_with 2 2 2) blocked).buffers.matrix 0 1 ≡ square (neg (int 1)) (neg (int 1)) (int 0) (int 1)
-  pub K5_upper_single : tile 2 2 (loops (plan 2 2) blocked).buffers.matrix 0 1 ≡ square (neg (int 1)) (neg (int 1)) (int 0) (int 1)
-  pub K5_last : tile 2 2 (loops (plan_with 2 2 2) blocked).buffers.matrix 1 1 ≡ square (neg (int 2)) half (neg plus_zero) (of_bits binary64 0xBFF8_0000_0000_0000)
-  -- K5: column 0 of T-4 with b = 2 leaves both blocks, of width 1 here; column 1 does the work of both
-  pub K5_waits : inner_pair_column 2 1 2 0 ones ones (0 ∷ 0 ∷ []) two ≡ two
-  pub K5_works : inner_pair_column 2 1 2 1 ones ones (0 ∷ 0 ∷ []) two ≡ record { upper = pair (int 1) (int 1); lower = pair (int 1) (int 2) }
-  -- K5: the slice has t·b numbers for each tile below the diagonal, and none for b = 1
-  pub K5_lengths : map (slice_length 3 4) (0 ∷ 1 ∷ 2 ∷ 3 ∷ 4 ∷ []) ≡ 0 ∷ 0 ∷ 24 ∷ 36 ∷ 48 ∷ []
-  -- K5: b is zero, or no divisor of t: 17 in an opening, and in later calls before a task that doesn't exist
-  pub K5_zero : (open_call (in_blocks 0) (opened (plan 1 2) 1 (square (int 1) (int 2) (int 4) (int 4)))).answer ≡ Refused 17 0
-  pub K5_three : take_answer (in_blocks 3) 0 7 (opened (plan 1 2) 1 (square (int 1) (int 2) (int 4) (int 4))) ≡ Refused 17 0
 
 pub requests : Requests
 unfolding links_open old_open column_open refusal_open of_int of_bits neg
@@ -172,15 +130,4 @@ requests = record {
   K9_below = refl;
   K9_workers = refl;
   K9_refused = refl;
-  K5_slice = refl;
-  K5_lower = refl;
-  K5_single = refl;
-  K5_upper = refl;
-  K5_upper_single = refl;
-  K5_last = refl;
-  K5_waits = refl;
-  K5_works = refl;
-  K5_lengths = refl;
-  K5_zero = refl;
-  K5_three = refl;
 }

@@ -1,14 +1,12 @@
--- The lent matrix, row lists and slice of multipliers, cut into tiles, lists and parts; one column of a task on them; what a failed or spoiled
--- task leaves.
+-- The lent matrix and row lists, cut into tiles and lists; one column of a task on them; what a failed or spoiled task leaves.
 -- Assumes nothing.
-use Rattle.std.specs.Prelude.{ℕ, zero, suc, ◌+◌, ◌*◌, ◌/◌, ◌%◌, ◌≡◌, Bool, true, false, cond, ◌&&◌, ◌||◌, List, replicate, eqb, leb, Float}
+use Rattle.std.specs.Prelude.{ℕ, suc, ◌+◌, ◌*◌, ◌/◌, ◌%◌, ◌≡◌, Bool, true, false, cond, ◌||◌, List, replicate, eqb, Float}
 use Rattle.model.specs.declared.ColumnEnd.{ColumnEnd}
 use Rattle.model.specs.declared.ColumnEnd.TheVariants.{GoesOn, Done, Failed, Spoiled}
 use Rattle.model.specs.Lists.{every, part, with_part}
 use Rattle.model.specs.Num.{finite}
 use Rattle.model.specs.Tile.{at, all_finite, zeros, upper_filled}
-use Rattle.model.specs.Column.{Factored, Paired, factor_pivot, factor_column, factor_computes, apply_column, apply_computes, couple_pivot}
-use Rattle.model.specs.Inner.{Inner, inner_couple_column, inner_couple_computes, inner_pair_column, inner_pair_computes, inner_open}
+use Rattle.model.specs.Column.{Factored, Coupled, Paired, factor_pivot, factor_column, factor_computes, apply_column, apply_computes, couple_pivot, couple_column, couple_computes, pair_column, pair_computes, column_open}
 use Rattle.model.specs.Task.{Task, t_1, t_2, T-3, t_4, Place, is_list, touches}
 use Rattle.model.specs.Links.{taken, done, failed, spoiled}
 use Rattle.model.specs.Plan.{Plan, plan_open}
@@ -31,27 +29,6 @@ rows N t l i j = part ((i * N + j) * t) t l
 unfoldable pub put_rows : ℕ → ℕ → ℕ → ℕ → List ℕ → List ℕ → List ℕ
 put_rows N t i j p l = with_part ((i * N + j) * t) t p l
 
--- K5's slice has a part for each tile below the diagonal, in tile order. In the rows of tiles before row i there are 0 + 1 + .. + (i - 1) of them
-unfoldable pub lowers_before : ℕ → ℕ
-lowers_before zero = 0
-lowers_before (suc i) = lowers_before i + i
-
--- the place of tile (i,j) among them, i > j
-unfoldable pub lower_place : ℕ → ℕ → ℕ
-lower_place i j = lowers_before i + j
-
--- The part of tile (i,j), the multipliers of the upper rows beside it: t·b numbers. For b = 1 none are lent, and +0 stands for them, which nothing reads
-unfoldable pub slice_part : ℕ → ℕ → List Float → ℕ → ℕ → List Float
-slice_part t b l i j = cond (eqb b 1) (zeros (t * b)) (part (lower_place i j * (t * b)) (t * b) l)
-
--- the slice l with the part a in that place
-unfoldable pub put_slice : ℕ → ℕ → ℕ → ℕ → List Float → List Float → List Float
-put_slice t b i j a l = cond (eqb b 1) l (with_part (lower_place i j * (t * b)) (t * b) a l)
-
--- how long the slice is, for a good b and for any other
-unfoldable pub slice_length : ℕ → ℕ → ℕ → ℕ
-slice_length N t b = cond (eqb b 1) 0 (lowers_before N * (t * b))
-
 -- element (x,y) of the whole matrix
 unfoldable pub element : ℕ → ℕ → List Float → ℕ → ℕ → Float
 element N t m x y = at t (tile N t m (x / t) (y / t)) (x % t) (y % t)
@@ -61,8 +38,6 @@ element N t m x y = at t (tile N t m (x / t) (y / t)) (x % t) (y % t)
 pub record Buffers : Type 0 where
   pub matrix : List Float
   pub lists : List ℕ
-  -- K5's multipliers of the upper rows
-  pub slice : List Float
 
 -- what a column or a task left, the task's mark then, and the ties of what it completed (K7)
 pub record Ended : Type 0 where
@@ -100,25 +75,19 @@ module _ (z : Plan) where
   unfoldable pub rows_of : Buffers → ℕ → ℕ → List ℕ
   rows_of s i j = rows z.N z.t s.lists i j
 
-  unfoldable pub slice_of : Buffers → ℕ → ℕ → List Float
-  slice_of s i j = slice_part z.t z.b s.slice i j
-
   unfoldable pub with_tile : ℕ → ℕ → List Float → Buffers → Buffers
-  with_tile i j a s = record { matrix = put_tile z.N z.t i j a s.matrix; lists = s.lists; slice = s.slice }
+  with_tile i j a s = record { matrix = put_tile z.N z.t i j a s.matrix; lists = s.lists }
 
   unfoldable pub with_rows : ℕ → ℕ → List ℕ → Buffers → Buffers
-  with_rows i j p s = record { matrix = s.matrix; lists = put_rows z.N z.t i j p s.lists; slice = s.slice }
-
-  unfoldable pub with_slice : ℕ → ℕ → List Float → Buffers → Buffers
-  with_slice i j a s = record { matrix = s.matrix; lists = s.lists; slice = put_slice z.t z.b i j a s.slice }
+  with_rows i j p s = record { matrix = s.matrix; lists = put_rows z.N z.t i j p s.lists }
 
   -- ---- what each step reads of the buffers
 
   unfoldable pub factor_input : Buffers → ℕ → Factored
   factor_input s k = record { tile = tile_of s k k; rows = rows_of s k k }
 
-  unfoldable pub couple_input : Buffers → ℕ → ℕ → Inner
-  couple_input s k i = record { upper = tile_of s k k; lower = tile_of s i k; slice = slice_of s i k; rows = rows_of s i k }
+  unfoldable pub couple_input : Buffers → ℕ → ℕ → Coupled
+  couple_input s k i = record { upper = tile_of s k k; lower = tile_of s i k; rows = rows_of s i k }
 
   unfoldable pub pair_input : Buffers → ℕ → ℕ → ℕ → Paired
   pair_input s k i j = record { upper = tile_of s k j; lower = tile_of s i j }
@@ -132,18 +101,18 @@ module _ (z : Plan) where
       with_tile k k r.tile (with_rows k k r.rows s)
   worked (t_2 k j) c s = with_tile k j (apply_column z.t z.t c (tile_of s k k) (rows_of s k k) (tile_of s k j)) s
   worked (T-3 k i) c s =
-      let r = inner_couple_column z.t z.b c (couple_input s k i) in
-      with_tile k k r.upper (with_tile i k r.lower (with_slice i k r.slice (with_rows i k r.rows s)))
+      let r = couple_column z.t c (couple_input s k i) in
+      with_tile k k r.upper (with_tile i k r.lower (with_rows i k r.rows s))
   worked (t_4 k i j) c s =
-      let r = inner_pair_column z.t z.t z.b c (tile_of s i k) (slice_of s i k) (rows_of s i k) (pair_input s k i j) in
+      let r = pair_column z.t z.t c (tile_of s i k) (rows_of s i k) (pair_input s k i j) in
       with_tile k j r.upper (with_tile i j r.lower s)
 
   -- the numbers that it computes: quotients, products and differences
   unfoldable pub computed : Task → ℕ → Buffers → List Float
   computed (t_1 k) c s = factor_computes z.t c (factor_input s k)
   computed (t_2 k j) c s = apply_computes z.t z.t c (tile_of s k k) (rows_of s k k) (tile_of s k j)
-  computed (T-3 k i) c s = inner_couple_computes z.t z.b c (couple_input s k i)
-  computed (t_4 k i j) c s = inner_pair_computes z.t z.t z.b c (tile_of s i k) (slice_of s i k) (rows_of s i k) (pair_input s k i j)
+  computed (T-3 k i) c s = couple_computes z.t c (couple_input s k i)
+  computed (t_4 k i j) c s = pair_computes z.t z.t c (tile_of s i k) (rows_of s i k) (pair_input s k i j)
 
   -- how many candidates of the column's pivot search tie with the winner (K7): only T-1 and T-3 search
   unfoldable pub column_ties : Task → ℕ → Buffers → ℕ
@@ -156,15 +125,15 @@ module _ (z : Plan) where
   unfoldable pub sound : Task → ℕ → Buffers → Bool
   sound a c s = every finite (computed a c s)
 
-  -- a place is a list, or every number of its tile is finite, in both parts of a diagonal tile, and so is every multiplier beside a tile below the diagonal
+  -- a place is a list, or every number of its tile is finite, in both parts of a diagonal tile
   unfoldable pub finite_in : Buffers → Place → Bool
-  finite_in s x = is_list x || (all_finite (tile_of s x.row x.column) && (leb x.row x.column || all_finite (slice_of s x.row x.column)))
+  finite_in s x = is_list x || all_finite (tile_of s x.row x.column)
 
-  -- every element of a tile that the task touches is finite, and every multiplier beside one
+  -- every element of a tile that the task touches is finite
   unfoldable pub finite_tiles : Task → Buffers → Bool
   finite_tiles a s = every (finite_in s) (touches a)
 
-  -- ---- what a failed or spoiled task leaves: +0 in its tiles, 0 in its lists and +0 in the part of a T-3; in T-3's upper tile only the diagonal and above
+  -- ---- what a failed or spoiled task leaves: +0 in its tiles and 0 in its lists; in T-3's upper tile only the diagonal and above
 
   unfoldable pub fill_tile : ℕ → ℕ → Buffers → Buffers
   fill_tile i j s = with_tile i j (zeros (z.t * z.t)) s
@@ -172,17 +141,14 @@ module _ (z : Plan) where
   unfoldable pub fill_rows : ℕ → ℕ → Buffers → Buffers
   fill_rows i j s = with_rows i j (replicate z.t 0) s
 
-  unfoldable pub fill_slice : ℕ → ℕ → Buffers → Buffers
-  fill_slice i j s = with_slice i j (zeros (z.t * z.b)) s
-
   unfoldable pub fill_upper : ℕ → Buffers → Buffers
   fill_upper k s = with_tile k k (upper_filled z.t (tile_of s k k)) s
 
-  -- document 01's fill, and K5's of the slice
+  -- document 01's fill
   unfoldable pub filled : Task → Buffers → Buffers
   filled (t_1 k) s = fill_tile k k (fill_rows k k s)
   filled (t_2 k j) s = fill_tile k j s
-  filled (T-3 k i) s = fill_upper k (fill_tile i k (fill_slice i k (fill_rows i k s)))
+  filled (T-3 k i) s = fill_upper k (fill_tile i k (fill_rows i k s))
   filled (t_4 k i j) s = fill_tile k j (fill_tile i j s)
 
   -- ---- column c of a task that is not spoiled: failed where a number computed isn't finite, else done after column t - 1, else still taken
@@ -194,5 +160,5 @@ module _ (z : Plan) where
   ]
 
 unfoldable pub buffer_open : Unit {0}
-unfolding inner_open plan_open tile put_tile rows put_rows lowers_before lower_place slice_part put_slice slice_length element tile_of rows_of slice_of with_tile with_rows with_slice factor_input couple_input pair_input worked computed column_ties sound finite_in finite_tiles fill_tile fill_rows fill_slice fill_upper filled column_ends
+unfolding column_open plan_open tile put_tile rows put_rows element tile_of rows_of with_tile with_rows factor_input couple_input pair_input worked computed column_ties sound finite_in finite_tiles fill_tile fill_rows fill_upper filled column_ends
 buffer_open = tt

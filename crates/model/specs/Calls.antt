@@ -72,7 +72,7 @@ pub record RunEnd : Type 0 where
   pub left : Lent
 
 module _ (z : Plan) where
-  -- ---- after an opening every list entry is 0, every multiplier +0, every task waits in its place of the numbering, W workers are idle, and the run's number is 0
+  -- ---- after an opening every list entry is 0, every task waits in its place of the numbering, W workers are idle, and the run's number is 0
 
   unfoldable pub opened : ℕ → List Float → Lent
   opened W m = record {

@@ -5,11 +5,10 @@ use Rattle.model.specs.declared.Outcome.{Outcome}
 use Rattle.model.specs.declared.Outcome.TheVariants.{Good, Overflow, Singular}
 use Rattle.model.specs.Lists.{below, in_turn, keep, first_or}
 use Rattle.model.specs.Num.{is_zero}
-use Rattle.model.specs.Tile.{zeros}
 use Rattle.model.specs.Task.{Task}
 use Rattle.model.specs.Plan.{Plan, order}
 use Rattle.model.specs.Links.{task, mark, waiting, done, failed, spoiled, spoils, links_open}
-use Rattle.model.specs.Buffer.{Buffers, Ended, slice_length, element, worked, column_ties, sound, filled, buffer_open}
+use Rattle.model.specs.Buffer.{Buffers, Ended, element, worked, column_ties, sound, filled, buffer_open}
 
 -- the loops' state: the buffers, and for each task one mark and, by K7, the sum of the ties of the columns that it completed
 pub record State : Type 0 where
@@ -47,10 +46,10 @@ module _ (z : Plan) where
   unfoldable pub performed : ℕ → State → State
   performed p s = let e = ended s p in record { buffers = e.left; marks = set s.marks p e.mark; ties = set s.ties p e.ties }
 
-  -- all lists 0, the slice +0, all marks waiting, all sums 0
+  -- all lists 0, all marks waiting, all sums 0
   unfoldable pub start : List Float → State
   start m = record {
-    buffers = record { matrix = m; lists = replicate (z.N * z.N * z.t) 0; slice = zeros (slice_length z.N z.t z.b) };
+    buffers = record { matrix = m; lists = replicate (z.N * z.N * z.t) 0 };
     marks = replicate (length z.tasks) waiting;
     ties = replicate (length z.tasks) 0;
   }

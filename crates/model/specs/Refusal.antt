@@ -16,7 +16,7 @@ use Rattle.model.specs.Tile.{all_finite}
 use Rattle.model.specs.Task.{kind_of, k_of, i_of, j_of}
 use Rattle.model.specs.Plan.{Plan, plan_of, order}
 use Rattle.model.specs.Links.{task, mark, taken, done, failed, finished, ready}
-use Rattle.model.specs.Buffer.{slice_length, finite_tiles}
+use Rattle.model.specs.Buffer.{finite_tiles}
 use Rattle.model.specs.Loops.{outcome}
 use Rattle.model.specs.Calls.{Lent, RunEnd, marks_of, ties_of, state_of, record_of, worker, took, advanced, opened, whole_run, calls_open}
 
@@ -66,10 +66,6 @@ inside top x = leb 1 x && leb x top
 unfoldable pub bad_sizes : Sizes → Bool
 bad_sizes z = not (inside most_tiles z.tiles && inside most_side z.side && inside most_workers z.workers)
 
--- 17: K5's inner block size is zero or doesn't divide t
-unfoldable pub bad_block : Sizes → Bool
-bad_block z = eqb z.block 0 || not (eqb (z.side % z.block) 0)
-
 -- 3: the lowest offset of a number that isn't finite
 unfoldable pub first_not_finite : List Float → ℕ
 first_not_finite m = first_or (keep (λ x. not (finite (get_or m x nan))) (below (length m))) (λ x. x) 0
@@ -77,10 +73,6 @@ first_not_finite m = first_or (keep (λ x. not (finite (get_or m x nan))) (below
 -- 5: no such worker
 unfoldable pub no_worker : ℕ → Lent → Bool
 no_worker w s = leb (length s.workers) w
-
--- 4, for run and solve: an element or a multiplier isn't finite
-unfoldable pub bad_numbers : Lent → Bool
-bad_numbers s = not (all_finite s.buffers.matrix && all_finite s.buffers.slice)
 
 -- worker h holds task p
 unfoldable pub holds : ℕ → Worker → Bool
@@ -95,7 +87,7 @@ module _ (z : Plan) where
   unfoldable pub bad_lengths : ℕ → Lent → Bool
   bad_lengths W s =
       not (eqb (length s.buffers.matrix) (order z * order z) && eqb (length s.buffers.lists) (z.N * z.N * z.t)
-      && eqb (length s.buffers.slice) (slice_length z.N z.t z.b) && eqb (length s.records) (length z.tasks) && eqb (length s.workers) W)
+      && eqb (length s.records) (length z.tasks) && eqb (length s.workers) W)
 
   -- 4: the record in place p isn't that of task p, or its mark is none of the five
   unfoldable pub bad_record : Lent → ℕ → Bool
@@ -151,7 +143,7 @@ module _ (z : Plan) where
       || some (bad_ties s) (below (length z.tasks)) || some (bad_calls s) (below (length z.tasks)) || bad_number s
       || some (bad_worker s) s.workers || some (bad_entry s) (below (z.N * z.N * z.t))
 
-  -- 4, for a column: an element of a tile that the task touches, or a multiplier beside one, isn't finite. A worker that is idle or doesn't exist has no task
+  -- 4, for a column: an element of a tile that the task touches isn't finite. A worker that is idle or doesn't exist has no task
   unfoldable pub bad_tiles : ℕ → Lent → Bool
   bad_tiles w s = (worker s w).busy && not (finite_tiles z (task z.tasks (worker s w).task) s.buffers)
 
@@ -167,7 +159,6 @@ module _ (z : Sizes) where
       refuse 1 0 (bad_sizes z)
       otherwise refuse 2 0 (bad_lengths (plan_of z) z.workers s)
       otherwise refuse 3 (first_not_finite s.buffers.matrix) (not (all_finite s.buffers.matrix))
-      otherwise refuse 17 0 (bad_block z)
       otherwise Accepted
 
   unfoldable pub open_call : Lent → Reply
@@ -177,7 +168,6 @@ module _ (z : Sizes) where
   take_answer w p s =
       refuse 1 0 (bad_sizes z)
       otherwise refuse 2 0 (bad_lengths (plan_of z) z.workers s)
-      otherwise refuse 17 0 (bad_block z)
       otherwise refuse 4 0 (damaged (plan_of z) s)
       otherwise refuse 5 w (no_worker w s || (worker s w).busy)
       otherwise refuse 6 0 (leb (length (plan_of z).tasks) p)
@@ -191,7 +181,6 @@ module _ (z : Sizes) where
   column_answer w s =
       refuse 1 0 (bad_sizes z)
       otherwise refuse 2 0 (bad_lengths (plan_of z) z.workers s)
-      otherwise refuse 17 0 (bad_block z)
       otherwise refuse 4 0 (damaged (plan_of z) s || bad_tiles (plan_of z) w s)
       otherwise refuse 5 w (no_worker w s || not (worker s w).busy)
       otherwise Accepted
@@ -203,8 +192,7 @@ module _ (z : Sizes) where
   run_answer s =
       refuse 1 0 (bad_sizes z)
       otherwise refuse 2 0 (bad_lengths (plan_of z) z.workers s)
-      otherwise refuse 17 0 (bad_block z)
-      otherwise refuse 4 0 (damaged (plan_of z) s || bad_numbers s)
+      otherwise refuse 4 0 (damaged (plan_of z) s || not (all_finite s.buffers.matrix))
       otherwise Accepted
 
   unfoldable pub run_call : ℕ → Lent → RunEnd
@@ -221,5 +209,5 @@ module _ (z : Sizes) where
       otherwise Accepted) (outcome_found s)
 
 unfoldable pub refusal_open : Unit {0}
-unfolding calls_open refuse replied run_replied outcome_replied inside bad_sizes bad_block first_not_finite no_worker bad_numbers bad_lengths next_column bad_record holds bad_hold tie_limit bad_ties bad_calls call_limit bad_number bad_worker entry_limit bad_entry damaged bad_tiles unfinished open_answer open_call take_answer take_call column_answer column_call run_answer run_call outcome_found outcome_call
+unfolding calls_open refuse replied run_replied outcome_replied inside bad_sizes first_not_finite no_worker bad_lengths next_column bad_record holds bad_hold tie_limit bad_ties bad_calls call_limit bad_number bad_worker entry_limit bad_entry damaged bad_tiles unfinished open_answer open_call take_answer take_call column_answer column_call run_answer run_call outcome_found outcome_call
 refusal_open = tt

@@ -14,14 +14,13 @@ pub const PROGRAM_ORDER: usize = 48;
 // How many tasks the largest N has.
 pub const MOST_TASKS: usize = 1496;
 
-// What a call is told of a system: N tiles a side, each tile t numbers a side, W workers, and the inner block size b.
+// What a call is told of a system: N tiles a side, each tile t numbers a side, and W workers.
 #[repr(C)]
 #[derive(Drop)]
 pub struct Sizes {
     pub tiles: usize,
     pub side: usize,
     pub workers: usize,
-    pub block: usize,
 }
 
 // What is lent for a task: kind 1 to 4, k, i and j (0 where unused), its mark, the worker that finished it, the sum of the ties of the columns that it

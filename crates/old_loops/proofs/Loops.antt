@@ -10,7 +10,7 @@ use Rattle.model.specs.declared.Sizes.{Sizes}
 use Rattle.model.specs.Lists.{run, below, some, in_turn}
 use Rattle.model.specs.Task.{tasks, task_count}
 use Rattle.model.specs.Links.{task, latest_writers, mark, spoiled, broken, spoils}
-use Rattle.model.specs.Plan.{Plan, plan, plan_with, plan_of}
+use Rattle.model.specs.Plan.{Plan, plan, plan_of}
 use Rattle.model.specs.Buffer.{Ended, filled}
 use Rattle.model.specs.Loops.{State, columns, ended, performed, start, loops, outcome}
 use Rattle.model.specs.Old.{old_latest_writers, old_spoils, old_ended, old_performed, old_loops}
@@ -30,13 +30,13 @@ module _ (N : ℕ) where
   unfolding spoils old_spoils
   same_spoils ms p h = ap (some (λ q. broken (mark ms q))) (same_writers p h)
 
-module _ (N t b : ℕ) where
+module _ (N t : ℕ) where
   abbrev z : Plan
-  z = record { N = N; t = t; b = b; tasks = tasks N }
+  z = record { N = N; t = t; tasks = tasks N }
 
   same_ended : (s : State) (p : ℕ) → p < task_count N → ended z s p ≡ old_ended z s p
   unfolding ended old_ended
-  same_ended s p h = ap (λ (c : Bool). elim c as (λ x. Ended) [
+  same_ended s p h = ap (λ (b : Bool). elim b as (λ x. Ended) [
     | true ↦ record { left = filled z (task (tasks N) p) s.buffers; mark = spoiled; ties = 0 }
     | false ↦ columns z t 0 (task (tasks N) p) s.buffers
   ]) (same_spoils N s.marks p h)
@@ -50,7 +50,7 @@ module _ (N t b : ℕ) where
   in_turn_lem a zero s h = refl
   in_turn_lem a (suc n) s h = ap (in_turn (performed z) (run (suc a) n)) (same_performed a s (omega arith)) ∙ in_turn_lem (suc a) n (old_performed z a s) (omega arith)
 
-  same_loops : (m : List Float) → loops (plan_with N t b) m ≡ old_loops (plan_with N t b) m
+  same_loops : (m : List Float) → loops (plan N t) m ≡ old_loops (plan N t) m
   unfolding loops old_loops plan below
   same_loops m = in_turn_lem 0 (length (tasks N)) (start z m) (omega (arith, length_tasks N))
 
@@ -58,10 +58,10 @@ pub claim : (z : Sizes) → K2 z
 claim z = record {
   links = record { writers = λ q h. links_writers N q (fits h); at_most_three = λ q h. few_links N q (fits h); count = links_in_all N };
   old_spoils_lem = λ ms p h. same_spoils N ms p (fits h);
-  old_loops_lem = same_loops N z.side z.block;
+  old_loops_lem = same_loops N z.side;
   old_ends = λ s cs e.
       let d : Demand3 z s cs = demand_3 z s cs e in
-      let l : loops (plan_of z) s.buffers.matrix ≡ old_loops (plan_of z) s.buffers.matrix = same_loops N z.side z.block s.buffers.matrix in
+      let l : loops (plan_of z) s.buffers.matrix ≡ old_loops (plan_of z) s.buffers.matrix = same_loops N z.side s.buffers.matrix in
       record { same = λ f. d.same f ∙ l; same_outcome = λ f. d.same_outcome f ∙ ap (outcome (plan_of z)) l };
 }
   where

@@ -1,5 +1,5 @@
 -- What one worker's whole run leaves of a system, and what may be lent to it. Assumes nothing.
-use Rattle.std.specs.Prelude.{ℕ, suc, ◌*◌, ◌≤◌, ◌≡◌, true, List, [], length, Float}
+use Rattle.std.specs.Prelude.{ℕ, suc, ◌*◌, ◌≤◌, ◌≡◌, true, List, length, Float}
 use Rattle.model.specs.declared.TaskRecord.{TaskRecord}
 use Rattle.model.specs.declared.Outcome.{Outcome}
 use Rattle.model.specs.Lengths.{LentFits}
@@ -11,11 +11,11 @@ use Rattle.model.specs.Loops.{loops, outcome as outcome_of}
 use Rattle.model.specs.Calls.{state_of, opened, whole_run}
 use Rattle.demand.specs.Numbered.{records_with}
 
--- sizes in their ranges, lengths that fit them with no slice of multipliers, and finite numbers
+-- sizes in their ranges, lengths that fit them, and finite numbers
 pub record Lendable (N t : ℕ) (m : List Float) (l : List ℕ) (r : List (List ℕ)) : Type 0 where
   pub tiles : (1 ≤ N) × (N ≤ most_tiles)
   pub side : (1 ≤ t) × (t ≤ most_side)
-  pub lengths : LentFits (sizes N t 1) m l [] r
+  pub lengths : LentFits (sizes N t 1) m l r
   pub all_finite_lem : all_finite m ≡ true
 
 -- the buffers and the task records at the end, and the outcome

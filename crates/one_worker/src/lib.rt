@@ -1,5 +1,5 @@
 // One worker's whole run of a system, from its opening to its outcome.
-ghost use Rattle.std.specs.Prelude.{◌≡◌, [], map};
+ghost use Rattle.std.specs.Prelude.{◌≡◌, map};
 ghost use Rattle.model.specs.Plan.{plan};
 ghost use Rattle.model.specs.Calls.{without_calls};
 ghost use Rattle.records.specs.Records.{records_from};
@@ -26,7 +26,7 @@ fn one_idle() -> Workers
     }
 }
 
-// Opens a system of finite numbers and runs it with one worker and b = 1 to its end. Lists and records may hold anything before. What is left is also what
+// Opens a system of finite numbers and runs it with one worker to its end. Lists and records may hold anything before. What is left is also what
 // the published loops leave, with their marks and tie sums in the records, which tell calls besides.
 pub fn run_alone(
     tiles: usize,
@@ -37,12 +37,12 @@ pub fn run_alone(
 ) -> Outcome
     requires { Lendable tiles side matrix.old lists.old records.old }
     ensures result_after { record {
-      buffers = record { matrix = matrix.new; lists = lists.new; slice = [] };
+      buffers = record { matrix = matrix.new; lists = lists.new };
       records = records_from records.new;
       outcome = result;
     } ≡ alone (plan tiles side) matrix.old }
     ensures result_after_2 { record {
-      buffers = record { matrix = matrix.new; lists = lists.new; slice = [] };
+      buffers = record { matrix = matrix.new; lists = lists.new };
       records = map without_calls (records_from records.new);
       outcome = result;
     } ≡ published (plan tiles side) matrix.old }
@@ -51,20 +51,10 @@ pub fn run_alone(
         tiles,
         side,
         workers: 1,
-        block: 1,
     };
-    let mut none = [0.0; 1];
-    let opened = open(z, matrix, lists, &mut none[..0], records, one_idle());
+    let opened = open(z, matrix, lists, records, one_idle());
     let workers = opened.workers;
     let budget = task_count(tiles) * (side + 1);
-    run(
-        z,
-        matrix,
-        lists,
-        &mut none[..0],
-        records,
-        workers,
-        budget as u64,
-    );
+    run(z, matrix, lists, records, workers, budget as u64);
     outcome_of(z, matrix, records)
 }

@@ -18,20 +18,19 @@ pub fn open(
     z: Sizes,
     matrix: &[f64],
     lists: &mut [u8],
-    slice: &mut [f64],
     records: &mut [TaskRecord],
     workers: Workers,
 ) -> CallReply
     ensures { (record {
       answer = result.answer;
-      left = whole matrix.now lists.new slice.new records.new result.workers;
-    } ≡ open_call z (whole matrix.now lists.old slice.old records.old workers))
+      left = whole matrix.now lists.new records.new result.workers;
+    } ≡ open_call z (whole matrix.now lists.old records.old workers))
         × OthersKept workers result.workers }
 {
     let mut flat = [[0; RECORD]; COPIES];
     let n = looked_at(records.len());
     load(records, &mut flat, n);
-    let reply = open_part(z, matrix, lists, slice, &mut flat, n, workers);
+    let reply = open_part(z, matrix, lists, &mut flat, n, workers);
     store(records, &flat, 0, n);
     reply
 }

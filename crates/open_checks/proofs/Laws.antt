@@ -11,15 +11,15 @@ use Rattle.model.specs.declared.Answer.TheVariants.{Accepted, Refused}
 use Rattle.model.specs.Tile.{all_finite}
 use Rattle.model.specs.Plan.{plan_of}
 use Rattle.model.specs.Calls.{Lent}
-use Rattle.model.specs.Refusal.{refuse, bad_sizes, bad_block, bad_lengths, first_not_finite, open_answer}
+use Rattle.model.specs.Refusal.{refuse, bad_sizes, bad_lengths, first_not_finite, open_answer}
 use Rattle.records.specs.Records.{lent}
 use Rattle.finite_numbers.specs.declared.Lowest.{Lowest}
 use Rattle.finite_numbers.specs.declared.Lowest.TheVariants.{None, At}
 use Rattle.answers.proofs.Refusals.{refuses, passes}
 
-module _ (z : Sizes) (numbers : List Float) (l : List ℕ) (sl : List Float) (rs : List (List ℕ)) (slots : List Worker) (count number : ℕ) where
+module _ (z : Sizes) (numbers : List Float) (l : List ℕ) (rs : List (List ℕ)) (slots : List Worker) (count number : ℕ) where
   abbrev s : Lent
-  s = lent numbers l sl rs slots count number
+  s = lent numbers l rs slots count number
 
   pub answer_1 : (a : Bool) → a ≡ bad_sizes z → a ≡ true → Refused 1 0 ≡ open_answer z s
   unfolding open_answer
@@ -31,7 +31,7 @@ module _ (z : Sizes) (numbers : List Float) (l : List ℕ) (sl : List Float) (rs
     answer_2 b f r = sym (passes 1 0 (bad_sizes z) _ (sym e ∙ q) ∙ refuses 2 0 (bad_lengths (plan_of z) z.workers s) _ (sym f ∙ r))
 
     module _ (b : Bool) (f : b ≡ bad_lengths (plan_of z) z.workers s) (r : b ≡ false) where
-      last : refuse 3 (first_not_finite numbers) (not (all_finite numbers)) (refuse 17 0 (bad_block z) Accepted) ≡ open_answer z s
+      last : refuse 3 (first_not_finite numbers) (not (all_finite numbers)) Accepted ≡ open_answer z s
       unfolding open_answer lent
       last = sym (passes 1 0 (bad_sizes z) _ (sym e ∙ q) ∙ passes 2 0 (bad_lengths (plan_of z) z.workers s) _ (sym f ∙ r))
 
@@ -39,21 +39,14 @@ module _ (z : Sizes) (numbers : List Float) (l : List ℕ) (sl : List Float) (rs
       unfolding refuse
       answer_3 g x h k = go (all_finite numbers) h ∙ last
         where
-          go : (c : Bool) → g ≡ cond c None (At (first_not_finite numbers)) → Refused 3 x ≡ refuse 3 (first_not_finite numbers) (not c) (refuse 17 0 (bad_block z) Accepted)
+          go : (c : Bool) → g ≡ cond c None (At (first_not_finite numbers)) → Refused 3 x ≡ refuse 3 (first_not_finite numbers) (not c) Accepted
           go true h = let y : ◌≡◌ {A = ℕ} 0 1 = cc in absurd (omega arith)
           go false h = cc
 
-      module _ (g : Lowest) (h : g ≡ cond (all_finite numbers) None (At (first_not_finite numbers))) (k : g ≡ None) where
-        later : refuse 17 0 (bad_block z) Accepted ≡ open_answer z s
-        unfolding refuse
-        later = go (all_finite numbers) h ∙ last
-          where
-            go : (c : Bool) → g ≡ cond c None (At (first_not_finite numbers)) → refuse 17 0 (bad_block z) Accepted ≡ refuse 3 (first_not_finite numbers) (not c) (refuse 17 0 (bad_block z) Accepted)
-            go true h = refl
-            go false h = let y : ◌≡◌ {A = ℕ} 0 1 = cc in absurd (omega arith)
-
-        pub answer_17 : (c : Bool) → c ≡ bad_block z → c ≡ true → Refused 17 0 ≡ open_answer z s
-        answer_17 c o p = sym (refuses 17 0 (bad_block z) Accepted (sym o ∙ p)) ∙ later
-
-        pub answer_0 : (c : Bool) → c ≡ bad_block z → c ≡ false → Accepted ≡ open_answer z s
-        answer_0 c o p = sym (passes 17 0 (bad_block z) Accepted (sym o ∙ p)) ∙ later
+      pub answer_4 : (g : Lowest) → g ≡ cond (all_finite numbers) None (At (first_not_finite numbers)) → g ≡ None → Accepted ≡ open_answer z s
+      unfolding refuse
+      answer_4 g h k = go (all_finite numbers) h ∙ last
+        where
+          go : (c : Bool) → g ≡ cond c None (At (first_not_finite numbers)) → Accepted ≡ refuse 3 (first_not_finite numbers) (not c) Accepted
+          go true h = refl
+          go false h = let y : ◌≡◌ {A = ℕ} 0 1 = cc in absurd (omega arith)

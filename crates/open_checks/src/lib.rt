@@ -4,7 +4,7 @@ ghost use Rattle.worker.specs.declared.Worker.{Worker as SomeWorker};
 ghost use Rattle.model.specs.Refusal.{open_answer};
 ghost use Rattle.records.specs.Records.{lent};
 
-use checks::{bad_block, bad_lengths, bad_sizes};
+use checks::{bad_lengths, bad_sizes};
 use finite_numbers::{Lowest, first_not_finite};
 use model::{Answer, Sizes};
 use records::Record;
@@ -14,25 +14,21 @@ pub fn open_answer(
     z: Sizes,
     matrix: &[f64],
     lists: &[u8],
-    slice: &[f64],
     records: &[Record],
     count: usize,
 ) -> Answer
     ensures { (slots : List SomeWorker) (number : ℕ)
-        → result ≡ open_answer z (lent matrix.now lists.now slice.now records.now slots count number) }
+        → result ≡ open_answer z (lent matrix.now lists.now records.now slots count number) }
 {
     if bad_sizes(z) {
         return Answer::Refused(1, 0);
     }
-    if bad_lengths(z, matrix, lists, slice, records, count) {
+    if bad_lengths(z, matrix, lists, records, count) {
         return Answer::Refused(2, 0);
     }
     let found = first_not_finite(matrix);
-    if let Lowest::At(x) = found {
-        return Answer::Refused(3, x);
+    match found {
+        Lowest::At(x) => Answer::Refused(3, x),
+        Lowest::None => Answer::Accepted,
     }
-    if bad_block(z) {
-        return Answer::Refused(17, 0);
-    }
-    Answer::Accepted
 }

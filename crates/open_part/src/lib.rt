@@ -12,7 +12,6 @@ pub fn open_part(
     z: Sizes,
     matrix: &[f64],
     lists: &mut [u8],
-    slice: &mut [f64],
     records: &mut [Record],
     n: usize,
     workers: Workers,
@@ -20,9 +19,9 @@ pub fn open_part(
     requires { n ≤ length records.old }
     ensures { (record {
       answer = result.answer;
-      left = all_lent matrix.now lists.new slice.new (up_to n records.new) result.workers;
-    } ≡ open_call z (all_lent matrix.now lists.old slice.old (up_to n records.old) workers))
+      left = all_lent matrix.now lists.new (up_to n records.new) result.workers;
+    } ≡ open_call z (all_lent matrix.now lists.old (up_to n records.old) workers))
         × OthersKept workers result.workers }
 {
-    opening::open(z, matrix, lists, slice, &mut records[..n], workers)
+    opening::open(z, matrix, lists, &mut records[..n], workers)
 }

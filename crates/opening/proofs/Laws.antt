@@ -1,5 +1,5 @@
 -- What the opening leaves. Assumes nothing.
-use Prim.Native.Nat.{ℕ}
+use Prim.Native.Nat.{ℕ, ◌*◌}
 use mathlib.Core.Bool.{Bool, true, false}
 use mathlib.Core.Path.{◌≡◌, sym, ap, ◌∙◌}
 use mathlib.Core.List.{List, ◌++◌, map, append-nil}
@@ -12,8 +12,6 @@ use Rattle.model.specs.declared.Answer.{Answer}
 use Rattle.model.specs.declared.Answer.TheVariants.{Accepted}
 use Rattle.model.specs.Lengths.{LentFits}
 use Rattle.model.specs.Lists.{with_part}
-use Rattle.model.specs.Num.{plus_zero}
-use Rattle.model.specs.Tile.{zeros}
 use Rattle.model.specs.Task.{tasks}
 use Rattle.model.specs.Plan.{plan, plan_of}
 use Rattle.model.specs.Loops.{start}
@@ -27,17 +25,13 @@ use Rattle.checks.proofs.Laws.{sized}
 use Rattle.answers.specs.Answers.{accepts}
 use Rattle.answers.proofs.Refusals.{is_accepted, not_accepted, lengths_fit, count_fits}
 
--- a list filled from its start to its end
-filled_whole : {A : Type 0} (l : List A) (n : ℕ) (new : List A) (x : A) → n ≡ length l → new ≡ with_part 0 n (replicate n x) l → new ≡ replicate (length l) x
-filled_whole l n new x h g = g ∙ rw h (ap (λ k. replicate (length l) x ++ k) (drop-length l) ∙ append-nil (replicate (length l) x))
-
-module _ (z : Sizes) (m : List Float) (l : List ℕ) (sl : List Float) (r : List (List ℕ)) (ws : List Worker) (count number : ℕ) where
+module _ (z : Sizes) (m : List Float) (l : List ℕ) (r : List (List ℕ)) (ws : List Worker) (count number : ℕ) where
   abbrev old : Lent
-  old = lent m l sl r ws count number
+  old = lent m l r ws count number
 
   pub record Checked : Type 0 where
     pub sizes : Sized z
-    pub fit : LentFits z m l sl r
+    pub fit : LentFits z m l r
     pub counted : count ≡ z.workers
 
   pub checked : open_answer z old ≡ Accepted → Checked
@@ -45,7 +39,7 @@ module _ (z : Sizes) (m : List Float) (l : List ℕ) (sl : List Float) (r : List
   checked e =
       let a = passed 1 0 (bad_sizes z) _ e in
       let b = passed 2 0 (bad_lengths (plan_of z) z.workers old) _ a.1 in
-      record { sizes = sized z a.0; fit = lengths_fit z m l sl r ws count number b.0; counted = count_fits z m l sl r ws count number b.0 }
+      record { sizes = sized z a.0; fit = lengths_fit z m l r ws count number b.0; counted = count_fits z m l r ws count number b.0 }
 
   module _ (a : Answer) (e : a ≡ open_answer z old) (b : Bool) (f : b ≡ accepts a) where
     pub refused : b ≡ false → ◌≡◌ {A = Reply} (record { answer = a; left = old }) (open_call z old)
@@ -56,11 +50,14 @@ module _ (z : Sizes) (m : List Float) (l : List ℕ) (sl : List Float) (r : List
       pub checked_then : Checked
       checked_then = checked (sym e ∙ is_accepted a b f q)
 
-      pub accepted : (n n' : ℕ) (l' : List ℕ) (sl' : List Float) (r' : List (List ℕ)) (ws' : List Worker) (count' number' : ℕ) → n ≡ length l → l' ≡ with_part 0 n (replicate n 0) l
-          → n' ≡ length sl → sl' ≡ with_part 0 n' (zeros n') sl
+      filled_whole : (n : ℕ) (new : List ℕ) → n ≡ length l → new ≡ with_part 0 n (replicate n 0) l → new ≡ replicate (z.tiles * z.tiles * z.side) 0
+      filled_whole n new h g =
+          g ∙ rw h (ap (λ k. replicate (length l) 0 ++ k) (drop-length l) ∙ append-nil (replicate (length l) 0) ∙ ap (λ k. replicate k 0) checked_then.fit.buffers.lists_fit)
+
+      pub accepted : (n : ℕ) (l' : List ℕ) (r' : List (List ℕ)) (ws' : List Worker) (count' number' : ℕ) → n ≡ length l → l' ≡ with_part 0 n (replicate n 0) l
           → records_from r' ≡ map record_of (tasks z.tiles) → crew ws' count' ≡ replicate count idle → number' ≡ 0
-          → ◌≡◌ {A = Reply} (record { answer = a; left = lent m l' sl' r' ws' count' number' }) (open_call z old)
-      unfolding open_call open_answer replied lent opened start plan zeros
-      accepted n n' l' sl' r' ws' count' number' h g h' g' i j o =
-          (λ t. record { answer = is_accepted a b f q t; left = record { buffers = record { matrix = m; lists = (filled_whole l n l' 0 h g ∙ ap (λ k. replicate k 0) checked_then.fit.buffers.lists_fit) t; slice = (filled_whole sl n' sl' plus_zero h' g' ∙ ap (λ k. replicate k plus_zero) checked_then.fit.slice_fits) t }; records = i t; workers = (j ∙ ap (λ (k : ℕ). replicate k idle) checked_then.counted) t; number = o t } })
+          → ◌≡◌ {A = Reply} (record { answer = a; left = lent m l' r' ws' count' number' }) (open_call z old)
+      unfolding open_call open_answer replied lent opened start plan
+      accepted n l' r' ws' count' number' h g i j o =
+          (λ t. record { answer = is_accepted a b f q t; left = record { buffers = record { matrix = m; lists = filled_whole n l' h g t }; records = i t; workers = (j ∙ ap (λ (k : ℕ). replicate k idle) checked_then.counted) t; number = o t } })
           ∙ ap (λ k. replied k old (opened (plan_of z) z.workers m)) (sym (is_accepted a b f q) ∙ e)

@@ -1,10 +1,10 @@
-// Opening a system: everything is checked, then the lists, the slice, the records and the workers are set.
+// Opening a system: everything is checked, then the lists, the records and the workers are set.
 ghost use Rattle.std.specs.Prelude.{◌≡◌};
 ghost use Rattle.model.specs.Refusal.{open_call};
 ghost use Rattle.records.specs.Records.{all_lent, OthersKept};
 
 use answers::accepted;
-use fills::{fill_entries, fill_numbers};
+use fills::fill_entries;
 use model::{CallReply, Sizes};
 use open_checks::open_answer;
 use opened::{idle_workers, number_records};
@@ -16,24 +16,21 @@ pub fn open(
     z: Sizes,
     matrix: &[f64],
     lists: &mut [u8],
-    slice: &mut [f64],
     records: &mut [Record],
     workers: Workers,
 ) -> CallReply
     ensures workers_after { record {
       answer = result.answer;
-      left = all_lent matrix.now lists.new slice.new records.new result.workers;
-    } ≡ open_call z (all_lent matrix.now lists.old slice.old records.old workers) }
+      left = all_lent matrix.now lists.new records.new result.workers;
+    } ≡ open_call z (all_lent matrix.now lists.old records.old workers) }
     ensures others_kept { OthersKept workers result.workers }
 {
-    let answer = open_answer(z, matrix, lists, slice, records, workers.count);
+    let answer = open_answer(z, matrix, lists, records, workers.count);
     if !accepted(answer) {
         return CallReply { answer, workers };
     }
     let n = lists.len();
     fill_entries(lists, 0, n);
-    let multipliers = slice.len();
-    fill_numbers(slice, 0, multipliers);
     number_records(z, records);
     let left = idle_workers(workers);
     CallReply {

@@ -15,14 +15,13 @@ pub fn outcome(
     z: Sizes,
     matrix: &[f64],
     lists: &[u8],
-    slice: &[f64],
     records: &[TaskRecord],
     workers: Workers,
 ) -> OutcomeAnswer
-    ensures { result ≡ outcome_call z (whole matrix.now lists.now slice.now records.now workers) }
+    ensures { result ≡ outcome_call z (whole matrix.now lists.now records.now workers) }
 {
     let mut flat = [[0; RECORD]; COPIES];
     let n = looked_at(records.len());
     load(records, &mut flat, n);
-    outcome_part(z, matrix, lists, slice, &flat, n, workers)
+    outcome_part(z, matrix, lists, &flat, n, workers)
 }

@@ -12,13 +12,12 @@ pub fn outcome_part(
     z: Sizes,
     matrix: &[f64],
     lists: &[u8],
-    slice: &[f64],
     records: &[Record],
     n: usize,
     workers: Workers,
 ) -> OutcomeAnswer
     requires { n ≤ length records.now }
-    ensures { result ≡ outcome_call z (all_lent matrix.now lists.now slice.now (up_to n records.now) workers) }
+    ensures { result ≡ outcome_call z (all_lent matrix.now lists.now (up_to n records.now) workers) }
 {
-    outcomes::outcome(z, matrix, lists, slice, &records[..n], workers)
+    outcomes::outcome(z, matrix, lists, &records[..n], workers)
 }

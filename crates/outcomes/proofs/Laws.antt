@@ -23,9 +23,9 @@ use Rattle.answers.proofs.Refusals.{refuses, passes, lengths_fit}
 use Rattle.unfinished.proofs.First.{from_at, from_none}
 use Rattle.unfinished.proofs.Finished.{unfinished_is}
 
-module _ (z : Sizes) (m : List Float) (l : List ℕ) (sl : List Float) (r : List (List ℕ)) (ws : List Worker) (count number : ℕ) where
+module _ (z : Sizes) (m : List Float) (l : List ℕ) (r : List (List ℕ)) (ws : List Worker) (count number : ℕ) where
   abbrev old : Lent
-  old = lent m l sl r ws count number
+  old = lent m l r ws count number
 
   pub answer_1 : (a : Bool) → a ≡ bad_sizes z → a ≡ true → OutcomeRefused 1 0 ≡ outcome_call z old
   unfolding outcome_call outcome_replied
@@ -43,8 +43,8 @@ module _ (z : Sizes) (m : List Float) (l : List ℕ) (sl : List Float) (r : List
       found_then =
           ap (λ k. outcome_replied k (outcome_found z old)) (sym (passes 1 0 (bad_sizes z) _ (sym e ∙ q) ∙ passes 2 0 (bad_lengths (plan_of z) z.workers old) _ (sym f ∙ p)))
 
-      pub fits : LentFits z m l sl r
-      fits = lengths_fit z m l sl r ws count number (sym f ∙ p)
+      pub fits : LentFits z m l r
+      fits = lengths_fit z m l r ws count number (sym f ∙ p)
 
       abbrev open_tasks : ℕ → Bool
       open_tasks k = not (finished (mark (marks_from r) k))
@@ -52,9 +52,9 @@ module _ (z : Sizes) (m : List Float) (l : List ℕ) (sl : List Float) (r : List
       module _ (g : Lowest) (h : g ≡ first_or (keep open_tasks (below (length r))) At None) where
         pub answer_3 : (k : ℕ) → g ≡ At k → Unfinished k ≡ outcome_call z old
         unfolding outcome_found
-        answer_3 k i = sym (from_at Unfinished _ (unfinished (plan_of z) old) g k (h ∙ ap (λ xs. first_or xs At None) (unfinished_is z m l sl r ws count number fits.records_fit)) i) ∙ found_then
+        answer_3 k i = sym (from_at Unfinished _ (unfinished (plan_of z) old) g k (h ∙ ap (λ xs. first_or xs At None) (unfinished_is z m l r ws count number fits.records_fit)) i) ∙ found_then
 
-        pub answer_4 : (o : Outcome) → g ≡ None → o ≡ outcome (plan_of z) (record { buffers = record { matrix = m; lists = l; slice = sl }; marks = marks_from r; ties = ties_from r }) → Known o ≡ outcome_call z old
+        pub answer_4 : (o : Outcome) → g ≡ None → o ≡ outcome (plan_of z) (record { buffers = record { matrix = m; lists = l }; marks = marks_from r; ties = ties_from r }) → Known o ≡ outcome_call z old
         unfolding outcome_found state_of marks_of ties_of lent marks_from ties_from
         answer_4 o i j =
-            ap Known j ∙ sym (from_none Unfinished _ (unfinished (plan_of z) old) g (h ∙ ap (λ xs. first_or xs At None) (unfinished_is z m l sl r ws count number fits.records_fit)) i) ∙ found_then
+            ap Known j ∙ sym (from_none Unfinished _ (unfinished (plan_of z) old) g (h ∙ ap (λ xs. first_or xs At None) (unfinished_is z m l r ws count number fits.records_fit)) i) ∙ found_then

@@ -16,16 +16,15 @@ pub fn outcome(
     z: Sizes,
     matrix: &[f64],
     lists: &[u8],
-    slice: &[f64],
     records: &[Record],
     workers: Workers,
 ) -> OutcomeAnswer
-    ensures { result ≡ outcome_call z (all_lent matrix.now lists.now slice.now records.now workers) }
+    ensures { result ≡ outcome_call z (all_lent matrix.now lists.now records.now workers) }
 {
     if bad_sizes(z) {
         return OutcomeAnswer::OutcomeRefused(1, 0);
     }
-    if bad_lengths(z, matrix, lists, slice, records, workers.count) {
+    if bad_lengths(z, matrix, lists, records, workers.count) {
         return OutcomeAnswer::OutcomeRefused(2, 0);
     }
     let task = first_unfinished(records);

@@ -1,31 +1,42 @@
-// A column of T-4, with or without inner blocks.
+// A column of T-4, on the lent matrix and row lists where they lie.
 ghost use Rattle.std.specs.Prelude.{◌≡◌};
 ghost use Rattle.model.specs.Task.{t_4};
 ghost use Rattle.model.specs.Plan.{plan_of};
 ghost use Rattle.model.specs.Buffer.{ended_with, column_ends};
-ghost use Rattle.column_laws.specs.Workable.{InnerWorkable};
+ghost use Rattle.column_laws.specs.Workable.{Workable};
 
+use column_ends::column_end;
+use fills::fill_numbers;
 use model::{ColumnEnd, Sizes};
-use pair_panels::pair_by_panels;
-use pair_singles::pair_single;
+use pair_blocks::pair_rows;
+use places::{list_start, tile_start, wide};
 
 // Works column c of T-4(k,i,j).
 pub fn pair_column(
     z: Sizes,
     matrix: &mut [f64],
     lists: &[u8],
-    slice: &[f64],
     k: usize,
     i: usize,
     j: usize,
     c: usize,
 ) -> ColumnEnd
-    requires { InnerWorkable z (t_4 k i j) c matrix.old lists.now slice.now }
-    ensures { ended_with result (record { matrix = matrix.new; lists = lists.now; slice = slice.now })
-        ≡ column_ends (plan_of z) (t_4 k i j) c (record { matrix = matrix.old; lists = lists.now; slice = slice.now }) }
+    requires { Workable z (t_4 k i j) c matrix.old lists.now }
+    ensures { ended_with result (record { matrix = matrix.new; lists = lists.now })
+        ≡ column_ends (plan_of z) (t_4 k i j) c (record { matrix = matrix.old; lists = lists.now }) }
 {
-    if z.block == 1 {
-        return pair_single(z, matrix, lists, k, i, j, c);
+    let n = z.tiles;
+    let t = z.side;
+    let s = t * t;
+    let u = tile_start(n, t, k, j);
+    let d = tile_start(n, t, i, j);
+    let f = tile_start(n, t, i, k);
+    let p = list_start(n, t, i, k);
+    let e = wide(lists[p + c]);
+    if pair_rows(matrix, t, f, u, d, c, e) {
+        return column_end(t, c, 0);
     }
-    pair_by_panels(z, matrix, lists, slice, k, i, j, c)
+    fill_numbers(matrix, d, s);
+    fill_numbers(matrix, u, s);
+    ColumnEnd::Failed
 }

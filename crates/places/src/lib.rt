@@ -1,7 +1,7 @@
-// Where tiles, row lists and multipliers of upper rows stand in the lent slices, and a list entry as an index.
+// Where tiles and row lists stand in the lent slices, and a list entry as an index.
 ghost use Rattle.std.specs.Prelude.{◌≡◌, ◌<◌, ◌≤◌};
 ghost use Rattle.model.specs.Limits.{most_tiles, most_side};
-ghost use Rattle.column_laws.specs.Steps.{tile_start, list_start, part_start};
+ghost use Rattle.column_laws.specs.Steps.{tile_start, list_start};
 
 // Where tile (i,j) starts in the matrix.
 pub fn tile_start(n: usize, t: usize, i: usize, j: usize) -> usize
@@ -17,14 +17,6 @@ pub fn list_start(n: usize, t: usize, i: usize, j: usize) -> usize
     ensures { result ≡ list_start n t i j }
 {
     (i * n + j) * t
-}
-
-// Where the multipliers beside tile (i,j), i > j, start in the slice: i·(i - 1)/2 tiles below the diagonal stand in the rows of tiles before.
-pub fn part_start(t: usize, b: usize, i: usize, j: usize) -> usize
-    requires { (t ≤ most_side) × (b ≤ most_side) × (i < most_tiles) × (j < i) }
-    ensures { result ≡ part_start t b i j }
-{
-    (i * (i - 1) / 2 + j) * (t * b)
 }
 
 // A list entry as an index.

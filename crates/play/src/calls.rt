@@ -50,7 +50,6 @@ fn play_call(
     call: Call,
     matrix: &mut [f64],
     lists: &mut [u8],
-    slice: &mut [f64],
     records: &mut [Record],
     workers: Workers,
 ) -> Played {
@@ -58,20 +57,20 @@ fn play_call(
     let z = call.sizes;
     let w = call.first as usize;
     if kind == OPEN {
-        return after_call(opening::open(z, matrix, lists, slice, records, workers));
+        return after_call(opening::open(z, matrix, lists, records, workers));
     }
     if kind == TAKE {
         let p = call.second as usize;
-        return after_call(taking::take(z, matrix, lists, slice, records, workers, w, p));
+        return after_call(taking::take(z, matrix, lists, records, workers, w, p));
     }
     if kind == COLUMN {
-        return after_call(working::column(z, matrix, lists, slice, records, workers, w));
+        return after_call(working::column(z, matrix, lists, records, workers, w));
     }
     if kind == RUN {
-        return after_run(runs::run(z, matrix, lists, slice, records, workers, call.first));
+        return after_run(runs::run(z, matrix, lists, records, workers, call.first));
     }
     if kind == OUTCOME {
-        let answer = outcomes::outcome(z, matrix, lists, slice, records, workers);
+        let answer = outcomes::outcome(z, matrix, lists, records, workers);
         return Played {
             workers,
             told: tell_outcome(answer),
@@ -88,7 +87,6 @@ pub fn answer_line(
     line: &[u8],
     matrix: &mut [f64],
     lists: &mut [u8],
-    slice: &mut [f64],
     records: &mut [Record],
     workers: Workers,
     right: &mut [f64],
@@ -96,19 +94,16 @@ pub fn answer_line(
     out: &mut [u8],
 ) -> Lent {
     if two(line, 0) == SOLVE {
-        return solve_line(
-            line, matrix, lists, slice, records, workers, right, answers, out,
-        );
+        return solve_line(line, matrix, lists, records, workers, right, answers, out);
     }
-    let r = play_call(call_of(line), matrix, lists, slice, records, workers);
+    let r = play_call(call_of(line), matrix, lists, records, workers);
     let left = r.workers;
     let told = r.told;
     put_told(out, told);
-    let n = put_digest(matrix, lists, slice, records, left, out, 36);
+    let n = put_digest(matrix, lists, records, left, out, 36);
     Lent {
         matrix: matrix.len(),
         lists: lists.len(),
-        slice: slice.len(),
         records: records.len(),
         workers: left,
         answered: n,

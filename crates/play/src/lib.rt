@@ -10,51 +10,31 @@ use play_lends::{Lent, lend};
 use records::Record;
 use worker::{SLOTS, Worker, Workers};
 
-// Plays a line on the fronts of the buffers that are lent.
-fn play_fronts(
-    line: &[u8],
-    matrix: &mut [f64],
-    lists: &mut [u8],
-    slice: &mut [f64],
-    records: &mut [Record],
-    lent: Lent,
-    right: &mut [f64],
-    answers: &mut [f64],
-    out: &mut [u8],
-) -> Lent {
-    let a = at_most(lent.matrix as u64, matrix.len());
-    let b = at_most(lent.lists as u64, lists.len());
-    let c = at_most(lent.slice as u64, slice.len());
-    let d = at_most(lent.records as u64, records.len());
-    let workers = lent.workers;
-    answer_line(
-        line,
-        &mut matrix[..a],
-        &mut lists[..b],
-        &mut slice[..c],
-        &mut records[..d],
-        workers,
-        right,
-        answers,
-        out,
-    )
-}
-
-// Plays a line; what it lends counts at once.
+// Plays a line on the fronts of the buffers that are lent; what it lends counts at once.
 fn play_line(
     line: &[u8],
     matrix: &mut [f64],
     lists: &mut [u8],
-    slice: &mut [f64],
     records: &mut [Record],
     before: Lent,
     right: &mut [f64],
     answers: &mut [f64],
     out: &mut [u8],
 ) -> Lent {
-    let lent = lend(line, matrix, lists, slice, records, before);
-    play_fronts(
-        line, matrix, lists, slice, records, lent, right, answers, out,
+    let lent = lend(line, matrix, lists, records, before);
+    let a = at_most(lent.matrix as u64, matrix.len());
+    let b = at_most(lent.lists as u64, lists.len());
+    let c = at_most(lent.records as u64, records.len());
+    let workers = lent.workers;
+    answer_line(
+        line,
+        &mut matrix[..a],
+        &mut lists[..b],
+        &mut records[..c],
+        workers,
+        right,
+        answers,
+        out,
     )
 }
 
@@ -63,7 +43,6 @@ pub fn play(
     text: &[u8],
     matrix: &mut [f64],
     lists: &mut [u8],
-    slice: &mut [f64],
     records: &mut [Record],
     right: &mut [f64],
     answers: &mut [f64],
@@ -77,7 +56,6 @@ pub fn play(
     let mut lent = Lent {
         matrix: 0,
         lists: 0,
-        slice: 0,
         records: 0,
         workers,
         answered: 0,
@@ -90,7 +68,6 @@ pub fn play(
             &text[at..e],
             matrix,
             lists,
-            slice,
             records,
             lent,
             right,

@@ -14,7 +14,6 @@ fn answer_solve(
     z: Sizes,
     matrix: &[f64],
     lists: &[u8],
-    slice: &[f64],
     records: &[Record],
     workers: Workers,
     right: &[f64],
@@ -24,7 +23,7 @@ fn answer_solve(
     requires { length answers.old ≤ 65600 }
     ensures { result ≤ 8388608 }
 {
-    let answer = solving::solve(z, matrix, lists, slice, records, workers, right, answers);
+    let answer = solving::solve(z, matrix, lists, records, workers, right, answers);
     put_told(out, tell(answer));
     put_numbers(out, 36, answers);
     36 + answers.len() * 16
@@ -35,7 +34,6 @@ pub fn solve_line(
     line: &[u8],
     matrix: &[f64],
     lists: &[u8],
-    slice: &[f64],
     records: &[Record],
     workers: Workers,
     right: &mut [f64],
@@ -44,24 +42,22 @@ pub fn solve_line(
 ) -> Lent {
     let call = call_of(line);
     let z = call.sizes;
-    let a = lend_numbers(line, 66, right);
-    let b = lend_numbers(line, 74 + a * 16, answers);
+    let a = lend_numbers(line, 50, right);
+    let b = lend_numbers(line, 58 + a * 16, answers);
     let n = answer_solve(
         z,
         matrix,
         lists,
-        slice,
         records,
         workers,
         &right[..a],
         &mut answers[..b],
         out,
     );
-    let m = put_digest(matrix, lists, slice, records, workers, out, n);
+    let m = put_digest(matrix, lists, records, workers, out, n);
     Lent {
         matrix: matrix.len(),
         lists: lists.len(),
-        slice: slice.len(),
         records: records.len(),
         workers,
         answered: m,

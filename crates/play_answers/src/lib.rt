@@ -73,7 +73,6 @@ fn mixed_workers(h: u64, workers: Workers) -> u64 {
 pub fn put_digest(
     matrix: &[f64],
     lists: &[u8],
-    slice: &[f64],
     records: &[Record],
     workers: Workers,
     out: &mut [u8],
@@ -81,7 +80,7 @@ pub fn put_digest(
 ) -> usize
     requires { n ≤ 8388608 }
 {
-    let a = mixed_numbers(mixed_bytes(mixed_numbers(1, matrix), lists), slice);
+    let a = mixed_bytes(mixed_numbers(1, matrix), lists);
     put(
         out,
         n,

@@ -37,12 +37,10 @@ fn sizes(line: &[u8]) -> Sizes {
     let n = argument(line, 0);
     let t = argument(line, 1);
     let w = argument(line, 2);
-    let b = argument(line, 3);
     Sizes {
         tiles: n as usize,
         side: t as usize,
         workers: w as usize,
-        block: b as usize,
     }
 }
 
@@ -51,8 +49,8 @@ pub fn call_of(line: &[u8]) -> Call {
     Call {
         kind: two(line, 0),
         sizes: sizes(line),
-        first: argument(line, 4),
-        second: argument(line, 5),
+        first: argument(line, 3),
+        second: argument(line, 4),
     }
 }
 

@@ -13,7 +13,6 @@ const LEND: u8 = 16;
 pub struct Lent {
     pub matrix: usize,
     pub lists: usize,
-    pub slice: usize,
     pub records: usize,
     pub workers: Workers,
     pub answered: usize,
@@ -64,7 +63,6 @@ pub fn lend(
     line: &[u8],
     matrix: &mut [f64],
     lists: &mut [u8],
-    slice: &mut [f64],
     records: &mut [Record],
     lent: Lent,
 ) -> Lent {
@@ -75,15 +73,12 @@ pub fn lend(
     let p = 10 + a * 16;
     let b = lend_bytes(line, p, lists);
     let q = p + 8 + b * 2;
-    let c = lend_numbers(line, q, slice);
-    let s = q + 8 + c * 16;
-    let d = lend_records(line, s, records);
-    let workers = read_workers(line, s + 8 + d * 32);
+    let c = lend_records(line, q, records);
+    let workers = read_workers(line, q + 8 + c * 32);
     Lent {
         matrix: a,
         lists: b,
-        slice: c,
-        records: d,
+        records: c,
         workers,
         answered: 0,
     }

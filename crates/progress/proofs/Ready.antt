@@ -1,20 +1,15 @@
--- Where tiles, lists, multipliers and parts of the right side stand in what was lent. Assumes nothing.
+-- Where tiles, lists and parts of the right side stand in what was lent. Assumes nothing.
 use Prim.Native.Nat.{ℕ, ◌+◌, ◌*◌, ◌<◌, ◌≤◌}
 use mathlib.Core.Path.{◌≡◌}
-use mathlib.Core.Logic.{◌≢◌}
 use mathlib.Core.List.{List}
 use native.Mathlib.Nat.{mul-le-mul}
 use native.Mathlib.Omega.{arith}
 use lib.ListN.{length}
-use borrow.Author.Tests.{ne_eqb}
 use lib.Ieee.{Float}
 use Rattle.model.specs.declared.Sizes.{Sizes}
-use Rattle.model.specs.Buffer.{lowers_before, slice_length}
-use Rattle.column_laws.specs.Steps.{tile_start, list_start, part_start}
+use Rattle.column_laws.specs.Steps.{tile_start, list_start}
 use Rattle.column_laws.proofs.Places.{matrix_most, lists_most}
-use Rattle.column_laws.proofs.Slices.{part_room}
 use Rattle.laws.proofs.Blocks.{row_end, place_room, square_most}
-use Rattle.laws.proofs.Lowers.{lowers_twice}
 use Rattle.progress.specs.Right.{Solvable}
 
 -- one tile, its list, and the numbers of a right side
@@ -25,8 +20,8 @@ pub record Ready (z : Sizes) (i k : ℕ) (m : List Float) (l : List ℕ) : Type 
   pub room : tile_start z.tiles z.side i k + z.side * z.side ≤ length m
   pub list_room : list_start z.tiles z.side i k + z.side ≤ length l
 
-pub ready : {z : Sizes} {m : List Float} {l : List ℕ} {sl : List Float} → Solvable z m l sl → (i k : ℕ) → i < z.tiles → k < z.tiles → Ready z i k m l
-ready {z} {m} {l} {sl} s i k hi hk = record {
+pub ready : {z : Sizes} {m : List Float} {l : List ℕ} → Solvable z m l → (i k : ℕ) → i < z.tiles → k < z.tiles → Ready z i k m l
+ready {z} {m} {l} s i k hi hk = record {
   square = square_most z.side s.side_most;
   numbers_few = omega (arith, s.lengths.matrix_fits, matrix_most z.tiles z.side s.tiles_most s.side_most);
   lists_few = omega (arith, s.lengths.lists_fit, lists_most z.tiles z.side s.tiles_most s.side_most);
@@ -40,21 +35,3 @@ right_room z y e i h = omega (arith, row_end i z.tiles z.side h)
 
 pub right_few : (z : Sizes) (y : List Float) → length y ≡ z.tiles * z.side → z.tiles ≤ 16 → z.side ≤ 16 → length y ≤ 256
 right_few z y e hN ht = let b : z.tiles * z.side ≤ 256 = mul-le-mul hN ht in omega arith
-
--- the multipliers beside tile (i,k), k < i, where b isn't 1
-pub record PartReady (z : Sizes) (i k : ℕ) (sl : List Float) : Type 0 where
-  pub multipliers_few : length sl ≤ 65536
-  pub part_room : part_start z.side z.block i k + z.side * z.block ≤ length sl
-
-pub part_ready : {z : Sizes} {m : List Float} {l : List ℕ} {sl : List Float} → Solvable z m l sl → 1 < z.block → z.block ≤ z.side → (i k : ℕ) → k < i → i < z.tiles → PartReady z i k sl
-unfolding slice_length
-part_ready {z} {m} {l} {sl} s more most i k hk hi =
-    let other : z.block ≢ 1 = λ (e : z.block ≡ 1). omega arith in
-    let block : z.block ≤ 16 = omega (arith, s.side_most) in
-    let lowers : lowers_before z.tiles ≤ 128 = omega (arith, lowers_twice z.tiles, square_most z.tiles s.tiles_most) in
-    let numbers : z.side * z.block ≤ 256 = mul-le-mul s.side_most block in
-    let all : lowers_before z.tiles * (z.side * z.block) ≤ 32768 = mul-le-mul lowers numbers in
-    record {
-      multipliers_few = omega (arith, rw (ne_eqb z.block 1 other) at s.slice_fits, all);
-      part_room = part_room z.side z.block other i k z.tiles sl s.slice_fits hi hk;
-    }

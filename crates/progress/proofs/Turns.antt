@@ -1,8 +1,8 @@
 -- Things done in turn to a right side that goes on or has stopped, as loops do them; and the tasks in number order as nested loops.
 -- Assumes nothing.
 use mathlib.Core.Path.{◌≡◌, refl, sym, ◌∙◌, ap}
-use mathlib.Core.List.{List, [], ◌∷◌, ◌++◌, map}
-use Prim.Native.Nat.{ℕ, zero, suc, ◌+◌, ◌-◌, ◌<◌, ◌≤◌}
+use mathlib.Core.List.{List, [], ◌∷◌, map}
+use Prim.Native.Nat.{ℕ, suc, ◌+◌, ◌-◌, ◌<◌, ◌≤◌}
 use native.Mathlib.Omega.{arith}
 use lib.Ieee.{Float}
 use Rattle.model.specs.Lists.{run, below, joined, in_turn}
@@ -16,18 +16,6 @@ use Rattle.progress.specs.declared.Progress.TheVariants.{Going, Stopped}
 use Rattle.progress.specs.Right.{passed_of, apply_all, pair_all, stage_passed}
 
 -- ---- doing things in turn
-
--- two runs, one after the other
-pub run_append : (k a b : ℕ) → run k (a + b) ≡ run k a ++ run (k + a) b
-unfolding run
-run_append k zero b =
-    let n : zero + b ≡ b = omega arith in
-    let e : k ≡ k + zero = omega arith in
-    ap (run k) n ∙ ap (λ (x : ℕ). run x b) e
-run_append k (suc a) b =
-    let n : suc a + b ≡ suc (a + b) = omega arith in
-    let e : suc k + a ≡ k + suc a = omega arith in
-    ap (run k) n ∙ ap (λ (xs : List ℕ). k ∷ xs) (run_append (suc k) a b ∙ ap (λ (x : ℕ). run (suc k) a ++ run x b) e)
 
 module _ {A S : Type 0} (f : A → S → S) where
   -- what leaves everything as it is
@@ -62,18 +50,6 @@ module _ (f : ℕ → Passed → Passed) (keeps : (a e : ℕ) → f a (stopped e
       let s : n - i ≡ suc (n - suc i) = omega arith in
       let u : i + 1 ≡ suc i = omega arith in
       rw (u, q) (rw s at e)
-
-  -- b steps at once
-  leap : (b : ℕ) (p : Passed) → i + b ≤ n → in_turn f (run (i + b) (n - (i + b))) (in_turn f (run i b) p) ≡ in_turn f (run i (n - i)) p
-  leap b p h =
-      let s : b + (n - (i + b)) ≡ n - i = omega arith in
-      sym (in_turn_append f (run i b) (run (i + b) (n - (i + b))) p) ∙ ap (λ (xs : List ℕ). in_turn f xs p) (sym (run_append i b (n - (i + b))) ∙ ap (run i) s)
-
-  pub left_leaps : (b : ℕ) (y after : List Float) → Left i y → i + b ≤ n → going after ≡ in_turn f (run i b) (going y) → Left (i + b) after
-  left_leaps b y after e h q = ap (in_turn f (run (i + b) (n - (i + b)))) q ∙ leap b (going y) h ∙ e
-
-  pub leap_stops : (b : ℕ) (y : List Float) (x : ℕ) → Left i y → i + b ≤ n → stopped x ≡ in_turn f (run i b) (going y) → stopped x ≡ whole
-  leap_stops b y x e h q = sym (turns_stop f keeps (run (i + b) (n - (i + b))) x) ∙ ap (in_turn f (run (i + b) (n - (i + b)))) q ∙ leap b (going y) h ∙ e
 
   pub left_stops : (y : List Float) (x : ℕ) → Left i y → i < n → stopped x ≡ f i (going y) → stopped x ≡ whole
   unfolding in_turn run

@@ -1,7 +1,7 @@
 -- What the passing of a right side needs of its caller, and what it answers. Assumes nothing.
 use Rattle.std.specs.Prelude.{ℕ, ◌+◌, ◌*◌, ◌<◌, ◌≤◌, ◌≡◌, Bool, true, false, List, length, get_or, Float}
 use Rattle.model.specs.declared.Sizes.{Sizes}
-use Rattle.model.specs.Lengths.{BuffersFit, SliceFits, BlockFits}
+use Rattle.model.specs.Lengths.{BuffersFit}
 use Rattle.model.specs.Limits.{most_tiles, most_side}
 use Rattle.model.specs.Lists.{below, in_turn}
 use Rattle.model.specs.Tile.{all_finite}
@@ -13,15 +13,11 @@ use Rattle.column_laws.specs.Steps.{list_start}
 use Rattle.progress.specs.declared.Progress.{Progress}
 use Rattle.progress.specs.declared.Progress.TheVariants.{Going, Stopped}
 
--- the factored matrix, its lists and multipliers: as long as the sizes say, with entries in range and finite numbers
-pub record Solvable (z : Sizes) (m : List Float) (l : List ℕ) (sl : List Float) : Type 0 where
+-- the factored matrix and its lists: as long as the sizes say, with entries in range
+pub record Solvable (z : Sizes) (m : List Float) (l : List ℕ) : Type 0 where
   pub tiles_most : z.tiles ≤ most_tiles
   pub side_most : z.side ≤ most_side
   pub lengths : BuffersFit z m l
-  pub block : BlockFits z
-  pub slice_fits : SliceFits z sl
-  pub matrix_finite : all_finite m ≡ true
-  pub slice_finite : all_finite sl ≡ true
   pub diagonal_entries : (k x : ℕ) → k < z.tiles → x < z.side → get_or l (list_start z.tiles z.side k k + x) 0 < z.side
   pub lower_entries : (i k x : ℕ) → k < i → i < z.tiles → x < z.side → get_or l (list_start z.tiles z.side i k + x) 0 ≤ z.side
 

@@ -41,13 +41,13 @@ unfolding ties_from
 get_ties l p = get_or-map (λ r. r.ties) (records_from l) p blank
 
 -- the marks of what is lent
-pub marks_lent : (m : List Float) (l : List ℕ) (sl : List Float) (r : List (List ℕ)) (h : List Worker) (W n : ℕ) → marks_of (lent m l sl r h W n) ≡ marks_from r
+pub marks_lent : (m : List Float) (l : List ℕ) (r : List (List ℕ)) (h : List Worker) (W n : ℕ) → marks_of (lent m l r h W n) ≡ marks_from r
 unfolding marks_of lent marks_from
-marks_lent m l sl r h W n = refl
+marks_lent m l r h W n = refl
 
-pub ties_lent : (m : List Float) (l : List ℕ) (sl : List Float) (r : List (List ℕ)) (h : List Worker) (W n : ℕ) → ties_of (lent m l sl r h W n) ≡ ties_from r
+pub ties_lent : (m : List Float) (l : List ℕ) (r : List (List ℕ)) (h : List Worker) (W n : ℕ) → ties_of (lent m l r h W n) ≡ ties_from r
 unfolding ties_of lent ties_from
-ties_lent m l sl r h W n = refl
+ties_lent m l r h W n = refl
 
 -- ---- workers
 

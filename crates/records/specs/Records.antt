@@ -46,18 +46,18 @@ blank = record { kind = 0; k = 0; i = 0; j = 0; mark = 0; worker = 0; ties = 0; 
 unfoldable pub crew : List Worker → ℕ → List Worker
 crew slots W = table W (λ w. get_or slots w idle)
 
--- what is lent: matrix, lists, slice, records, and W workers with the run's number n
-unfoldable pub lent : List Float → List ℕ → List Float → List (List ℕ) → List Worker → ℕ → ℕ → Lent
-lent matrix lists slice records slots W n = record {
-  buffers = record { matrix = matrix; lists = lists; slice = slice };
+-- what is lent: matrix, lists, records, and W workers with the run's number n
+unfoldable pub lent : List Float → List ℕ → List (List ℕ) → List Worker → ℕ → ℕ → Lent
+lent matrix lists records slots W n = record {
+  buffers = record { matrix = matrix; lists = lists };
   records = records_from records;
   workers = crew slots W;
   number = n;
 }
 
 -- the same with the workers as a call is handed them
-abbrev pub all_lent : List Float → List ℕ → List Float → List (List ℕ) → Workers → Lent
-all_lent matrix lists slice records ws = lent matrix lists slice records ws.slots ws.count ws.number
+abbrev pub all_lent : List Float → List ℕ → List (List ℕ) → Workers → Lent
+all_lent matrix lists records ws = lent matrix lists records ws.slots ws.count ws.number
 
 -- a call keeps the count of the workers, and the slots beyond it
 pub record OthersKept (before after : Workers) : Type 0 where

@@ -29,37 +29,37 @@ use Rattle.system_written.proofs.Answers.{system_is, length_system}
 -- ---- the text, as the loops write it
 
 module _ (N t : ℕ) (m : List Float) (l : List ℕ) (o : Outcome) where
-  list_frames_lem : (i : ℕ) → joined (map (list_frame (plan N t) (record { matrix = m; lists = l; slice = [] }) i) (below (suc i))) ≡ list_row N t l i
+  list_frames_lem : (i : ℕ) → joined (map (list_frame (plan N t) (record { matrix = m; lists = l }) i) (below (suc i))) ≡ list_row N t l i
   unfolding list_frame rows_of rows plan list_row
   list_frames_lem i = rw add-one
 
-  result_is : result_text (plan N t) (record { matrix = m; lists = l; slice = [] }) o ≡ system_text (plan N t) (record { matrix = m; lists = []; slice = [] }) ++ list_rows N t l ++ outcome_frame o
+  result_is : result_text (plan N t) (record { matrix = m; lists = l }) o ≡ system_text (plan N t) (record { matrix = m; lists = [] }) ++ list_rows N t l ++ outcome_frame o
   unfolding result_text list_rows plan
   result_is =
-      ap (λ (x : List ℕ). x ++ joined (map (λ i. joined (map (list_frame (plan N t) (record { matrix = m; lists = l; slice = [] }) i) (below (suc i)))) (below N)) ++ outcome_frame o) (system_is N t m l ∙ sym (system_is N t m []))
-      ∙ ap (λ (f : ℕ → List ℕ). system_text (plan N t) (record { matrix = m; lists = []; slice = [] }) ++ joined (map f (below N)) ++ outcome_frame o) (fun_ext list_frames_lem)
+      ap (λ (x : List ℕ). x ++ joined (map (λ i. joined (map (list_frame (plan N t) (record { matrix = m; lists = l }) i) (below (suc i)))) (below N)) ++ outcome_frame o) (system_is N t m l ∙ sym (system_is N t m []))
+      ∙ ap (λ (f : ℕ → List ℕ). system_text (plan N t) (record { matrix = m; lists = [] }) ++ joined (map f (below N)) ++ outcome_frame o) (fun_ext list_frames_lem)
 
   length_outcome : length (outcome_frame o) ≡ 9
   unfolding outcome_frame line
   length_outcome = simp (length-append, length_hex)
 
-  pub length_result : N * N * (t * t) ≤ length m → N * N * t ≤ length l → length (result_text (plan N t) (record { matrix = m; lists = l; slice = [] }) o) ≡ result_length N t
+  pub length_result : N * N * (t * t) ≤ length m → N * N * t ≤ length l → length (result_text (plan N t) (record { matrix = m; lists = l }) o) ≡ result_length N t
   unfolding result_length
   length_result h k =
-      let x = system_text (plan N t) (record { matrix = m; lists = []; slice = [] }) in
+      let x = system_text (plan N t) (record { matrix = m; lists = [] }) in
       ap length result_is ∙ length-append (x ++ list_rows N t l) (outcome_frame o)
       ∙ omega (arith, length-append x (list_rows N t l), length_system N t m [] h, length_list_rows N t l k, length_outcome)
 
   pub put_result : (xs xs₁ xs₂ xs₃ : List ℕ) (b e : ℕ) → result_length N t ≤ length xs → N * N * (t * t) ≤ length m → N * N * t ≤ length l → b ≡ system_length N t → e ≡ result_length N t
-      → xs₁ ≡ with_part 0 (system_length N t) (system_text (plan N t) (record { matrix = m; lists = []; slice = [] })) xs
+      → xs₁ ≡ with_part 0 (system_length N t) (system_text (plan N t) (record { matrix = m; lists = [] })) xs
       → xs₂ ≡ with_part b (triangle N * (7 + t * 2)) (list_rows N t l) xs₁
       → xs₃ ≡ with_part (e - 9) 9 (outcome_frame o) xs₂
-      → Put 0 (result_length N t) (result_text (plan N t) (record { matrix = m; lists = l; slice = [] }) o) xs xs₃
+      → Put 0 (result_length N t) (result_text (plan N t) (record { matrix = m; lists = l }) o) xs xs₃
   unfolding result_length
   put_result xs xs₁ xs₂ xs₃ b e h km kl eb ee e₁ e₂ e₃ =
       let k = triangle N * (7 + t * 2) in
-      let first : Put 0 (system_length N t) (system_text (plan N t) (record { matrix = m; lists = []; slice = [] })) xs xs₁ = record { size = length_system N t m [] km; room = omega arith; is = e₁ } in
-      let second : Put 0 (system_length N t + k) (system_text (plan N t) (record { matrix = m; lists = []; slice = [] }) ++ list_rows N t l) xs xs₂ =
+      let first : Put 0 (system_length N t) (system_text (plan N t) (record { matrix = m; lists = [] })) xs xs₁ = record { size = length_system N t m [] km; room = omega arith; is = e₁ } in
+      let second : Put 0 (system_length N t + k) (system_text (plan N t) (record { matrix = m; lists = [] }) ++ list_rows N t l) xs xs₂ =
       put_next b k (list_rows N t l) first (length_list_rows N t l kl) (omega arith) (omega arith) e₂ in
       put_text (put_next (e - 9) 9 (outcome_frame o) second length_outcome (omega arith) (omega arith) e₃) (sym result_is)
 
@@ -80,7 +80,7 @@ module _ (N t : ℕ) (m : List Float) (text l : List ℕ) (o : Outcome) where
 
   module _ (e : bad_shape N t ≡ false) (h : length m ≡ N * t * (N * t)) (g : length l ≡ N * N * t) where
     abbrev result : List ℕ
-    result = result_text (plan N t) (record { matrix = m; lists = l; slice = [] }) o
+    result = result_text (plan N t) (record { matrix = m; lists = l }) o
 
     result_told : write_result N t m l o text ≡ writing (refuse 15 0 (ltb (length text) (length result)) Accepted) result text
     unfolding write_result refuse bad_lists

@@ -1,5 +1,5 @@
 // Writing result files into a lent text: its front is filled, the length told, the rest left.
-ghost use Rattle.std.specs.Prelude.{◌≡◌, [], ◌*◌, ◌≤◌, length};
+ghost use Rattle.std.specs.Prelude.{◌≡◌, ◌*◌, ◌≤◌, length};
 ghost use Rattle.model.specs.Limits.{most_tiles, most_side};
 ghost use Rattle.model.specs.Lists.{with_part};
 ghost use Rattle.model.specs.Plan.{plan};
@@ -19,7 +19,7 @@ fn put_result(text: &mut [u8], m: &[f64], l: &[u8], n: usize, t: usize, outcome:
     requires t_in_bounds { result_length n t ≤ length text.old }
     requires t_in_bounds_2 { n * n * (t * t) ≤ length m.now }
     requires t_in_bounds_3 { n * n * t ≤ length l.now }
-    ensures { text.new ≡ with_part 0 (result_length n t) (result_text (plan n t) (record { matrix = m.now; lists = l.now; slice = [] }) outcome) text.old }
+    ensures { text.new ≡ with_part 0 (result_length n t) (result_text (plan n t) (record { matrix = m.now; lists = l.now }) outcome) text.old }
 {
     put_system(text, m, n, t);
     put_lists(text, system_length(n, t), l, n, t);

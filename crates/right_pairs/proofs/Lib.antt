@@ -1,4 +1,1 @@
-pub mod Two
 pub mod Paired
-pub mod Turns
-pub mod Panels

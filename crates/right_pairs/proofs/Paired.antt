@@ -1,50 +1,45 @@
--- One column of T-4(k,i) on the right side with b = 1, blocks of width 1 at k·t and i·t, from what the blocks' steps leave. Assumes nothing.
+-- One column of T-4(k,i) on the right side, blocks of width 1 at k·t and i·t, from what the blocks' steps leave. Assumes nothing.
 use mathlib.Core.Path.{◌≡◌, sym, ◌∙◌, ap}
 use mathlib.Core.Bool.{Bool, true}
 use mathlib.Core.List.{List}
 use Prim.Native.Nat.{ℕ, ◌+◌, ◌*◌, ◌<◌, ◌≤◌}
 use native.Mathlib.Omega.{arith}
 use lib.ListN.{length, get_or}
-use lib.Ieee.{Float}
+use lib.Ieee.{Float, nan}
 use Rattle.model.specs.declared.Sizes.{Sizes}
-use Rattle.model.specs.Lists.{every, part}
+use Rattle.model.specs.Lists.{every, part, with_part}
 use Rattle.model.specs.Num.{finite}
 use Rattle.model.specs.Tile.{at, all_finite}
-use Rattle.model.specs.Column.{Paired, pair_exchanged, pair_column, pair_computes}
-use Rattle.model.specs.Inner.{inner_pair_column, inner_pair_computes}
+use Rattle.model.specs.Column.{pair_exchanged, pair_column, pair_computes}
 use Rattle.model.specs.Plan.{plan, plan_of}
-use Rattle.model.specs.Buffer.{Buffers, tile, rows, tile_of, rows_of, slice_of}
+use Rattle.model.specs.Buffer.{Buffers, tile, rows, tile_of, rows_of}
 use Rattle.model.specs.Solve.{going, stepped, right_part, with_right, right_pair}
 use Rattle.model.specs.Solve as M
-use Rattle.inner_tiles.proofs.Single.{single as singly}
 use Rattle.laws.specs.Apart.{Apart}
-use Rattle.laws.proofs.Parts.{length_part, get_part}
+use Rattle.laws.proofs.Parts.{Fits, length_put, length_part, get_part}
 use Rattle.column_laws.specs.Steps.{tile_start, list_start, RowsPaired, paired_block, paired_computes, upper_at, lower_at, with_two}
 use Rattle.column_laws.proofs.Pairs.{length_upper, length_lower, length_paired, finite_upper, finite_lower}
 use Rattle.column_laws.proofs.Sound.{paired_all_finite}
 use Rattle.progress.specs.Right.{ColumnPassed}
-use Rattle.progress.proofs.Stepped.{finite_whole, step_goes, step_stops}
-use Rattle.right_pairs.proofs.Two.{finite_two}
+use Rattle.progress.proofs.Stepped.{finite_put, finite_whole, step_goes, step_stops}
 
-module _ (z : Sizes) (single : z.block ≡ 1) (m : List Float) (l : List ℕ) (sl : List Float) (k i c : ℕ) (y : List Float) where
+-- two finite blocks put into a finite list
+finite_two : (n u d : ℕ) (m x w : List Float) → length x ≡ n → length w ≡ n → u + n ≤ length m → d + n ≤ length m
+    → all_finite x ≡ true → all_finite w ≡ true → all_finite m ≡ true → all_finite (with_two n u d x w m) ≡ true
+unfolding with_two
+finite_two n u d m x w hx hw ru rd fx fw fm =
+    let lower : Fits n d m w = record { whole = hw; room = rd } in
+    finite_put n u (with_part d n w m) x (record { whole = hx; room = rw (length_put n nan d m w lower) ru }) fx (finite_put n d m w lower fw fm)
+
+module _ (z : Sizes) (m : List Float) (l : List ℕ) (k i c : ℕ) (y : List Float) where
   abbrev s : Buffers
-  s = record { matrix = m; lists = l; slice = sl }
+  s = record { matrix = m; lists = l }
 
   abbrev t : ℕ
   t = z.side
 
   abbrev N : ℕ
   N = z.tiles
-
-  -- T-3's lower tile and list, and the two parts of the right side
-  abbrev L : List Float
-  L = tile_of (plan_of z) s i k
-
-  abbrev P : List ℕ
-  P = rows_of (plan_of z) s i k
-
-  abbrev S : Paired
-  S = right_pair (plan_of z) s k i y
 
   abbrev by : ℕ → Float
   by r = at t (part (tile_start N t i k) (t * t) m) r c
@@ -63,20 +58,10 @@ module _ (z : Sizes) (single : z.block ≡ 1) (m : List Float) (l : List ℕ) (s
     entry : get_or (part (list_start N t i k) t l) c 0 ≡ e
     entry = get_part (list_start N t i k) t l 0 c hc ∙ sym he
 
-    -- with b = 1 a column of T-4 is document 01's
-    column_is : M.paired (plan_of z) s k i c (going y)
-        ≡ stepped i (pair_computes t 1 c L P S) (with_right (plan_of z) s k (pair_column t 1 c L P S).upper (with_right (plan_of z) s i (pair_column t 1 c L P S).lower y))
-    unfolding M.paired plan
-    column_is =
-        let same = singly.pair t 1 c L (slice_of (plan_of z) s i k) P S in
-        let column = ap (λ (b : ℕ). inner_pair_column t 1 b c L (slice_of (plan_of z) s i k) P S) single ∙ same.column in
-        let computes = ap (λ (b : ℕ). inner_pair_computes t 1 b c L (slice_of (plan_of z) s i k) P S) single ∙ same.computes in
-        λ x. stepped i (computes x) (with_right (plan_of z) s k (column x).upper (with_right (plan_of z) s i (column x).lower y))
-
     paired_is : M.paired (plan_of z) s k i c (going y)
         ≡ stepped i (paired_computes t 1 c by (upper e) (lower e)) (with_two t (k * t) (i * t) (upper e) (paired_block t 1 c by (upper e) (lower e)) y)
-    unfolding plan right_part with_right right_pair tile_of rows_of tile rows pair_column pair_computes pair_exchanged paired_block paired_computes upper_at lower_at with_two
-    paired_is = column_is ∙ rw (entry, one)
+    unfolding M.paired plan right_part with_right right_pair tile_of rows_of tile rows pair_column pair_computes pair_exchanged paired_block paired_computes upper_at lower_at with_two
+    paired_is = rw (entry, one)
 
     module _ (ru : k * t + t ≤ length y) (rd : i * t + t ≤ length y) (apart : Apart t (k * t) (i * t)) (f : ℕ) (hf : f ≡ tile_start N t i k) (after : List Float) (answer : Bool)
         (p : RowsPaired t 1 c e (k * t) (i * t) (λ r. at t (part f (t * t) m) r c) y after answer) where

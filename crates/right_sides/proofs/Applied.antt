@@ -23,9 +23,9 @@ use Rattle.column_laws.proofs.Sound.{applied_all_finite}
 use Rattle.progress.specs.Right.{ColumnPassed}
 use Rattle.progress.proofs.Stepped.{finite_put, finite_whole, step_goes, step_stops}
 
-module _ (z : Sizes) (m : List Float) (l : List ℕ) (sl : List Float) (k c : ℕ) (y : List Float) where
+module _ (z : Sizes) (m : List Float) (l : List ℕ) (k c : ℕ) (y : List Float) where
   abbrev s : Buffers
-  s = record { matrix = m; lists = l; slice = sl }
+  s = record { matrix = m; lists = l }
 
   abbrev t : ℕ
   t = z.side

@@ -18,16 +18,15 @@ fn apply_right_column(
     z: Sizes,
     matrix: &[f64],
     lists: &[u8],
-    slice: &[f64],
     y: &mut [f64],
     k: usize,
     c: usize,
 ) -> bool
-    requires solvable { Solvable z matrix.now lists.now slice.now }
+    requires solvable { Solvable z matrix.now lists.now }
     requires right_side { RightSide z y.old }
     requires k_lt_tiles { (k < z.tiles) × (c < z.side) }
     ensures { ColumnPassed k y.new result
-        (applied (plan_of z) (record { matrix = matrix.old; lists = lists.now; slice = slice.now }) k c (going y.old)) }
+        (applied (plan_of z) (record { matrix = matrix.old; lists = lists.now }) k c (going y.old)) }
 {
     let n = z.tiles;
     let t = z.side;
@@ -39,17 +38,17 @@ fn apply_right_column(
 }
 
 // T-2(k) on the right side y.
-fn apply(z: Sizes, matrix: &[f64], lists: &[u8], slice: &[f64], y: &mut [f64], k: usize) -> Progress
-    requires solvable { Solvable z matrix.now lists.now slice.now }
+fn apply(z: Sizes, matrix: &[f64], lists: &[u8], y: &mut [f64], k: usize) -> Progress
+    requires solvable { Solvable z matrix.now lists.now }
     requires right_side { RightSide z y.old }
     requires k_lt_tiles { k < z.tiles }
     ensures { Passing result y.new
-        (apply_all (plan_of z) (record { matrix = matrix.old; lists = lists.now; slice = slice.now }) k (going y.old)) }
+        (apply_all (plan_of z) (record { matrix = matrix.old; lists = lists.now }) k (going y.old)) }
 {
     let t = z.side;
     let mut c = 0;
     while c < t {
-        if !apply_right_column(z, matrix, lists, slice, y, k, c) {
+        if !apply_right_column(z, matrix, lists, y, k, c) {
             return Progress::Stopped(k);
         }
         c += 1;
@@ -58,24 +57,17 @@ fn apply(z: Sizes, matrix: &[f64], lists: &[u8], slice: &[f64], y: &mut [f64], k
 }
 
 // T-4(k,i) on the right side y for i rising.
-fn pair_below(
-    z: Sizes,
-    matrix: &[f64],
-    lists: &[u8],
-    slice: &[f64],
-    y: &mut [f64],
-    k: usize,
-) -> Progress
-    requires solvable { Solvable z matrix.now lists.now slice.now }
+fn pair_below(z: Sizes, matrix: &[f64], lists: &[u8], y: &mut [f64], k: usize) -> Progress
+    requires solvable { Solvable z matrix.now lists.now }
     requires right_side { RightSide z y.old }
     requires k_lt_tiles { k < z.tiles }
     ensures { Passing result y.new
-        (in_turn (pair_all (plan_of z) (record { matrix = matrix.old; lists = lists.now; slice = slice.now }) k) (after z.tiles k) (going y.old)) }
+        (in_turn (pair_all (plan_of z) (record { matrix = matrix.old; lists = lists.now }) k) (after z.tiles k) (going y.old)) }
 {
     let n = z.tiles;
     let mut i = k + 1;
     while i < n {
-        let p = pair(z, matrix, lists, slice, y, k, i);
+        let p = pair(z, matrix, lists, y, k, i);
         if let Progress::Stopped(x) = p {
             return Progress::Stopped(x);
         }
@@ -85,33 +77,33 @@ fn pair_below(
 }
 
 // T-2(k), then T-4(k,i) for i rising, on the right side y.
-fn stage(z: Sizes, matrix: &[f64], lists: &[u8], slice: &[f64], y: &mut [f64], k: usize) -> Progress
-    requires solvable { Solvable z matrix.now lists.now slice.now }
+fn stage(z: Sizes, matrix: &[f64], lists: &[u8], y: &mut [f64], k: usize) -> Progress
+    requires solvable { Solvable z matrix.now lists.now }
     requires right_side { RightSide z y.old }
     requires k_lt_tiles { k < z.tiles }
     ensures { Passing result y.new
-        (stage_passed (plan_of z) (record { matrix = matrix.old; lists = lists.now; slice = slice.now }) k (going y.old)) }
+        (stage_passed (plan_of z) (record { matrix = matrix.old; lists = lists.now }) k (going y.old)) }
 {
-    let p = apply(z, matrix, lists, slice, y, k);
+    let p = apply(z, matrix, lists, y, k);
     if let Progress::Stopped(x) = p {
         return Progress::Stopped(x);
     }
-    pair_below(z, matrix, lists, slice, y, k)
+    pair_below(z, matrix, lists, y, k)
 }
 
 // Passes the right side y through the T-2 and T-4 of all tasks in number order. Where a computed number isn't finite the place is told,
 // k in a T-2 and i in a T-4, and what is left in y is free but for its length.
-pub fn pass(z: Sizes, matrix: &[f64], lists: &[u8], slice: &[f64], y: &mut [f64]) -> Progress
-    requires solvable { Solvable z matrix.now lists.now slice.now }
+pub fn pass(z: Sizes, matrix: &[f64], lists: &[u8], y: &mut [f64]) -> Progress
+    requires solvable { Solvable z matrix.now lists.now }
     requires right_side { RightSide z y.old }
     ensures passing { Passing result y.new
-        (in_turn (passOf (plan_of z) (record { matrix = matrix.old; lists = lists.now; slice = slice.now })) (tasks z.tiles) (going y.old)) }
+        (in_turn (passOf (plan_of z) (record { matrix = matrix.old; lists = lists.now })) (tasks z.tiles) (going y.old)) }
     ensures y_len_unchanged { length y.new ≡ length y.old }
 {
     let n = z.tiles;
     let mut k = 0;
     while k < n {
-        let p = stage(z, matrix, lists, slice, y, k);
+        let p = stage(z, matrix, lists, y, k);
         if let Progress::Stopped(x) = p {
             return Progress::Stopped(x);
         }

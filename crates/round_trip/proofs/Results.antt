@@ -58,7 +58,7 @@ row_lines N t l = grid rising (λ i j. row_line i j (rows N t l i j)) N
 abbrev result_lines : ℕ → ℕ → List Float → List ℕ → Outcome → List (List ℕ)
 result_lines N t m l o = tile_lines N t m ++ row_lines N t l ++ outcome_frame o ∷ []
 
-result_lines_lem : (N t : ℕ) (m : List Float) (l : List ℕ) (o : Outcome) → result_text (plan N t) (record { matrix = m; lists = l; slice = [] }) o ≡ header_line N t ++ joined (result_lines N t m l o)
+result_lines_lem : (N t : ℕ) (m : List Float) (l : List ℕ) (o : Outcome) → result_text (plan N t) (record { matrix = m; lists = l }) o ≡ header_line N t ++ joined (result_lines N t m l o)
 unfolding result_text list_frame rows_of plan joined
 result_lines_lem N t m l o =
     let a = joined (tile_lines N t m) in
@@ -130,7 +130,7 @@ module _ (N t : ℕ) (m : List Float) (l : List ℕ) (o : Outcome) (shape : bad_
       ∙ at_last (tile_lines N t m) (row_lines N t l) (outcome_frame o) [] (N * N) (listed N) (length_tiles N t m) (length_lists N t l)
 
   pub result_read : (m₀ : List Float) (l₀ : List ℕ) → bad_matrix N t m₀ ≡ false → bad_lists N t l₀ ≡ false
-      → read_result (result_text (plan N t) (record { matrix = m; lists = l; slice = [] }) o) m₀ l₀ ≡ record { answer = ResultRead N t o; matrix = m; lists = l }
+      → read_result (result_text (plan N t) (record { matrix = m; lists = l }) o) m₀ l₀ ≡ record { answer = ResultRead N t o; matrix = m; lists = l }
   unfolding read_result result_reading joined
   result_read m₀ l₀ bm bl =
       let h = header_line N t in
@@ -138,7 +138,7 @@ module _ (N t : ℕ) (m : List Float) (l : List ℕ) (o : Outcome) (shape : bad_
       let r = range N t shape in
       let right : bad N t ≡ false = rw (bm, bl) in
       let lined : Each Line ls = each_append Line (each_append Line (tiles_lined N t m) (each_grid Line rising (λ i j. row_line i j (rows N t l i j)) N (λ i j hi hj. row_lined i j (rows N t l i j)))) (cons (outcome_lined o) nil) in
-      let cutted : lines_from [] (result_text (plan N t) (record { matrix = m; lists = l; slice = [] }) o) ≡ h ∷ ls =
+      let cutted : lines_from [] (result_text (plan N t) (record { matrix = m; lists = l }) o) ≡ h ∷ ls =
       ap (lines_from []) (result_lines_lem N t m l o) ∙ lines_of (more (header_lined N t) (lines_all lined)) in
       let lines : lines_answer t 2 (result_frames N) ls ≡ Accepted = subst (λ (x : List (List ℕ)). lines_answer t 2 (result_frames N) x ≡ Accepted) texts (accepted t 2 text all_fine) in
       ap (λ (x : List (List ℕ)). result_reading (file_answer no_limit result_frames bad x) x m₀ l₀) cutted
@@ -196,7 +196,7 @@ module _ (m₀ : List Float) (l₀ : List ℕ) where
   answer_of ls = file_answer no_limit result_frames (λ N t. bad_matrix N t m₀ || bad_lists N t l₀) ls
 
   lines_back : (h : List ℕ) (ls : List (List ℕ)) → answer_of (h ∷ ls) ≡ Accepted
-      → result_text (plan (tiles_in h) (side_in h)) (record { matrix = tiles_of (tiles_in h) (side_in h) ls; lists = lists_of (tiles_in h) (side_in h) ls; slice = [] }) (outcome_in (get_or ls (outcome_line (tiles_in h)) [])) ≡ h ++ joined ls
+      → result_text (plan (tiles_in h) (side_in h)) (record { matrix = tiles_of (tiles_in h) (side_in h) ls; lists = lists_of (tiles_in h) (side_in h) ls }) (outcome_in (get_or ls (outcome_line (tiles_in h)) [])) ≡ h ++ joined ls
   lines_back h ls e =
       let N = tiles_in h in
       let t = side_in h in
@@ -218,7 +218,7 @@ module _ (m₀ : List Float) (l₀ : List ℕ) where
       ∙ sym (in_three (N * N) (listed N) ls long))
 
   text_back : (N t : ℕ) (m : List Float) (l : List ℕ) (o : Outcome) (a : Answer) (ls : List (List ℕ)) → answer_of ls ≡ a → result_reading a ls m₀ l₀ ≡ record { answer = ResultRead N t o; matrix = m; lists = l }
-      → result_text (plan N t) (record { matrix = m; lists = l; slice = [] }) o ≡ joined ls
+      → result_text (plan N t) (record { matrix = m; lists = l }) o ≡ joined ls
   unfolding result_reading joined
   text_back N t m l o (Refused n x) ls e q = let p : ReadRefused n x ≡ ResultRead N t o = ap (λ (r : ResultReading). r.answer) q in let z : ◌≡◌ {A = ℕ} 0 1 = cc in absurd (omega arith)
   text_back N t m l o Accepted [] e q = let p : ReadRefused 14 1 ≡ ResultRead N t o = ap (λ (r : ResultReading). r.answer) q in let z : ◌≡◌ {A = ℕ} 0 1 = cc in absurd (omega arith)
@@ -232,6 +232,6 @@ module _ (m₀ : List Float) (l₀ : List ℕ) where
       rw (← em, ← el, ← eo, ← eN, ← et) (lines_back h ls e)
 
 pub result_again : (text : List ℕ) (m₀ : List Float) (l₀ : List ℕ) (N t : ℕ) (o : Outcome) (m : List Float) (l : List ℕ)
-    → read_result text m₀ l₀ ≡ record { answer = ResultRead N t o; matrix = m; lists = l } → result_text (plan N t) (record { matrix = m; lists = l; slice = [] }) o ≡ text
+    → read_result text m₀ l₀ ≡ record { answer = ResultRead N t o; matrix = m; lists = l } → result_text (plan N t) (record { matrix = m; lists = l }) o ≡ text
 unfolding read_result
 result_again text m₀ l₀ N t o m l q = text_back m₀ l₀ N t m l o (answer_of m₀ l₀ (lines_from [] text)) (lines_from [] text) refl q ∙ joined_lines [] text

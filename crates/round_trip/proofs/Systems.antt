@@ -85,7 +85,7 @@ module _ (limit : ℕ) (frames : ℕ → List Frame) (bad : ℕ → ℕ → Bool
 abbrev pub tile_lines : ℕ → ℕ → List Float → List (List ℕ)
 tile_lines N t m = grid (wide N) (λ i j. tile_line i j (tile N t m i j)) N
 
-pub system_lines : (N t : ℕ) (m : List Float) (l : List ℕ) → system_text (plan N t) (record { matrix = m; lists = l; slice = [] }) ≡ header_line N t ++ joined (tile_lines N t m)
+pub system_lines : (N t : ℕ) (m : List Float) (l : List ℕ) → system_text (plan N t) (record { matrix = m; lists = l }) ≡ header_line N t ++ joined (tile_lines N t m)
 unfolding system_text header_frame tile_frame tile_of plan
 system_lines N t m l = ap (λ (x : List ℕ). header_line N t ++ x) (sym (joined_grid (wide N) (λ i j. tile_line i j (tile N t m i j)) N))
 
@@ -122,14 +122,14 @@ module _ (N t : ℕ) (m : List Float) (shape : bad_shape N t ≡ false) (w : Mat
   pub matrix_read : (ls : List (List ℕ)) → N * N ≤ length ls → ((i j : ℕ) → i < N → j < N → get_or ls (i * N + j) [] ≡ tile_line i j (tile N t m i j)) → tiles_of N t ls ≡ m
   matrix_read ls h is = tiles_read N t m w.long ls h (λ i j hi hj. ap (numbers_in t) (is i j hi hj) ∙ tile_read N t m w i j hi hj)
 
-  pub system_read : (l : List ℕ) (m₀ : List Float) → bad_matrix N t m₀ ≡ false → read_system (system_text (plan N t) (record { matrix = m; lists = l; slice = [] })) m₀ ≡ record { answer = SystemRead N t; matrix = m }
+  pub system_read : (l : List ℕ) (m₀ : List Float) → bad_matrix N t m₀ ≡ false → read_system (system_text (plan N t) (record { matrix = m; lists = l })) m₀ ≡ record { answer = SystemRead N t; matrix = m }
   unfolding read_system system_reading joined system_frames
   system_read l m₀ b =
       let h = header_line N t in
       let ls = tile_lines N t m in
       let bad : ℕ → ℕ → Bool = λ N t. bad_matrix N t m₀ in
       let r = range N t shape in
-      let cutted : lines_from [] (system_text (plan N t) (record { matrix = m; lists = l; slice = [] })) ≡ h ∷ ls =
+      let cutted : lines_from [] (system_text (plan N t) (record { matrix = m; lists = l })) ≡ h ∷ ls =
       ap (lines_from []) (system_lines N t m l) ∙ lines_of (more (header_lined N t) (lines_all (tiles_lined N t m))) in
       let lines : lines_answer t 2 (tile_frames N) ls ≡ Accepted = subst (λ (x : List (List ℕ)). lines_answer t 2 (tile_frames N) x ≡ Accepted) tile_texts (accepted t 2 (tile_text N t m) tiles_fine) in
       ap (λ (x : List (List ℕ)). system_reading (file_answer no_limit system_frames bad x) x m₀) cutted
@@ -153,7 +153,7 @@ module _ (m₀ : List Float) where
   answer_of ls = file_answer no_limit system_frames (λ N t. bad_matrix N t m₀) ls
 
   lines_back : (l : List ℕ) (h : List ℕ) (ls : List (List ℕ)) → answer_of (h ∷ ls) ≡ Accepted
-      → system_text (plan (tiles_in h) (side_in h)) (record { matrix = tiles_of (tiles_in h) (side_in h) ls; lists = l; slice = [] }) ≡ h ++ joined ls
+      → system_text (plan (tiles_in h) (side_in h)) (record { matrix = tiles_of (tiles_in h) (side_in h) ls; lists = l }) ≡ h ++ joined ls
   unfolding system_frames
   lines_back l h ls e =
       let N = tiles_in h in
@@ -167,7 +167,7 @@ module _ (m₀ : List Float) where
       ∙ ap (λ (x : List (List ℕ)). h ++ joined x) (sym again ∙ take_all (N * N) ls (omega arith))
 
   text_back : (l : List ℕ) (N t : ℕ) (m : List Float) (a : Answer) (ls : List (List ℕ)) → answer_of ls ≡ a → system_reading a ls m₀ ≡ record { answer = SystemRead N t; matrix = m }
-      → system_text (plan N t) (record { matrix = m; lists = l; slice = [] }) ≡ joined ls
+      → system_text (plan N t) (record { matrix = m; lists = l }) ≡ joined ls
   unfolding system_reading joined
   text_back l N t m (Refused n x) ls e q = let p : ReadRefused n x ≡ SystemRead N t = ap (λ (r : SystemReading). r.answer) q in let z : ◌≡◌ {A = ℕ} 0 1 = cc in absurd (omega arith)
   text_back l N t m Accepted [] e q = let p : ReadRefused 14 1 ≡ SystemRead N t = ap (λ (r : SystemReading). r.answer) q in let z : ◌≡◌ {A = ℕ} 0 1 = cc in absurd (omega arith)
@@ -179,6 +179,6 @@ module _ (m₀ : List Float) where
       rw (← em, ← eN, ← et) (lines_back l h ls e)
 
 pub system_again : (text : List ℕ) (m₀ : List Float) (N t : ℕ) (m : List Float) (l : List ℕ) → read_system text m₀ ≡ record { answer = SystemRead N t; matrix = m }
-    → system_text (plan N t) (record { matrix = m; lists = l; slice = [] }) ≡ text
+    → system_text (plan N t) (record { matrix = m; lists = l }) ≡ text
 unfolding read_system
 system_again text m₀ N t m l q = text_back m₀ l N t m (answer_of m₀ (lines_from [] text)) (lines_from [] text) refl q ∙ joined_lines [] text

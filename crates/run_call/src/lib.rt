@@ -18,21 +18,20 @@ pub fn run(
     z: Sizes,
     matrix: &mut [f64],
     lists: &mut [u8],
-    slice: &mut [f64],
     records: &mut [TaskRecord],
     workers: Workers,
     budget: u64,
 ) -> RunReply
     ensures { (record {
       answer = result.answer;
-      left = whole matrix.new lists.new slice.new records.new result.workers;
-    } ≡ run_call z budget (whole matrix.old lists.old slice.old records.old workers))
+      left = whole matrix.new lists.new records.new result.workers;
+    } ≡ run_call z budget (whole matrix.old lists.old records.old workers))
         × OthersKept workers result.workers }
 {
     let mut flat = [[0; RECORD]; COPIES];
     let n = looked_at(records.len());
     load(records, &mut flat, n);
-    let reply = run_part(z, matrix, lists, slice, &mut flat, n, workers, budget);
+    let reply = run_part(z, matrix, lists, &mut flat, n, workers, budget);
     store(records, &flat, 0, n);
     reply
 }

@@ -1,6 +1,6 @@
--- A run's answer: the shared refusals, then that of an element or a multiplier. Assumes nothing.
+-- A run's answer: the shared refusals, then that of an element. Assumes nothing.
 use Prim.Native.Nat.{ℕ}
-use mathlib.Core.Bool.{Bool, true, false, not, ◌&&◌, ◌||◌}
+use mathlib.Core.Bool.{Bool, true, false, not, ◌||◌}
 use mathlib.Core.Path.{◌≡◌, sym, ap, ◌∙◌}
 use mathlib.Core.List.{List}
 use lib.Ieee.{Float}
@@ -11,42 +11,38 @@ use Rattle.model.specs.declared.Answer.TheVariants.{Accepted, Refused}
 use Rattle.model.specs.Tile.{all_finite}
 use Rattle.model.specs.Plan.{plan_of}
 use Rattle.model.specs.Calls.{Lent}
-use Rattle.model.specs.Refusal.{refuse, damaged, bad_numbers, run_answer}
+use Rattle.model.specs.Refusal.{refuse, damaged, run_answer}
 use Rattle.records.specs.Records.{lent}
 use Rattle.answers.specs.Answers.{accepts}
 use Rattle.answers.proofs.Refusals.{refuses, passes, is_accepted}
 use Rattle.states.specs.States.{state_answer}
 use Rattle.states.proofs.Laws.{goes_on, stops}
 
-module _ (z : Sizes) (m : List Float) (l : List ℕ) (sl : List Float) (r : List (List ℕ)) (ws : List Worker) (count number : ℕ) where
+module _ (z : Sizes) (m : List Float) (l : List ℕ) (r : List (List ℕ)) (ws : List Worker) (count number : ℕ) where
   abbrev s : Lent
-  s = lent m l sl r ws count number
+  s = lent m l r ws count number
 
   abbrev bad : Bool
-  bad = damaged (plan_of z) s || not (all_finite m && all_finite sl)
+  bad = damaged (plan_of z) s || not (all_finite m)
 
   worse : damaged (plan_of z) s ≡ true → bad ≡ true
   worse h = rw h
 
-  else : damaged (plan_of z) s ≡ false → bad ≡ not (all_finite m && all_finite sl)
+  else : damaged (plan_of z) s ≡ false → bad ≡ not (all_finite m)
   else h = rw h
 
   module _ (a : Answer) (e : a ≡ state_answer z s) (b : Bool) (f : b ≡ accepts a) where
     pub state_stops : b ≡ false → a ≡ run_answer z s
-    unfolding run_answer bad_numbers lent
-    state_stops q = e ∙ stops z s bad (not (all_finite m && all_finite sl)) worse else Accepted (ap accepts (sym e) ∙ sym f ∙ q)
+    unfolding run_answer lent
+    state_stops q = e ∙ stops z s bad (not (all_finite m)) worse else Accepted (ap accepts (sym e) ∙ sym f ∙ q)
 
-    module _ (q : b ≡ true) where
-      after : refuse 4 0 (not (all_finite m && all_finite sl)) Accepted ≡ run_answer z s
-      unfolding run_answer bad_numbers lent
-      after = goes_on z s bad (not (all_finite m && all_finite sl)) worse else Accepted (sym e ∙ is_accepted a b f q)
+    module _ (q : b ≡ true) (x : Bool) (i : x ≡ all_finite m) where
+      after : refuse 4 0 (not (all_finite m)) Accepted ≡ run_answer z s
+      unfolding run_answer lent
+      after = goes_on z s bad (not (all_finite m)) worse else Accepted (sym e ∙ is_accepted a b f q)
 
-      pub element_stops : (x : Bool) → x ≡ all_finite m → x ≡ false → Refused 4 0 ≡ run_answer z s
-      element_stops x i j = sym (refuses 4 0 (not (all_finite m && all_finite sl)) Accepted (rw (sym i ∙ j))) ∙ after
+      pub element_stops : x ≡ false → Refused 4 0 ≡ run_answer z s
+      element_stops j = sym (refuses 4 0 (not (all_finite m)) Accepted (rw (sym i ∙ j))) ∙ after
 
-      module _ (x : Bool) (i : x ≡ all_finite m) (j : x ≡ true) (y : Bool) (k : y ≡ all_finite sl) where
-        pub multiplier_stops : y ≡ false → Refused 4 0 ≡ run_answer z s
-        multiplier_stops h = sym (refuses 4 0 (not (all_finite m && all_finite sl)) Accepted (rw (sym i ∙ j, sym k ∙ h))) ∙ after
-
-        pub all_pass : y ≡ true → Accepted ≡ run_answer z s
-        all_pass h = sym (passes 4 0 (not (all_finite m && all_finite sl)) Accepted (rw (sym i ∙ j, sym k ∙ h))) ∙ after
+      pub all_pass : x ≡ true → Accepted ≡ run_answer z s
+      all_pass j = sym (passes 4 0 (not (all_finite m)) Accepted (rw (sym i ∙ j))) ∙ after

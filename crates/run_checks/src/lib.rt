@@ -15,20 +15,16 @@ pub fn run_answer(
     z: Sizes,
     matrix: &[f64],
     lists: &[u8],
-    slice: &[f64],
     records: &[Record],
     workers: Workers,
 ) -> Answer
-    ensures { result ≡ run_answer z (all_lent matrix.now lists.now slice.now records.now workers) }
+    ensures { result ≡ run_answer z (all_lent matrix.now lists.now records.now workers) }
 {
-    let state = state_answer(z, matrix, lists, slice, records, workers);
+    let state = state_answer(z, matrix, lists, records, workers);
     if !accepted(state) {
         return state;
     }
     if !all_finite(matrix) {
-        return Answer::Refused(4, 0);
-    }
-    if !all_finite(slice) {
         return Answer::Refused(4, 0);
     }
     Answer::Accepted

@@ -12,7 +12,6 @@ pub fn run_part(
     z: Sizes,
     matrix: &mut [f64],
     lists: &mut [u8],
-    slice: &mut [f64],
     records: &mut [Record],
     n: usize,
     workers: Workers,
@@ -21,9 +20,9 @@ pub fn run_part(
     requires { n ≤ length records.old }
     ensures { (record {
       answer = result.answer;
-      left = all_lent matrix.new lists.new slice.new (up_to n records.new) result.workers;
-    } ≡ run_call z budget (all_lent matrix.old lists.old slice.old (up_to n records.old) workers))
+      left = all_lent matrix.new lists.new (up_to n records.new) result.workers;
+    } ≡ run_call z budget (all_lent matrix.old lists.old (up_to n records.old) workers))
         × OthersKept workers result.workers }
 {
-    runs::run(z, matrix, lists, slice, &mut records[..n], workers, budget)
+    runs::run(z, matrix, lists, &mut records[..n], workers, budget)
 }

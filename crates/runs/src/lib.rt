@@ -1,4 +1,4 @@
-// The whole run: refusals 1, 2, 17 and 4 are checked once, then workers take turns.
+// The whole run: refusals 1, 2 and 4 are checked once, then workers take turns.
 ghost use Rattle.std.specs.Prelude.{◌≡◌};
 ghost use Rattle.model.specs.Refusal.{run_call};
 ghost use Rattle.records.specs.Records.{all_lent, OthersKept};
@@ -14,23 +14,22 @@ pub fn run(
     z: Sizes,
     matrix: &mut [f64],
     lists: &mut [u8],
-    slice: &mut [f64],
     records: &mut [Record],
     workers: Workers,
     budget: u64,
 ) -> RunReply
     ensures workers_after { record {
       answer = result.answer;
-      left = all_lent matrix.new lists.new slice.new records.new result.workers;
-    } ≡ run_call z budget (all_lent matrix.old lists.old slice.old records.old workers) }
+      left = all_lent matrix.new lists.new records.new result.workers;
+    } ≡ run_call z budget (all_lent matrix.old lists.old records.old workers) }
     ensures others_kept { OthersKept workers result.workers }
 {
-    let answer = run_answer(z, matrix, lists, slice, records, workers);
+    let answer = run_answer(z, matrix, lists, records, workers);
     if let Answer::Refused(number, place) = answer {
         return RunReply {
             answer: RunAnswer::RunRefused(number, place),
             workers,
         };
     }
-    take_turns(z, matrix, lists, slice, records, workers, budget)
+    take_turns(z, matrix, lists, records, workers, budget)
 }

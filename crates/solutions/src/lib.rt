@@ -1,6 +1,7 @@
 // The solution for one right side, of a system that a solve has checked.
-ghost use Rattle.std.specs.Prelude.{◌≡◌, ◌*◌, length};
+ghost use Rattle.std.specs.Prelude.{◌≡◌, true, ◌*◌, length};
 ghost use Rattle.model.specs.declared.Answer.TheVariants.{Accepted};
+ghost use Rattle.model.specs.Tile.{all_finite};
 ghost use Rattle.model.specs.Plan.{plan_of};
 ghost use Rattle.model.specs.Solve.{answered, solved};
 ghost use Rattle.progress.specs.Right.{Solvable, RightSide};
@@ -28,19 +29,18 @@ pub fn solve_in(
     z: Sizes,
     matrix: &[f64],
     lists: &[u8],
-    slice: &[f64],
     right: &[f64],
     answers: &mut [f64],
     y: &mut [f64],
 ) -> Answer
-    requires solvable { Solvable z matrix.now lists.now slice.now }
+    requires solvable { Solvable z matrix.now lists.now }
     requires right_side { RightSide z right.now }
-    requires answers_len { (length answers.old ≡ z.tiles * z.side) × (length y.old ≡ z.tiles * z.side) }
+    requires matrix_value { (all_finite matrix.now ≡ true) × (length answers.old ≡ z.tiles * z.side) × (length y.old ≡ z.tiles * z.side) }
     ensures { record { answer = result; left = answers.new }
-        ≡ answered Accepted answers.old (solved (plan_of z) (record { matrix = matrix.old; lists = lists.now; slice = slice.now }) right.now) }
+        ≡ answered Accepted answers.old (solved (plan_of z) (record { matrix = matrix.old; lists = lists.now }) right.now) }
 {
     copy(right, y);
-    let forward = pass(z, matrix, lists, slice, y);
+    let forward = pass(z, matrix, lists, y);
     if let Progress::Stopped(place) = forward {
         return Answer::Refused(11, place);
     }

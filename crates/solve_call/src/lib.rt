@@ -15,17 +15,16 @@ pub fn solve(
     z: Sizes,
     matrix: &[f64],
     lists: &[u8],
-    slice: &[f64],
     records: &[TaskRecord],
     workers: Workers,
     right: &[f64],
     answers: &mut [f64],
 ) -> Answer
     ensures { record { answer = result; left = answers.new }
-        ≡ solve_call z (whole matrix.now lists.now slice.now records.now workers) right.now answers.old }
+        ≡ solve_call z (whole matrix.now lists.now records.now workers) right.now answers.old }
 {
     let mut flat = [[0; RECORD]; COPIES];
     let n = looked_at(records.len());
     load(records, &mut flat, n);
-    solve_part(z, matrix, lists, slice, &flat, n, workers, right, answers)
+    solve_part(z, matrix, lists, &flat, n, workers, right, answers)
 }

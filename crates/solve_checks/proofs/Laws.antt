@@ -21,7 +21,7 @@ use Rattle.model.specs.Plan.{plan, plan_of, order}
 use Rattle.model.specs.Links.{mark, finished}
 use Rattle.model.specs.Loops.{outcome}
 use Rattle.model.specs.Calls.{Lent, marks_of, ties_of, state_of}
-use Rattle.model.specs.Refusal.{refuse, bad_sizes, bad_block, bad_lengths, bad_numbers, damaged, first_not_finite, unfinished}
+use Rattle.model.specs.Refusal.{refuse, bad_sizes, bad_lengths, damaged, first_not_finite, unfinished}
 use Rattle.model.specs.Solve.{unless_good, solve_answer}
 use Rattle.records.specs.Records.{marks_from, ties_from, lent}
 use Rattle.checks.specs.Checks.{Sized}
@@ -63,16 +63,16 @@ unfolding first_or
 some_first [] g p e q = let y : ◌≡◌ {A = ℕ} 0 1 = cc in absurd (omega arith)
 some_first (x ∷ xs) g p e q = let y : x ≡ p = cc in (ne_eqb (length (x ∷ xs)) 0 (λ h. omega arith), y)
 
-module _ (z : Sizes) (m : List Float) (l : List ℕ) (sl : List Float) (r : List (List ℕ)) (ws : List Worker) (count number : ℕ) (y : List Float) (fit : RecordsFit z r) where
+module _ (z : Sizes) (m : List Float) (l : List ℕ) (r : List (List ℕ)) (ws : List Worker) (count number : ℕ) (y : List Float) (fit : RecordsFit z r) where
   abbrev s : Lent
-  s = lent m l sl r ws count number
+  s = lent m l r ws count number
 
   abbrev open_tasks : ℕ → Bool
   open_tasks k = not (finished (mark (marks_from r) k))
 
   module _ (g : Lowest) (e : g ≡ first_or (keep open_tasks (below (length r))) At None) where
     found_is : g ≡ first_or (unfinished (plan_of z) s) At None
-    found_is = e ∙ ap (λ xs. first_or xs At None) (unfinished_is z m l sl r ws count number fit)
+    found_is = e ∙ ap (λ xs. first_or xs At None) (unfinished_is z m l r ws count number fit)
 
     pub rest_8 : (p : ℕ) → g ≡ At p → Refused 8 p ≡ rest_answer z s y
     unfolding rest_answer
@@ -80,7 +80,7 @@ module _ (z : Sizes) (m : List Float) (l : List ℕ) (sl : List Float) (r : List
         let (some, first) = some_first (unfinished (plan_of z) s) g p found_is q in
         sym (refuses 8 _ (not (eqb (length (unfinished (plan_of z) s)) 0)) _ (ap not some) ∙ ap (λ (k : ℕ). Refused 8 k) first)
 
-    module _ (q : g ≡ None) (o : Outcome) (is : o ≡ outcome (plan_of z) (record { buffers = record { matrix = m; lists = l; slice = sl }; marks = marks_from r; ties = ties_from r })) where
+    module _ (q : g ≡ None) (o : Outcome) (is : o ≡ outcome (plan_of z) (record { buffers = record { matrix = m; lists = l }; marks = marks_from r; ties = ties_from r })) where
       rest_then : unless_good o (refuse 3 (first_not_finite y) (not (all_finite y)) Accepted) ≡ rest_answer z s y
       unfolding rest_answer state_of marks_of ties_of lent marks_from ties_from
       rest_then =
@@ -98,25 +98,22 @@ module _ (z : Sizes) (m : List Float) (l : List ℕ) (sl : List Float) (r : List
       unfolding unless_good
       rest_good h a k = k ∙ ap (λ (x : Outcome). unless_good x (refuse 3 (first_not_finite y) (not (all_finite y)) Accepted)) (sym h) ∙ rest_then
 
--- ---- 1, 2, 17 and 4
+-- ---- 1, 2 and 4
 
-module _ (z : Sizes) (m : List Float) (l : List ℕ) (sl : List Float) (r : List (List ℕ)) (ws : List Worker) (count number : ℕ) (y x : List Float) where
+module _ (z : Sizes) (m : List Float) (l : List ℕ) (r : List (List ℕ)) (ws : List Worker) (count number : ℕ) (y x : List Float) where
   abbrev lent_now : Lent
-  lent_now = lent m l sl r ws count number
+  lent_now = lent m l r ws count number
 
   abbrev bad_right : Bool
   bad_right = not (eqb (length y) (order (plan_of z)) && eqb (length x) (order (plan_of z)))
-
-  abbrev bad_now : Bool
-  bad_now = damaged (plan_of z) lent_now || not (all_finite m && all_finite sl)
 
   pub solve_1 : (a : Bool) → a ≡ bad_sizes z → a ≡ true → Refused 1 0 ≡ solve_answer z lent_now y x
   unfolding solve_answer
   solve_1 a e q = sym (refuses 1 0 (bad_sizes z) _ (sym e ∙ q))
 
   module _ (a : Bool) (e : a ≡ bad_sizes z) (q : a ≡ false) where
-    two_then : (b : Bool) → (bad_lengths (plan_of z) z.workers lent_now || bad_right) ≡ b → refuse 2 0 b (refuse 17 0 (bad_block z) (refuse 4 0 bad_now (rest_answer z lent_now y))) ≡ solve_answer z lent_now y x
-    unfolding solve_answer rest_answer bad_numbers lent
+    two_then : (b : Bool) → (bad_lengths (plan_of z) z.workers lent_now || bad_right) ≡ b → refuse 2 0 b (refuse 4 0 (damaged (plan_of z) lent_now || not (all_finite m)) (rest_answer z lent_now y)) ≡ solve_answer z lent_now y x
+    unfolding solve_answer rest_answer lent
     two_then b i = rw (← i) (sym (passes 1 0 (bad_sizes z) _ (sym e ∙ q)))
 
     pub solve_2 : (b : Bool) → b ≡ bad_lengths (plan_of z) z.workers lent_now → b ≡ true → Refused 2 0 ≡ solve_answer z lent_now y x
@@ -124,8 +121,8 @@ module _ (z : Sizes) (m : List Float) (l : List ℕ) (sl : List Float) (r : List
     solve_2 b f p = two_then true (rw (sym f ∙ p))
 
     module _ (b : Bool) (f : b ≡ bad_lengths (plan_of z) z.workers lent_now) (p : b ≡ false) where
-      pub checked : Sized z × LentFits z m l sl r
-      checked = (sized z (sym e ∙ q), lengths_fit z m l sl r ws count number (sym f ∙ p))
+      pub checked : Sized z × LentFits z m l r
+      checked = (sized z (sym e ∙ q), lengths_fit z m l r ws count number (sym f ∙ p))
 
       pub solve_right : (length y ≡ z.tiles * z.side → ⊥) → Refused 2 0 ≡ solve_answer z lent_now y x
       unfolding refuse order plan
@@ -137,38 +134,26 @@ module _ (z : Sizes) (m : List Float) (l : List ℕ) (sl : List Float) (r : List
         solve_answers h = two_then true (rw (sym f ∙ p, eq-eqb (length y) (z.tiles * z.side) hy, ne_eqb (length x) (z.tiles * z.side) h))
 
         module _ (hx : length x ≡ z.tiles * z.side) where
-          block_then : refuse 17 0 (bad_block z) (refuse 4 0 bad_now (rest_answer z lent_now y)) ≡ solve_answer z lent_now y x
+          four_then : (c : Bool) → (damaged (plan_of z) lent_now || not (all_finite m)) ≡ c → refuse 4 0 c (rest_answer z lent_now y) ≡ solve_answer z lent_now y x
           unfolding refuse order plan
-          block_then = two_then false (rw (sym f ∙ p, eq-eqb (length y) (z.tiles * z.side) hy, eq-eqb (length x) (z.tiles * z.side) hx))
+          four_then c i = rw (← i) (two_then false (rw (sym f ∙ p, eq-eqb (length y) (z.tiles * z.side) hy, eq-eqb (length x) (z.tiles * z.side) hx)))
 
-          pub solve_17 : (u : Bool) → u ≡ bad_block z → u ≡ true → Refused 17 0 ≡ solve_answer z lent_now y x
-          solve_17 u i j = sym (refuses 17 0 (bad_block z) _ (sym i ∙ j)) ∙ block_then
+          -- damage of as many workers as the sizes say
+          abbrev Damage : Bool → Type 0
+          Damage d = d ≡ damaged (plan_of z) (lent m l r ws z.workers number)
 
-          module _ (u : Bool) (hu : u ≡ bad_block z) (ju : u ≡ false) where
-            four_then : (c : Bool) → bad_now ≡ c → refuse 4 0 c (rest_answer z lent_now y) ≡ solve_answer z lent_now y x
-            four_then c i = rw (← i) (sym (passes 17 0 (bad_block z) _ (sym hu ∙ ju)) ∙ block_then)
+          counted : (d : Bool) → Damage d → d ≡ damaged (plan_of z) lent_now
+          counted d g = g ∙ ap (λ (n : ℕ). damaged (plan_of z) (lent m l r ws n number)) (sym (count_fits z m l r ws count number (sym f ∙ p)))
 
-            -- damage of as many workers as the sizes say
-            abbrev Damage : Bool → Type 0
-            Damage d = d ≡ damaged (plan_of z) (lent m l sl r ws z.workers number)
+          pub solve_4 : (d : Bool) → Damage d → d ≡ true → Refused 4 0 ≡ solve_answer z lent_now y x
+          unfolding refuse
+          solve_4 d g h = four_then true (rw (sym (counted d g) ∙ h))
 
-            counted : (d : Bool) → Damage d → d ≡ damaged (plan_of z) lent_now
-            counted d g = g ∙ ap (λ (n : ℕ). damaged (plan_of z) (lent m l sl r ws n number)) (sym (count_fits z m l sl r ws count number (sym f ∙ p)))
-
-            pub solve_4 : (d : Bool) → Damage d → d ≡ true → Refused 4 0 ≡ solve_answer z lent_now y x
+          module _ (d : Bool) (g : Damage d) (h : d ≡ false) where
+            pub solve_elements : (v : Bool) → v ≡ all_finite m → v ≡ false → Refused 4 0 ≡ solve_answer z lent_now y x
             unfolding refuse
-            solve_4 d g h = four_then true (rw (sym (counted d g) ∙ h))
+            solve_elements v i j = four_then true (rw (sym (counted d g) ∙ h, sym i ∙ j))
 
-            module _ (d : Bool) (g : Damage d) (h : d ≡ false) where
-              pub solve_elements : (v : Bool) → v ≡ all_finite m → v ≡ false → Refused 4 0 ≡ solve_answer z lent_now y x
-              unfolding refuse
-              solve_elements v i j = four_then true (rw (sym (counted d g) ∙ h, sym i ∙ j))
-
-              module _ (v : Bool) (hv : v ≡ all_finite m) (jv : v ≡ true) where
-                pub solve_multipliers : (w : Bool) → w ≡ all_finite sl → w ≡ false → Refused 4 0 ≡ solve_answer z lent_now y x
-                unfolding refuse
-                solve_multipliers w i j = four_then true (rw (sym (counted d g) ∙ h, sym hv ∙ jv, sym i ∙ j))
-
-                pub solve_rest : (w : Bool) → w ≡ all_finite sl → w ≡ true → (a : Answer) → a ≡ rest_answer z lent_now y → a ≡ solve_answer z lent_now y x
-                unfolding refuse
-                solve_rest w i j a k = k ∙ four_then false (rw (sym (counted d g) ∙ h, sym hv ∙ jv, sym i ∙ j))
+            pub solve_rest : (v : Bool) → v ≡ all_finite m → v ≡ true → (a : Answer) → a ≡ rest_answer z lent_now y → a ≡ solve_answer z lent_now y x
+            unfolding refuse
+            solve_rest v i j a k = k ∙ four_then false (rw (sym (counted d g) ∙ h, sym i ∙ j))

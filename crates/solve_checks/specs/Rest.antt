@@ -1,4 +1,4 @@
--- What a solve answers once refusals 1, 2, 17 and 4 are passed, but for 11. Assumes nothing.
+-- What a solve answers once refusals 1, 2 and 4 are passed, but for 11. Assumes nothing.
 use Rattle.std.specs.Prelude.{not, List, length, eqb, Float}
 use Rattle.model.specs.declared.Sizes.{Sizes}
 use Rattle.model.specs.declared.Answer.{Answer}

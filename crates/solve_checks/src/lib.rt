@@ -1,5 +1,5 @@
-// What a solve checks before it computes: refusals 1, 2, 17, 4, 8, 9, 10 and 3, in this order.
-ghost use Rattle.std.specs.Prelude.{◌≡◌, not, List, ℕ, Float};
+// What a solve checks before it computes: refusals 1, 2, 4, 8, 9, 10 and 3, in this order.
+ghost use Rattle.std.specs.Prelude.{◌≡◌, not, List, ℕ};
 ghost use Rattle.worker.specs.declared.Worker.{Worker as SomeWorker};
 ghost use Rattle.model.specs.declared.Answer.TheVariants.{Accepted};
 ghost use Rattle.model.specs.Lengths.{MatrixFits, RecordsFit};
@@ -10,7 +10,7 @@ ghost use Rattle.records.specs.Records.{lent, all_lent};
 ghost use Rattle.checks.specs.Checks.{Sized};
 ghost use Rattle.solve_checks.specs.Rest.{rest_answer};
 
-use checks::{bad_block, bad_lengths, bad_sizes};
+use checks::{bad_lengths, bad_sizes};
 use damage::damaged;
 use failures::outcome_of;
 use finite_numbers::{Lowest, all_finite, first_not_finite};
@@ -33,8 +33,8 @@ fn right_answer(right: &[f64]) -> Answer
 // Refusals 8, 9, 10 and 3.
 fn rest_answer(z: Sizes, matrix: &[f64], records: &[Record], right: &[f64]) -> Answer
     requires { Sized z × MatrixFits z matrix.now × RecordsFit z records.now }
-    ensures { (lists : List ℕ) (slice : List Float) (slots : List SomeWorker) (count number : ℕ) → result
-        ≡ rest_answer z (lent matrix.now lists slice records.now slots count number) right.now }
+    ensures { (lists : List ℕ) (slots : List SomeWorker) (count number : ℕ) → result
+        ≡ rest_answer z (lent matrix.now lists records.now slots count number) right.now }
 {
     let task = first_unfinished(records);
     if let Lowest::At(p) = task {
@@ -53,18 +53,17 @@ pub fn solve_answer(
     z: Sizes,
     matrix: &[f64],
     lists: &[u8],
-    slice: &[f64],
     records: &[Record],
     workers: Workers,
     right: &[f64],
     answers: &[f64],
 ) -> Answer
-    ensures { result ≡ solve_answer z (all_lent matrix.now lists.now slice.now records.now workers) right.now answers.now }
+    ensures { result ≡ solve_answer z (all_lent matrix.now lists.now records.now workers) right.now answers.now }
 {
     if bad_sizes(z) {
         return Answer::Refused(1, 0);
     }
-    if bad_lengths(z, matrix, lists, slice, records, workers.count) {
+    if bad_lengths(z, matrix, lists, records, workers.count) {
         return Answer::Refused(2, 0);
     }
     let order = z.tiles * z.side;
@@ -74,17 +73,11 @@ pub fn solve_answer(
     if answers.len() != order {
         return Answer::Refused(2, 0);
     }
-    if bad_block(z) {
-        return Answer::Refused(17, 0);
-    }
     let slots = workers.slots;
     if damaged(z, lists, records, slots, workers.number) {
         return Answer::Refused(4, 0);
     }
     if !all_finite(matrix) {
-        return Answer::Refused(4, 0);
-    }
-    if !all_finite(slice) {
         return Answer::Refused(4, 0);
     }
     rest_answer(z, matrix, records, right)

@@ -14,12 +14,11 @@ use Rattle.model.specs.declared.Answer.{Answer}
 use Rattle.model.specs.declared.Answer.TheVariants.{Accepted, Refused}
 use Rattle.model.specs.Lists.{run, below, keep, first_or}
 use Rattle.model.specs.Tile.{all_finite}
-use Rattle.model.specs.Plan.{Plan, plan_with, plan_of, order}
-use Rattle.model.specs.Buffer.{slice_length}
+use Rattle.model.specs.Plan.{Plan, plan, plan_of, order}
 use Rattle.model.specs.Links.{mark, finished}
 use Rattle.model.specs.Loops.{State, outcome}
 use Rattle.model.specs.Calls.{Lent, marks_of, state_of, all_finished}
-use Rattle.model.specs.Refusal.{refuse, bad_sizes, bad_block, bad_numbers, bad_lengths, damaged, first_not_finite, unfinished, run_answer}
+use Rattle.model.specs.Refusal.{refuse, bad_sizes, bad_lengths, damaged, first_not_finite, unfinished, run_answer}
 use Rattle.model.specs.Solve.{Passed, Answers, going, stopped, solved, unless_good, answered, solve_answer, solve_call}
 use Rattle.model.specs.History.{Call}
 use Rattle.demand.specs.Demand.{end}
@@ -60,26 +59,24 @@ module _ (z : Sizes) (s : Lent) (b x : List Float) (ok : run_answer z s ≡ Acce
   abbrev rest : Answer
   rest = unless_good (outcome (plan_of z) (state_of s)) (refuse 3 (first_not_finite b) (not (all_finite b)) Accepted)
 
-  -- refusals 1, 2, 17 and 4 but for the right side
-  lent_well : (bad_sizes z ≡ false) × (bad_lengths (plan_of z) z.workers s ≡ false) × (bad_block z ≡ false) × ((damaged (plan_of z) s || bad_numbers s) ≡ false)
+  -- refusals 1, 2 and 4 but for the right side
+  lent_well : (bad_sizes z ≡ false) × (bad_lengths (plan_of z) z.workers s ≡ false) × ((damaged (plan_of z) s || not (all_finite s.buffers.matrix)) ≡ false)
   unfolding run_answer
   lent_well =
       let c = passed 1 0 (bad_sizes z) _ ok in
       let d = passed 2 0 (bad_lengths (plan_of z) z.workers s) _ c.1 in
-      let g = passed 17 0 (bad_block z) _ d.1 in
-      let f = passed 4 0 (damaged (plan_of z) s || bad_numbers s) Accepted g.1 in
-      (c.0, d.0, g.0, f.0)
+      let f = passed 4 0 (damaged (plan_of z) s || not (all_finite s.buffers.matrix)) Accepted d.1 in
+      (c.0, d.0, f.0)
 
   records_long : length s.records ≡ length (plan_of z).tasks
   unfolding bad_lengths
   records_long =
       let M = eqb (length s.buffers.matrix) (order (plan_of z) * order (plan_of z)) in
       let L = eqb (length s.buffers.lists) ((plan_of z).N * (plan_of z).N * (plan_of z).t) in
-      let S = eqb (length s.buffers.slice) (slice_length (plan_of z).N (plan_of z).t (plan_of z).b) in
       let R = eqb (length s.records) (length (plan_of z).tasks) in
       let W = eqb (length s.workers) z.workers in
-      let four = and_left (M && L && S && R) W (not-false (M && L && S && R && W) lent_well.1) in
-      eqb-true (length s.records) (length (plan_of z).tasks) (and_right (M && L && S) R four)
+      let three = and_left (M && L && R) W (not-false (M && L && R && W) lent_well.1) in
+      eqb-true (length s.records) (length (plan_of z).tasks) (and_right (M && L) R three)
 
   answer_settles : solve_answer z s b x ≡ refuse 2 0 rights rest
   unfolding solve_answer
@@ -88,8 +85,7 @@ module _ (z : Sizes) (s : Lent) (b x : List Float) (ok : run_answer z s ≡ Acce
       passes 1 0 (bad_sizes z) _ lent_well.0
       ∙ rw lent_well.1
       (ap (refuse 2 0 rights)
-      (passes 17 0 (bad_block z) _ lent_well.2
-      ∙ passes 4 0 (damaged (plan_of z) s || bad_numbers s) _ lent_well.3
+      (passes 4 0 (damaged (plan_of z) s || not (all_finite s.buffers.matrix)) _ lent_well.2
       ∙ passes 8 (first_or (unfinished (plan_of z) s) (λ p. p) 0) (not (eqb (length (unfinished (plan_of z) s)) 0)) rest none))
 
   settles : solve_call z s b x ≡ settled (plan_of z) (state_of s) b x
@@ -101,7 +97,7 @@ module _ (z : Sizes) (s : Lent) (b x : List Float) (ok : run_answer z s ≡ Acce
 solves_alike : (z y : Sizes) (s r : Lent) (cs ds : List Call) → TwoOpenings z y s r cs ds → (b x : List Float) → solve_call z (end z s cs) b x ≡ solve_call y (end y r ds) b x
 solves_alike z y s r cs ds p b x =
     settles z (end z s cs) b x (demand_3 z s cs p.opened).runs p.finished
-    ∙ (λ i. settled (plan_with (p.tiles i) (p.side i) (p.block i)) ((alike z y s r cs ds p).state i) b x)
+    ∙ (λ i. settled (plan (p.tiles i) (p.side i)) ((alike z y s r cs ds p).state i) b x)
     ∙ sym (settles y (end y r ds) b x (demand_3 y r ds p.opened').runs p.finished')
 
 -- ---- a good system

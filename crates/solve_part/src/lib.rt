@@ -12,7 +12,6 @@ pub fn solve_part(
     z: Sizes,
     matrix: &[f64],
     lists: &[u8],
-    slice: &[f64],
     records: &[Record],
     n: usize,
     workers: Workers,
@@ -21,16 +20,7 @@ pub fn solve_part(
 ) -> Answer
     requires { n ≤ length records.now }
     ensures { record { answer = result; left = answers.new }
-        ≡ solve_call z (all_lent matrix.now lists.now slice.now (up_to n records.now) workers) right.now answers.old }
+        ≡ solve_call z (all_lent matrix.now lists.now (up_to n records.now) workers) right.now answers.old }
 {
-    solving::solve(
-        z,
-        matrix,
-        lists,
-        slice,
-        &records[..n],
-        workers,
-        right,
-        answers,
-    )
+    solving::solve(z, matrix, lists, &records[..n], workers, right, answers)
 }

@@ -18,22 +18,23 @@ use Rattle.model.specs.Tile.{all_finite}
 use Rattle.model.specs.Plan.{plan, plan_of, order}
 use Rattle.model.specs.Loops.{outcome}
 use Rattle.model.specs.Calls.{Lent, state_of}
-use Rattle.model.specs.Refusal.{bad_sizes, bad_block, bad_lengths, bad_numbers, damaged, entry_limit, unfinished}
+use Rattle.model.specs.Refusal.{bad_sizes, bad_lengths, damaged, entry_limit, unfinished}
 use Rattle.model.specs.Solve.{Answers, solved, unless_good, answered, solve_answer, solve_call}
 use Rattle.laws.proofs.Refusals.{passed}
 use Rattle.laws.proofs.Tests.{and_left, and_right, or_false_left, or_false_right}
 use Rattle.records.specs.Records.{lent}
 use Rattle.checks.specs.Checks.{Sized}
-use Rattle.checks.proofs.Laws.{sized, block_fits}
+use Rattle.checks.proofs.Laws.{sized}
 use Rattle.answers.proofs.Refusals.{lengths_fit}
 use Rattle.run_laws.proofs.Undamaged.{entry_fits}
 use Rattle.progress.specs.Right.{Solvable, RightSide}
 
 -- ---- an accepted solve
 
-pub record Checked (z : Sizes) (m : List Float) (l : List ℕ) (sl y x : List Float) : Type 0 where
-  pub solvable : Solvable z m l sl
+pub record Checked (z : Sizes) (m : List Float) (l : List ℕ) (y x : List Float) : Type 0 where
+  pub solvable : Solvable z m l
   pub right : RightSide z y
+  pub all_finite_lem : all_finite m ≡ true
   pub answers_long : length x ≡ z.tiles * z.side
 
 is_good : (o : Outcome) (a : Answer) → unless_good o a ≡ Accepted → a ≡ Accepted
@@ -42,9 +43,9 @@ is_good Good a e = e
 is_good (Overflow p) a e = let y : ◌≡◌ {A = ℕ} 0 1 = cc in absurd (omega arith)
 is_good (Singular x) a e = let y : ◌≡◌ {A = ℕ} 0 1 = cc in absurd (omega arith)
 
-module _ (z : Sizes) (m : List Float) (l : List ℕ) (sl : List Float) (r : List (List ℕ)) (ws : List Worker) (count number : ℕ) (y x : List Float) where
+module _ (z : Sizes) (m : List Float) (l : List ℕ) (r : List (List ℕ)) (ws : List Worker) (count number : ℕ) (y x : List Float) where
   abbrev s : Lent
-  s = lent m l sl r ws count number
+  s = lent m l r ws count number
 
   -- list entries, where nothing is damaged
   module _ (sizes : Sized z) (fine : damaged (plan_of z) s ≡ false) where
@@ -61,36 +62,31 @@ module _ (z : Sizes) (m : List Float) (l : List ℕ) (sl : List Float) (r : List
         let other : eqb i k ≡ false = ne_eqb i k (λ q. omega arith) in
         rw (other, lt-ltb k i h) at (entry_fits (plan_of z) s fine i k e hi (omega arith) he)
 
-  pub checked : solve_answer z s y x ≡ Accepted → Checked z m l sl y x
-  unfolding solve_answer bad_numbers lent order plan
+  pub checked : solve_answer z s y x ≡ Accepted → Checked z m l y x
+  unfolding solve_answer lent order plan
   checked q =
       let bad = bad_lengths (plan_of z) z.workers s in
       let Y = eqb (length y) (order (plan_of z)) in
       let X = eqb (length x) (order (plan_of z)) in
       let a = passed 1 0 (bad_sizes z) _ q in
       let b = passed 2 0 (bad || not (Y && X)) _ a.1 in
-      let k = passed 17 0 (bad_block z) _ b.1 in
-      let c = passed 4 0 (damaged (plan_of z) s || bad_numbers s) _ k.1 in
+      let c = passed 4 0 (damaged (plan_of z) s || not (all_finite s.buffers.matrix)) _ b.1 in
       let d = passed 8 _ (not (eqb (length (unfinished (plan_of z) s)) 0)) _ c.1 in
       let g = passed 3 _ (not (all_finite y)) Accepted (is_good (outcome (plan_of z) (state_of s)) _ d.1) in
       let sizes = sized z a.0 in
-      let fit = lengths_fit z m l sl r ws count number (or_false_left bad (not (Y && X)) b.0) in
+      let fit = lengths_fit z m l r ws count number (or_false_left bad (not (Y && X)) b.0) in
       let both = not-false (Y && X) (or_false_right bad (not (Y && X)) b.0) in
-      let fine = or_false_left (damaged (plan_of z) s) (bad_numbers s) c.0 in
-      let numbers = not-false (all_finite m && all_finite sl) (or_false_right (damaged (plan_of z) s) (bad_numbers s) c.0) in
+      let fine = or_false_left (damaged (plan_of z) s) (not (all_finite s.buffers.matrix)) c.0 in
       record {
         solvable = record {
           tiles_most = sizes.few_tiles;
           side_most = sizes.small_side;
           lengths = fit.buffers;
-          block = block_fits z k.0;
-          slice_fits = fit.slice_fits;
-          matrix_finite = and_left (all_finite m) (all_finite sl) numbers;
-          slice_finite = and_right (all_finite m) (all_finite sl) numbers;
           diagonal_entries = diagonal_entry sizes fine;
           lower_entries = lower_entry sizes fine;
         };
         right = record { long = eqb-true (length y) (z.tiles * z.side) (and_left Y X both); all_finite_lem = not-false (all_finite y) g.0 };
+        all_finite_lem = not-false (all_finite m) (or_false_right (damaged (plan_of z) s) (not (all_finite s.buffers.matrix)) c.0);
         answers_long = eqb-true (length x) (z.tiles * z.side) (and_right Y X both);
       }
 

@@ -1,7 +1,8 @@
 // Solving: n right-hand numbers in, n answers out.
-ghost use Rattle.std.specs.Prelude.{◌≡◌, ◌*◌, length};
+ghost use Rattle.std.specs.Prelude.{◌≡◌, true, ◌*◌, length};
 ghost use Rattle.model.specs.declared.Answer.TheVariants.{Accepted};
 ghost use Rattle.model.specs.Limits.{most_order};
+ghost use Rattle.model.specs.Tile.{all_finite};
 ghost use Rattle.model.specs.Plan.{plan_of};
 ghost use Rattle.model.specs.Solve.{answered, solved, solve_call};
 ghost use Rattle.records.specs.Records.{all_lent};
@@ -18,19 +19,18 @@ fn solve_with(
     z: Sizes,
     matrix: &[f64],
     lists: &[u8],
-    slice: &[f64],
     right: &[f64],
     answers: &mut [f64],
     work: &mut [f64],
 ) -> Answer
-    requires solvable { Solvable z matrix.now lists.now slice.now }
+    requires solvable { Solvable z matrix.now lists.now }
     requires right_side { RightSide z right.now }
-    requires answers_len { (length answers.old ≡ z.tiles * z.side) × (length work.old ≡ most_order) }
+    requires matrix_value { (all_finite matrix.now ≡ true) × (length answers.old ≡ z.tiles * z.side) × (length work.old ≡ most_order) }
     ensures { record { answer = result; left = answers.new }
-        ≡ answered Accepted answers.old (solved (plan_of z) (record { matrix = matrix.old; lists = lists.now; slice = slice.now }) right.now) }
+        ≡ answered Accepted answers.old (solved (plan_of z) (record { matrix = matrix.old; lists = lists.now }) right.now) }
 {
     let order = z.tiles * z.side;
-    solve_in(z, matrix, lists, slice, right, answers, &mut work[..order])
+    solve_in(z, matrix, lists, right, answers, &mut work[..order])
 }
 
 // Solves a factored system for one right side. The right side passes through the tasks as one more tile column, of width 1, then the
@@ -39,19 +39,18 @@ pub fn solve(
     z: Sizes,
     matrix: &[f64],
     lists: &[u8],
-    slice: &[f64],
     records: &[Record],
     workers: Workers,
     right: &[f64],
     answers: &mut [f64],
 ) -> Answer
     ensures { record { answer = result; left = answers.new }
-        ≡ solve_call z (all_lent matrix.now lists.now slice.now records.now workers) right.now answers.old }
+        ≡ solve_call z (all_lent matrix.now lists.now records.now workers) right.now answers.old }
 {
-    let answer = solve_answer(z, matrix, lists, slice, records, workers, right, answers);
+    let answer = solve_answer(z, matrix, lists, records, workers, right, answers);
     if let Answer::Refused(number, place) = answer {
         return Answer::Refused(number, place);
     }
     let mut work = [0.0; MOST_ORDER];
-    solve_with(z, matrix, lists, slice, right, answers, &mut work)
+    solve_with(z, matrix, lists, right, answers, &mut work)
 }

@@ -11,21 +11,21 @@ use Rattle.model.specs.declared.Answer.TheVariants.{Accepted, Refused}
 use Rattle.model.specs.Lengths.{LentFits}
 use Rattle.model.specs.Plan.{plan_of}
 use Rattle.model.specs.Calls.{Lent}
-use Rattle.model.specs.Refusal.{refuse, bad_sizes, bad_block, bad_lengths, damaged}
+use Rattle.model.specs.Refusal.{refuse, bad_sizes, bad_lengths, damaged}
 use Rattle.laws.proofs.Refusals.{passed}
 use Rattle.laws.proofs.Tests.{never}
 use Rattle.records.specs.Records.{lent}
 use Rattle.checks.specs.Checks.{Sized}
-use Rattle.checks.proofs.Laws.{sized, block_fits}
+use Rattle.checks.proofs.Laws.{sized}
 use Rattle.answers.specs.Answers.{accepts}
 use Rattle.answers.proofs.Refusals.{refuses, passes, lengths_fit, count_fits}
 use Rattle.states.specs.States.{state_answer, Undamaged}
 
 -- ---- one by one
 
-module _ (z : Sizes) (m : List Float) (l : List ℕ) (sl : List Float) (r : List (List ℕ)) (ws : List Worker) (count number : ℕ) where
+module _ (z : Sizes) (m : List Float) (l : List ℕ) (r : List (List ℕ)) (ws : List Worker) (count number : ℕ) where
   abbrev old : Lent
-  old = lent m l sl r ws count number
+  old = lent m l r ws count number
 
   pub answer_1 : (a : Bool) → a ≡ bad_sizes z → a ≡ true → Refused 1 0 ≡ state_answer z old
   unfolding state_answer
@@ -37,22 +37,16 @@ module _ (z : Sizes) (m : List Float) (l : List ℕ) (sl : List Float) (r : List
     answer_2 b f k = sym (passes 1 0 (bad_sizes z) _ (sym e ∙ q) ∙ refuses 2 0 (bad_lengths (plan_of z) z.workers old) _ (sym f ∙ k))
 
     module _ (b : Bool) (f : b ≡ bad_lengths (plan_of z) z.workers old) (k : b ≡ false) where
-      later : refuse 17 0 (bad_block z) (refuse 4 0 (damaged (plan_of z) old) Accepted) ≡ state_answer z old
+      last : refuse 4 0 (damaged (plan_of z) old) Accepted ≡ state_answer z old
       unfolding state_answer
-      later = sym (passes 1 0 (bad_sizes z) _ (sym e ∙ q) ∙ passes 2 0 (bad_lengths (plan_of z) z.workers old) _ (sym f ∙ k))
+      last = sym (passes 1 0 (bad_sizes z) _ (sym e ∙ q) ∙ passes 2 0 (bad_lengths (plan_of z) z.workers old) _ (sym f ∙ k))
 
-      pub answer_17 : (c : Bool) → c ≡ bad_block z → c ≡ true → Refused 17 0 ≡ state_answer z old
-      answer_17 c g h = sym (refuses 17 0 (bad_block z) _ (sym g ∙ h)) ∙ later
+      pub checked : Sized z × LentFits z m l r
+      checked = (sized z (sym e ∙ q), lengths_fit z m l r ws count number (sym f ∙ k))
 
-      pub checked : Sized z × LentFits z m l sl r
-      checked = (sized z (sym e ∙ q), lengths_fit z m l sl r ws count number (sym f ∙ k))
-
-      module _ (c : Bool) (b-is : c ≡ bad_block z) (b-fits : c ≡ false) (d : Bool) (g : d ≡ damaged (plan_of z) (lent m l sl r ws z.workers number)) where
-        last : refuse 4 0 (damaged (plan_of z) old) Accepted ≡ state_answer z old
-        last = sym (passes 17 0 (bad_block z) _ (sym b-is ∙ b-fits)) ∙ later
-
+      module _ (d : Bool) (g : d ≡ damaged (plan_of z) (lent m l r ws z.workers number)) where
         same : d ≡ damaged (plan_of z) old
-        same = g ∙ ap (λ (n : ℕ). damaged (plan_of z) (lent m l sl r ws n number)) (sym (count_fits z m l sl r ws count number (sym f ∙ k)))
+        same = g ∙ ap (λ (n : ℕ). damaged (plan_of z) (lent m l r ws n number)) (sym (count_fits z m l r ws count number (sym f ∙ k)))
 
         pub answer_4 : d ≡ true → Refused 4 0 ≡ state_answer z old
         answer_4 h = sym (refuses 4 0 (damaged (plan_of z) old) Accepted (sym same ∙ h)) ∙ last
@@ -62,20 +56,18 @@ module _ (z : Sizes) (m : List Float) (l : List ℕ) (sl : List Float) (r : List
 
   -- ---- all passed
 
-  pub sound : state_answer z old ≡ Accepted → (count ≡ z.workers) × Undamaged z m l sl r ws number
+  pub sound : state_answer z old ≡ Accepted → (count ≡ z.workers) × Undamaged z m l r ws number
   unfolding state_answer
   sound e =
       let a = passed 1 0 (bad_sizes z) _ e in
       let b = passed 2 0 (bad_lengths (plan_of z) z.workers old) _ a.1 in
-      let d = passed 17 0 (bad_block z) _ b.1 in
-      let c = passed 4 0 (damaged (plan_of z) old) Accepted d.1 in
-      let n = count_fits z m l sl r ws count number b.0 in (
+      let c = passed 4 0 (damaged (plan_of z) old) Accepted b.1 in
+      let n = count_fits z m l r ws count number b.0 in (
         n,
         record {
           sizes = sized z a.0;
-          lengths = lengths_fit z m l sl r ws count number b.0;
-          block = block_fits z d.0;
-          undamaged = subst (λ (k : ℕ). damaged (plan_of z) (lent m l sl r ws k number) ≡ false) n c.0;
+          lengths = lengths_fit z m l r ws count number b.0;
+          undamaged = subst (λ (k : ℕ). damaged (plan_of z) (lent m l r ws k number) ≡ false) n c.0;
         },
       )
 
@@ -83,25 +75,23 @@ module _ (z : Sizes) (m : List Float) (l : List ℕ) (sl : List Float) (r : List
 
 module _ (z : Sizes) (s : Lent) (d e : Bool) (worse : damaged (plan_of z) s ≡ true → d ≡ true) (else : damaged (plan_of z) s ≡ false → d ≡ e) (rest : Answer) where
   abbrev pub whole : Answer
-  whole = refuse 1 0 (bad_sizes z) (refuse 2 0 (bad_lengths (plan_of z) z.workers s) (refuse 17 0 (bad_block z) (refuse 4 0 d rest)))
+  whole = refuse 1 0 (bad_sizes z) (refuse 2 0 (bad_lengths (plan_of z) z.workers s) (refuse 4 0 d rest))
 
   pub goes_on : state_answer z s ≡ Accepted → refuse 4 0 e rest ≡ whole
   unfolding state_answer
   goes_on q =
       let a = passed 1 0 (bad_sizes z) _ q in
       let b = passed 2 0 (bad_lengths (plan_of z) z.workers s) _ a.1 in
-      let f = passed 17 0 (bad_block z) _ b.1 in
-      let c = passed 4 0 (damaged (plan_of z) s) Accepted f.1 in
-      sym (passes 1 0 (bad_sizes z) _ a.0 ∙ passes 2 0 (bad_lengths (plan_of z) z.workers s) _ b.0 ∙ passes 17 0 (bad_block z) _ f.0 ∙ ap (λ k. refuse 4 0 k rest) (else c.0))
+      let c = passed 4 0 (damaged (plan_of z) s) Accepted b.1 in
+      sym (passes 1 0 (bad_sizes z) _ a.0 ∙ passes 2 0 (bad_lengths (plan_of z) z.workers s) _ b.0 ∙ ap (λ k. refuse 4 0 k rest) (else c.0))
 
   pub stops : accepts (state_answer z s) ≡ false → state_answer z s ≡ whole
   unfolding state_answer refuse accepts
-  stops q = go (bad_sizes z) (bad_lengths (plan_of z) z.workers s) (bad_block z) (damaged (plan_of z) s) d worse q
+  stops q = go (bad_sizes z) (bad_lengths (plan_of z) z.workers s) (damaged (plan_of z) s) d worse q
     where
-      go : (a b f c d : Bool) → (c ≡ true → d ≡ true) → accepts (refuse 1 0 a (refuse 2 0 b (refuse 17 0 f (refuse 4 0 c Accepted)))) ≡ false
-          → refuse 1 0 a (refuse 2 0 b (refuse 17 0 f (refuse 4 0 c Accepted))) ≡ refuse 1 0 a (refuse 2 0 b (refuse 17 0 f (refuse 4 0 d rest)))
-      go true b f c d h q = refl
-      go false true f c d h q = refl
-      go false false true c d h q = refl
-      go false false false true d h q = rw (h refl)
-      go false false false false d h q = never refl q
+      go : (a b c d : Bool) → (c ≡ true → d ≡ true) → accepts (refuse 1 0 a (refuse 2 0 b (refuse 4 0 c Accepted))) ≡ false
+          → refuse 1 0 a (refuse 2 0 b (refuse 4 0 c Accepted)) ≡ refuse 1 0 a (refuse 2 0 b (refuse 4 0 d rest))
+      go true b c d h q = refl
+      go false true c d h q = refl
+      go false false true d h q = rw (h refl)
+      go false false false d h q = never refl q

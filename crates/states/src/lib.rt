@@ -1,9 +1,9 @@
-// Refusals 1, 2, 17 and 4 but for elements: what a take, a column and a run look at first.
+// Refusals 1, 2 and 4 but for elements: what a take, a column and a run look at first.
 ghost use Rattle.std.specs.Prelude.{◌≡◌};
 ghost use Rattle.records.specs.Records.{all_lent};
 ghost use Rattle.states.specs.States.{state_answer};
 
-use checks::{bad_block, bad_lengths, bad_sizes};
+use checks::{bad_lengths, bad_sizes};
 use damage::damaged;
 use model::{Answer, Sizes};
 use records::Record;
@@ -14,20 +14,16 @@ pub fn state_answer(
     z: Sizes,
     matrix: &[f64],
     lists: &[u8],
-    slice: &[f64],
     records: &[Record],
     workers: Workers,
 ) -> Answer
-    ensures { result ≡ state_answer z (all_lent matrix.now lists.now slice.now records.now workers) }
+    ensures { result ≡ state_answer z (all_lent matrix.now lists.now records.now workers) }
 {
     if bad_sizes(z) {
         return Answer::Refused(1, 0);
     }
-    if bad_lengths(z, matrix, lists, slice, records, workers.count) {
+    if bad_lengths(z, matrix, lists, records, workers.count) {
         return Answer::Refused(2, 0);
-    }
-    if bad_block(z) {
-        return Answer::Refused(17, 0);
     }
     let slots = workers.slots;
     if damaged(z, lists, records, slots, workers.number) {

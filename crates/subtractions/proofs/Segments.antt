@@ -9,7 +9,7 @@ use lib.Ieee.{Float, nan}
 use Rattle.model.specs.Lists.{run}
 use Rattle.model.specs.Num.{update}
 use Rattle.model.specs.Tile.{at}
-use Rattle.model.specs.Plan.{Plan, plan, plan_with}
+use Rattle.model.specs.Plan.{Plan, plan}
 use Rattle.model.specs.Buffer.{Buffers, tile, element}
 use Rattle.model.specs.Solve.{coefficient, row_left}
 use Rattle.laws.proofs.Blocks.{row_of, column_of_lem}
@@ -64,9 +64,9 @@ module _ (z : Plan) (s : Buffers) (x : ℕ) (y : List Float) where
 
 -- ---- where a row's factors stand
 
-pub factor_at : (N t b i r j c : ℕ) (m : List Float) (l : List ℕ) (sl : List Float) → tile_start N t i j + t * t ≤ length m → r < t → c < t
-    → coefficient (plan_with N t b) (record { matrix = m; lists = l; slice = sl }) (i * t + r) (j * t + c) ≡ get_or m (tile_start N t i j + r * t + c) nan
+pub factor_at : (N t i r j c : ℕ) (m : List Float) (l : List ℕ) → tile_start N t i j + t * t ≤ length m → r < t → c < t
+    → coefficient (plan N t) (record { matrix = m; lists = l }) (i * t + r) (j * t + c) ≡ get_or m (tile_start N t i j + r * t + c) nan
 unfolding coefficient plan element tile
-factor_at N t b i r j c m l sl room hr hc =
+factor_at N t i r j c m l room hr hc =
     let e : tile_start N t i j + (r * t + c) ≡ tile_start N t i j + r * t + c = omega arith in
     rw (row_of t i r hr, row_of t j c hc, column_of_lem t i r hr, column_of_lem t j c hc) (at_part t t (tile_start N t i j) m r c room hr hc ∙ ap (λ (k : ℕ). get_or m k nan) e)

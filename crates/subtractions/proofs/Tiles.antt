@@ -7,7 +7,7 @@ use lib.ListN.{get_or}
 use lib.Ieee.{Float, nan}
 use Rattle.model.specs.declared.Sizes.{Sizes}
 use Rattle.model.specs.Lists.{run}
-use Rattle.model.specs.Plan.{plan_with}
+use Rattle.model.specs.Plan.{plan_of}
 use Rattle.model.specs.Buffer.{Buffers}
 use Rattle.model.specs.Solve.{row_left}
 use Rattle.column_laws.specs.Steps.{tile_start}
@@ -16,7 +16,7 @@ use Rattle.subtractions.specs.Subtracted.{subtracted}
 use Rattle.subtractions.proofs.Segments.{row_run, row_split, factor_at}
 use Rattle.subtractions.proofs.Places.{Placed}
 
-module _ (z : Sizes) (b : ℕ) (m : List Float) (l : List ℕ) (sl y : List Float) (i r : ℕ) (hr : r < z.side) where
+module _ (z : Sizes) (m : List Float) (l : List ℕ) (y : List Float) (i r : ℕ) (hr : r < z.side) where
   abbrev N : ℕ
   N = z.tiles
 
@@ -24,11 +24,11 @@ module _ (z : Sizes) (b : ℕ) (m : List Float) (l : List ℕ) (sl y : List Floa
   t = z.side
 
   abbrev s : Buffers
-  s = record { matrix = m; lists = l; slice = sl }
+  s = record { matrix = m; lists = l }
 
   -- what is left of d after n columns from q on
   abbrev pub left : ℕ → ℕ → Float → Float
-  left q n d = row_left (plan_with N t b) s (i * t + r) y (run q n) d
+  left q n d = row_left (plan_of z) s (i * t + r) y (run q n) d
 
   -- ---- the tiles right of the diagonal tile: the columns from tile j on are left
 
@@ -37,8 +37,8 @@ module _ (z : Sizes) (b : ℕ) (m : List Float) (l : List ℕ) (sl y : List Floa
   tiles_more j d v whole hj p e q =
       let all : N * t - j * t ≡ t + (N * t - (j + 1) * t) = omega (arith, row_end j N t hj) in
       let next : (j + 1) * t ≡ j * t + t = omega arith in
-      rw (q ∙ row_run (plan_with N t b) s (i * t + r) y (tile_start N t i j + r * t) (j * t) t d m (λ c hc. factor_at N t b i r j c m l sl p.room hr hc))
-      (ap (λ (k : ℕ). left k (N * t - (j + 1) * t) (left (j * t) t d)) next ∙ sym (row_split (plan_with N t b) s (i * t + r) y (j * t) t (N * t - (j + 1) * t) d) ∙ rw all at e)
+      rw (q ∙ row_run (plan_of z) s (i * t + r) y (tile_start N t i j + r * t) (j * t) t d m (λ c hc. factor_at N t i r j c m l p.room hr hc))
+      (ap (λ (k : ℕ). left k (N * t - (j + 1) * t) (left (j * t) t d)) next ∙ sym (row_split (plan_of z) s (i * t + r) y (j * t) t (N * t - (j + 1) * t) d) ∙ rw all at e)
 
   pub tiles_end : (j : ℕ) (d whole : Float) → j ≤ N → N ≤ j → left (j * t) (N * t - j * t) d ≡ whole → d ≡ whole
   unfolding row_left run

@@ -1,5 +1,5 @@
 // What a backward row subtracts from its number: products of the matrix and the numbers found below it.
-ghost use Rattle.std.specs.Prelude.{◌≡◌, List, ℕ, suc, ◌+◌, ◌-◌, ◌*◌, ◌<◌, ◌≤◌, length, get_or, Float};
+ghost use Rattle.std.specs.Prelude.{◌≡◌, List, ℕ, suc, ◌+◌, ◌-◌, ◌*◌, ◌<◌, ◌≤◌, length, get_or};
 ghost use Rattle.std.specs.Float.{nan};
 ghost use Rattle.model.specs.Lists.{run};
 ghost use Rattle.model.specs.Num.{update as updated};
@@ -38,7 +38,7 @@ pub fn subtract(matrix: &[f64], y: &[f64], a: usize, b: usize, count: usize, d: 
 pub fn subtract_tiles(z: Sizes, matrix: &[f64], y: &[f64], i: usize, r: usize, d: f64) -> f64
     requires backward_fits { BackwardFits z matrix.now y.now }
     requires i_lt_tiles { (i < z.tiles) × (r < z.side) }
-    ensures { (lists : List ℕ) (slice : List Float) → result ≡ row_left (plan_of z) (record { matrix = matrix.old; lists = lists; slice = slice }) (i * z.side + r) y.now
+    ensures { (lists : List ℕ) → result ≡ row_left (plan_of z) (record { matrix = matrix.old; lists = lists }) (i * z.side + r) y.now
         (run (suc i * z.side) (z.tiles * z.side - suc i * z.side)) d }
 {
     let n = z.tiles;

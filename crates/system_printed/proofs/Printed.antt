@@ -1,7 +1,7 @@
 -- Writing what was worked out is printing what the program prints. Assumes nothing.
 use Prim.Native.Nat.{ℕ, ◌*◌, ◌≤◌}
 use mathlib.Core.Path.{◌≡◌, sym, ap, ◌∙◌}
-use mathlib.Core.List.{List, []}
+use mathlib.Core.List.{List}
 use native.Mathlib.Omega.{arith}
 use lib.Dec.{ltb}
 use lib.ListN.{length}
@@ -30,7 +30,7 @@ print_as text out new e = ap (λ (k : List ℕ). writing (refuse 15 0 (ltb (leng
 module _ (text : List ℕ) (N t : ℕ) (c : Checked text N t) where
   -- ---- what was read
 
-  module _ (m M : List Float) (l : List ℕ) (r : List (List ℕ)) (a : ReadAnswer) (fit : LentFits (sizes N t 1) m l [] r) (e : record { answer = a; matrix = M } ≡ read_system text m) where
+  module _ (m M : List Float) (l : List ℕ) (r : List (List ℕ)) (a : ReadAnswer) (fit : LentFits (sizes N t 1) m l r) (e : record { answer = a; matrix = M } ≡ read_system text m) where
     pub numbers_read : M ≡ c.numbers
     numbers_read = ap (λ (k : SystemReading). k.matrix) (e ∙ c.reads m fit.buffers.matrix_fits)
 
@@ -40,7 +40,6 @@ module _ (text : List ℕ) (N t : ℕ) (c : Checked text N t) where
       side = (small_sizes c).side;
       lengths = record {
         buffers = record { matrix_fits = h ∙ fit.buffers.matrix_fits; lists_fit = fit.buffers.lists_fit };
-        slice_fits = fit.slice_fits;
         records_fit = fit.records_fit;
       };
       all_finite_lem = rw numbers_read c.all_finite_lem;
@@ -48,8 +47,8 @@ module _ (text : List ℕ) (N t : ℕ) (c : Checked text N t) where
 
   -- ---- what is written
 
-  module _ (M m' : List Float) (l' : List ℕ) (rs : List TaskRecord) (o : Outcome) (is : M ≡ c.numbers) (e : record { buffers = record { matrix = m'; lists = l'; slice = [] }; records = rs; outcome = o } ≡ alone (plan N t) M) where
-    result_is : program text ≡ result_text (plan N t) (record { matrix = m'; lists = l'; slice = [] }) o
+  module _ (M m' : List Float) (l' : List ℕ) (rs : List TaskRecord) (o : Outcome) (is : M ≡ c.numbers) (e : record { buffers = record { matrix = m'; lists = l' }; records = rs; outcome = o } ≡ alone (plan N t) M) where
+    result_is : program text ≡ result_text (plan N t) (record { matrix = m'; lists = l' }) o
     unfolding alone result_of
     result_is = c.prints ∙ sym (ap (λ (k : Result). result_text (plan N t) k.buffers k.outcome) (e ∙ ap (alone (plan N t)) is))
 

@@ -1,5 +1,5 @@
 // What the program prints for a checked system: the result of one worker's whole run.
-ghost use Rattle.std.specs.Prelude.{◌≡◌, [], ◌≤◌, length};
+ghost use Rattle.std.specs.Prelude.{◌≡◌, ◌≤◌, length};
 ghost use Rattle.model.specs.Plan.{sizes};
 ghost use Rattle.model.specs.Lengths.{LentFits};
 ghost use Rattle.model.specs.Limits.{program_order, most_tasks};
@@ -50,7 +50,7 @@ fn print_worked(
     out: &mut [u8],
 ) -> WriteAnswer
     requires side_value { SystemRead tiles side ≡ checked_system program_order text.now }
-    requires lent_fits { LentFits (sizes tiles side 1) matrix.old lists.old [] records.old }
+    requires lent_fits { LentFits (sizes tiles side 1) matrix.old lists.old records.old }
     ensures out_after { record { answer = result; left = out.new } ≡ print_result text.now out.old }
     ensures text_len_bound { length (program text.now) ≤ 65536 }
 {

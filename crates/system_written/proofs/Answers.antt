@@ -33,16 +33,16 @@ unfolding line
 length_header N t = simp (length-append, length_hex)
 
 module _ (N t : ℕ) (m : List Float) where
-  pub system_is : (l : List ℕ) → system_text (plan N t) (record { matrix = m; lists = l; slice = [] }) ≡ header N t ++ tile_rows N (t * t) m
+  pub system_is : (l : List ℕ) → system_text (plan N t) (record { matrix = m; lists = l }) ≡ header N t ++ tile_rows N (t * t) m
   unfolding system_text header_frame tile_frame tile_of tile plan tile_rows tile_row
   system_is l = refl
 
-  pub length_system : (l : List ℕ) → N * N * (t * t) ≤ length m → length (system_text (plan N t) (record { matrix = m; lists = l; slice = [] })) ≡ system_length N t
+  pub length_system : (l : List ℕ) → N * N * (t * t) ≤ length m → length (system_text (plan N t) (record { matrix = m; lists = l })) ≡ system_length N t
   unfolding system_length
   length_system l h = ap length (system_is l) ∙ length-append (header N t) (tile_rows N (t * t) m) ∙ omega (arith, length_header N t, length_tile_rows N (t * t) m h)
 
   pub put_system : (xs xs₁ xs₂ : List ℕ) → system_length N t ≤ length xs → N * N * (t * t) ≤ length m → xs₁ ≡ with_part 0 7 (header N t) xs
-      → xs₂ ≡ with_part 7 (N * (N * (7 + t * t * 16))) (tile_rows N (t * t) m) xs₁ → Put 0 (system_length N t) (system_text (plan N t) (record { matrix = m; lists = []; slice = [] })) xs xs₂
+      → xs₂ ≡ with_part 7 (N * (N * (7 + t * t * 16))) (tile_rows N (t * t) m) xs₁ → Put 0 (system_length N t) (system_text (plan N t) (record { matrix = m; lists = [] })) xs xs₂
   unfolding system_length
   put_system xs xs₁ xs₂ h k e₁ e₂ =
       let first : Put 0 7 (header N t) xs xs₁ = record { size = length_header N t; room = omega arith; is = e₁ } in
@@ -61,7 +61,7 @@ module _ (N t : ℕ) (m : List Float) (text : List ℕ) where
 
   module _ (e : bad_shape N t ≡ false) (h : length m ≡ N * t * (N * t)) where
     abbrev new : List ℕ
-    new = system_text (plan N t) (record { matrix = m; lists = []; slice = [] })
+    new = system_text (plan N t) (record { matrix = m; lists = [] })
 
     system_told : write_system N t m text ≡ writing (refuse 15 0 (ltb (length text) (length new)) Accepted) new text
     unfolding write_system refuse

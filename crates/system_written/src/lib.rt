@@ -17,7 +17,7 @@ pub fn put_system(text: &mut [u8], m: &[f64], n: usize, t: usize)
     requires n_le_most_tiles { (n ≤ most_tiles) × (t ≤ most_side) }
     requires t_in_bounds { system_length n t ≤ length text.old }
     requires t_in_bounds_2 { n * n * (t * t) ≤ length m.now }
-    ensures { text.new ≡ with_part 0 (system_length n t) (system_text (plan n t) (record { matrix = m.now; lists = []; slice = [] })) text.old }
+    ensures { text.new ≡ with_part 0 (system_length n t) (system_text (plan n t) (record { matrix = m.now; lists = [] })) text.old }
 {
     put_header(text, 0, n, t);
     put_tiles(text, 7, m, n, t * t);

@@ -18,7 +18,6 @@ pub fn take(
     z: Sizes,
     matrix: &[f64],
     lists: &[u8],
-    slice: &[f64],
     records: &mut [TaskRecord],
     workers: Workers,
     w: usize,
@@ -26,14 +25,14 @@ pub fn take(
 ) -> CallReply
     ensures { (record {
       answer = result.answer;
-      left = whole matrix.now lists.now slice.now records.new result.workers;
-    } ≡ take_call z w p (whole matrix.now lists.now slice.now records.old workers))
+      left = whole matrix.now lists.now records.new result.workers;
+    } ≡ take_call z w p (whole matrix.now lists.now records.old workers))
         × OthersKept workers result.workers }
 {
     let mut flat = [[0; RECORD]; COPIES];
     let n = looked_at(records.len());
     load(records, &mut flat, n);
-    let reply = take_part(z, matrix, lists, slice, &mut flat, n, workers, w, p);
+    let reply = take_part(z, matrix, lists, &mut flat, n, workers, w, p);
     store(records, &flat, p, past(p, n));
     reply
 }

@@ -17,7 +17,7 @@ use Rattle.model.specs.Plan.{plan, plan_of}
 use Rattle.model.specs.Links.{ready}
 use Rattle.model.specs.Calls.{Lent, marks_of, worker}
 use Rattle.worker.specs.Holding.{idle}
-use Rattle.model.specs.Refusal.{refuse, bad_sizes, bad_block, bad_lengths, damaged, no_worker, take_answer}
+use Rattle.model.specs.Refusal.{refuse, bad_sizes, bad_lengths, damaged, no_worker, take_answer}
 use Rattle.laws.proofs.Refusals.{passed}
 use Rattle.laws.proofs.Tests.{or_left, or_right, or_false_left}
 use Rattle.records.specs.Records.{marks_from, lent}
@@ -27,9 +27,9 @@ use Rattle.states.specs.States.{state_answer, Undamaged}
 use Rattle.states.proofs.Laws.{sound, goes_on, stops}
 use Rattle.call_laws.proofs.Undamaged.{worker_lent, workers_long}
 
-module _ (z : Sizes) (m : List Float) (l : List ℕ) (sl : List Float) (r : List (List ℕ)) (ws : List Worker) (count number w p : ℕ) where
+module _ (z : Sizes) (m : List Float) (l : List ℕ) (r : List (List ℕ)) (ws : List Worker) (count number w p : ℕ) where
   abbrev old : Lent
-  old = lent m l sl r ws count number
+  old = lent m l r ws count number
 
   abbrev bad_worker_lem : Bool
   bad_worker_lem = no_worker w old || (worker old w).busy
@@ -48,9 +48,6 @@ module _ (z : Sizes) (m : List Float) (l : List ℕ) (sl : List Float) (r : List
   abbrev from_4 : Answer
   from_4 = refuse 4 0 (damaged (plan_of z) old) from_5
 
-  abbrev from_17 : Answer
-  from_17 = refuse 17 0 (bad_block z) from_4
-
   module _ (a : Answer) (e : a ≡ state_answer z old) (b : Bool) (f : b ≡ accepts a) where
     pub state_stops : b ≡ false → a ≡ take_answer z w p old
     unfolding take_answer
@@ -58,10 +55,10 @@ module _ (z : Sizes) (m : List Float) (l : List ℕ) (sl : List Float) (r : List
 
     module _ (q : b ≡ true) where
       counted : count ≡ z.workers
-      counted = (sound z m l sl r ws count number (sym e ∙ is_accepted a b f q)).0
+      counted = (sound z m l r ws count number (sym e ∙ is_accepted a b f q)).0
 
-      pub is_sound : Undamaged z m l sl r ws number
-      is_sound = (sound z m l sl r ws count number (sym e ∙ is_accepted a b f q)).1
+      pub is_sound : Undamaged z m l r ws number
+      is_sound = (sound z m l r ws count number (sym e ∙ is_accepted a b f q)).1
 
       after_4 : from_5 ≡ take_answer z w p old
       unfolding take_answer refuse
@@ -70,11 +67,11 @@ module _ (z : Sizes) (m : List Float) (l : List ℕ) (sl : List Float) (r : List
       pub no_worker_lem : z.workers ≤ w → Refused 5 w ≡ take_answer z w p old
       unfolding no_worker
       no_worker_lem x =
-          sym (refuses 5 w bad_worker_lem from_6 (or_left (no_worker w old) (worker old w).busy (le-leb (length old.workers) w (omega (arith, workers_long m l sl r ws count number w, counted))))) ∙ after_4
+          sym (refuses 5 w bad_worker_lem from_6 (or_left (no_worker w old) (worker old w).busy (le-leb (length old.workers) w (omega (arith, workers_long m l r ws count number w, counted))))) ∙ after_4
 
       module _ (x : w < z.workers) where
         busy_is : (worker old w).busy ≡ (get_or ws w idle).busy
-        busy_is = ap (λ (h : Worker). h.busy) (worker_lent m l sl r ws count number w (omega (arith, counted)))
+        busy_is = ap (λ (h : Worker). h.busy) (worker_lent m l r ws count number w (omega (arith, counted)))
 
         pub busy_worker : (get_or ws w idle).busy ≡ true → Refused 5 w ≡ take_answer z w p old
         busy_worker y = sym (refuses 5 w bad_worker_lem from_6 (or_right (no_worker w old) (worker old w).busy (busy_is ∙ y))) ∙ after_4
@@ -82,7 +79,7 @@ module _ (z : Sizes) (m : List Float) (l : List ℕ) (sl : List Float) (r : List
         module _ (y : (get_or ws w idle).busy ≡ false) (n : ℕ) (c : n ≡ length (tasks z.tiles)) where
           after_5 : from_6 ≡ take_answer z w p old
           unfolding no_worker
-          after_5 = sym (passes 5 w bad_worker_lem from_6 (rw (lt-leb (length old.workers) w (omega (arith, workers_long m l sl r ws count number w, counted)), busy_is ∙ y))) ∙ after_4
+          after_5 = sym (passes 5 w bad_worker_lem from_6 (rw (lt-leb (length old.workers) w (omega (arith, workers_long m l r ws count number w, counted)), busy_is ∙ y))) ∙ after_4
 
           pub no_task : n ≤ p → Refused 6 0 ≡ take_answer z w p old
           unfolding plan
@@ -105,7 +102,7 @@ module _ (z : Sizes) (m : List Float) (l : List ℕ) (sl : List Float) (r : List
 
   pub record Accepting : Type 0 where
     pub counted : count ≡ z.workers
-    pub state : Undamaged z m l sl r ws number
+    pub state : Undamaged z m l r ws number
     pub worker_exists : w < z.workers
     pub task_exists : p < length (tasks z.tiles)
 
@@ -113,13 +110,12 @@ module _ (z : Sizes) (m : List Float) (l : List ℕ) (sl : List Float) (r : List
   unfolding take_answer state_answer plan no_worker
   accepting e =
       let a = passed 1 0 (bad_sizes z) _ e in
-      let b = passed 2 0 (bad_lengths (plan_of z) z.workers old) from_17 a.1 in
-      let k = passed 17 0 (bad_block z) from_4 b.1 in
-      let c = passed 4 0 (damaged (plan_of z) old) from_5 k.1 in
+      let b = passed 2 0 (bad_lengths (plan_of z) z.workers old) from_4 a.1 in
+      let c = passed 4 0 (damaged (plan_of z) old) from_5 b.1 in
       let d = passed 5 w bad_worker_lem from_6 c.1 in
       let f = passed 6 0 (leb (length (tasks z.tiles)) p) from_7 d.1 in
-      let (n, s) = sound z m l sl r ws count number (passes 1 0 (bad_sizes z) _ a.0 ∙ passes 2 0 (bad_lengths (plan_of z) z.workers old) _ b.0 ∙ passes 17 0 (bad_block z) _ k.0 ∙ passes 4 0 (damaged (plan_of z) old) Accepted c.0) in
-      let g = workers_long m l sl r ws count number w in
+      let (n, s) = sound z m l r ws count number (passes 1 0 (bad_sizes z) _ a.0 ∙ passes 2 0 (bad_lengths (plan_of z) z.workers old) _ b.0 ∙ passes 4 0 (damaged (plan_of z) old) Accepted c.0) in
+      let g = workers_long m l r ws count number w in
       record {
         counted = n;
         state = s;

@@ -16,15 +16,14 @@ pub fn take_answer(
     z: Sizes,
     matrix: &[f64],
     lists: &[u8],
-    slice: &[f64],
     records: &[Record],
     workers: Workers,
     w: usize,
     p: usize,
 ) -> Answer
-    ensures { result ≡ take_answer z w p (all_lent matrix.now lists.now slice.now records.now workers) }
+    ensures { result ≡ take_answer z w p (all_lent matrix.now lists.now records.now workers) }
 {
-    let state = state_answer(z, matrix, lists, slice, records, workers);
+    let state = state_answer(z, matrix, lists, records, workers);
     if !accepted(state) {
         return state;
     }

@@ -12,7 +12,6 @@ pub fn take_part(
     z: Sizes,
     matrix: &[f64],
     lists: &[u8],
-    slice: &[f64],
     records: &mut [Record],
     n: usize,
     workers: Workers,
@@ -22,9 +21,9 @@ pub fn take_part(
     requires { n ≤ length records.old }
     ensures { (record {
       answer = result.answer;
-      left = all_lent matrix.now lists.now slice.now (up_to n records.new) result.workers;
-    } ≡ take_call z w p (all_lent matrix.now lists.now slice.now (up_to n records.old) workers))
+      left = all_lent matrix.now lists.now (up_to n records.new) result.workers;
+    } ≡ take_call z w p (all_lent matrix.now lists.now (up_to n records.old) workers))
         × OthersKept workers result.workers }
 {
-    taking::take(z, matrix, lists, slice, &mut records[..n], workers, w, p)
+    taking::take(z, matrix, lists, &mut records[..n], workers, w, p)
 }

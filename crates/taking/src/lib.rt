@@ -15,7 +15,6 @@ pub fn take(
     z: Sizes,
     matrix: &[f64],
     lists: &[u8],
-    slice: &[f64],
     records: &mut [Record],
     workers: Workers,
     w: usize,
@@ -23,11 +22,11 @@ pub fn take(
 ) -> CallReply
     ensures workers_after { record {
       answer = result.answer;
-      left = all_lent matrix.now lists.now slice.now records.new result.workers;
-    } ≡ take_call z w p (all_lent matrix.now lists.now slice.now records.old workers) }
+      left = all_lent matrix.now lists.now records.new result.workers;
+    } ≡ take_call z w p (all_lent matrix.now lists.now records.old workers) }
     ensures others_kept { OthersKept workers result.workers }
 {
-    let answer = take_answer(z, matrix, lists, slice, records, workers, w, p);
+    let answer = take_answer(z, matrix, lists, records, workers, w, p);
     if !accepted(answer) {
         return CallReply { answer, workers };
     }

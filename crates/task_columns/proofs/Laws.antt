@@ -1,7 +1,7 @@
 -- A column of a task that is spoiled or not. Assumes nothing.
-use Prim.Native.Nat.{ℕ, ◌<◌}
+use Prim.Native.Nat.{ℕ}
 use mathlib.Core.Bool.{Bool, true, false, ◌&&◌}
-use mathlib.Core.Path.{◌≡◌, sym, ap, ◌∙◌, subst}
+use mathlib.Core.Path.{◌≡◌, sym, ap, ◌∙◌}
 use mathlib.Core.List.{List}
 use lib.Dec.{eqb}
 use lib.Ieee.{Float}
@@ -16,19 +16,13 @@ use Rattle.model.specs.Buffer.{Buffers, Ended, ended_with, filled, column_ends}
 use Rattle.model.specs.Calls.{Lent, marks_of, column_of}
 use Rattle.records.specs.Records.{marks_from, lent}
 use Rattle.checks.specs.Checks.{task_from}
-use Rattle.call_laws.proofs.Named.{named_3}
-use Rattle.column_laws.specs.Placed.{Placed}
 
--- the record of a T-3 has k before i
-pub lower_row_lem : (N : ℕ) (r : TaskRecord) → Placed N (task_from r) → r.kind ≡ 3 → r.k < r.i
-lower_row_lem N r h e = (subst (Placed N) (named_3 r e) h).0
-
-module _ (z : Sizes) (m : List Float) (l : List ℕ) (sl : List Float) (r : List (List ℕ)) (ws : List Worker) (number p c : ℕ) where
+module _ (z : Sizes) (m : List Float) (l : List ℕ) (r : List (List ℕ)) (ws : List Worker) (number p c : ℕ) where
   abbrev s : Lent
-  s = lent m l sl r ws z.workers number
+  s = lent m l r ws z.workers number
 
   abbrev buffers : Buffers
-  buffers = record { matrix = m; lists = l; slice = sl }
+  buffers = record { matrix = m; lists = l }
 
   module _ (a : TaskRecord) (named : task_from a ≡ task (tasks z.tiles) p) (b : Bool) (e : b ≡ (eqb c 0 && spoils (tasks z.tiles) (marks_from r) p)) where
     pub task_spoiled : b ≡ true → (left : Buffers) → left ≡ filled (plan_of z) (task_from a) buffers → ended_with Spoiled left ≡ column_of (plan_of z) s p c

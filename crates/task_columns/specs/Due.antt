@@ -4,14 +4,14 @@ use Rattle.model.specs.declared.Sizes.{Sizes}
 use Rattle.model.specs.Task.{tasks}
 use Rattle.model.specs.Links.{task}
 use Rattle.marks.specs.Marks.{Recorded}
-use Rattle.column_laws.specs.Workable.{InnerWorkable}
+use Rattle.column_laws.specs.Workable.{Workable}
 use Rattle.records.specs.Records.{records_from, ties_from, blank}
 use Rattle.checks.specs.Checks.{Sized, Inside, task_from}
 
 -- column c of task p can be worked: the task's record names it
-pub record ColumnDue (z : Sizes) (p c : ℕ) (m : List Float) (l : List ℕ) (sl : List Float) (r : List (List ℕ)) : Type 0 where
+pub record ColumnDue (z : Sizes) (p c : ℕ) (m : List Float) (l : List ℕ) (r : List (List ℕ)) : Type 0 where
   pub sizes : Sized z
-  pub workable : InnerWorkable z (task (tasks z.tiles) p) c m l sl
+  pub workable : Workable z (task (tasks z.tiles) p) c m l
   pub recorded : Recorded z.tiles r p
   pub named : task_from (get_or (records_from r) p blank) ≡ task (tasks z.tiles) p
   pub inside : Inside z.tiles (get_or (records_from r) p blank)

@@ -18,19 +18,18 @@ pub fn work_task(
     z: Sizes,
     matrix: &mut [f64],
     lists: &mut [u8],
-    slice: &mut [f64],
     records: &[Record],
     p: usize,
     c: usize,
 ) -> ColumnEnd
-    requires { ColumnDue z p c matrix.old lists.old slice.old records.now }
-    ensures { (slots : List SomeWorker) (number : ℕ) → ended_with result (record { matrix = matrix.new; lists = lists.new; slice = slice.new })
-        ≡ column_of (plan_of z) (lent matrix.old lists.old slice.old records.now slots z.workers number) p c }
+    requires { ColumnDue z p c matrix.old lists.old records.now }
+    ensures { (slots : List SomeWorker) (number : ℕ) → ended_with result (record { matrix = matrix.new; lists = lists.new })
+        ≡ column_of (plan_of z) (lent matrix.old lists.old records.now slots z.workers number) p c }
 {
     let task = record_at(records, p);
     if spoiled_at(z, records, p, c) {
-        fill_task(z, matrix, lists, slice, task);
+        fill_task(z, matrix, lists, task);
         return ColumnEnd::Spoiled;
     }
-    work_column(z, matrix, lists, slice, task, c)
+    work_column(z, matrix, lists, task, c)
 }

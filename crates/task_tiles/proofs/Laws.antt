@@ -1,8 +1,5 @@
 -- The tiles that a record's kind touches, in the order in which the code tests them. Assumes nothing.
-use Prim.Native.Nat.{ℕ, zero, suc, ◌*◌, ◌<◌, ◌≤◌}
-use native.Mathlib.Omega.{arith}
-use native.Mathlib.Nat.{mod-eq_of_lt}
-use mathlib.Core.Logic.{◌⊎◌, inl, inr}
+use Prim.Native.Nat.{ℕ}
 use mathlib.Core.Path.{◌≡◌, refl, sym, ap, ◌∙◌}
 use mathlib.Core.Bool.{Bool, true, false, cond, not, ◌&&◌}
 use mathlib.Core.List.{List, [], ◌∷◌}
@@ -11,49 +8,24 @@ use lib.Dec.{eqb}
 use borrow.Author.Tests.{eqb-true, eq-eqb, ne_eqb}
 use Rattle.model.specs.declared.Sizes.{Sizes}
 use Rattle.model.specs.declared.TaskRecord.{TaskRecord}
-use Rattle.model.specs.Lengths.{BlockFits}
-use Rattle.model.specs.Num.{finite}
-use Rattle.model.specs.Tile.{all_finite, zeros}
 use Rattle.model.specs.Lists.{every}
+use Rattle.model.specs.Tile.{all_finite}
 use Rattle.model.specs.Task.{t_1, t_2, T-3, t_4, A, low, low_of, is_list, reads, writes, touches}
 use Rattle.model.specs.Plan.{plan, plan_of}
-use Rattle.model.specs.Buffer.{Buffers, slice_part, tile_of, slice_of, finite_in, finite_tiles}
-use Rattle.laws.proofs.Tests.{lt_or_le}
+use Rattle.model.specs.Buffer.{Buffers, tile, tile_of, finite_in, finite_tiles}
 use Rattle.laws.proofs.Every.{every_append}
-use Rattle.checks.specs.Checks.{Sized, task_from}
-use Rattle.task_tiles.specs.Finite.{finite_place}
+use Rattle.checks.specs.Checks.{task_from}
 
--- ---- multipliers beside a tile: for b = 1 there are none
-
-zeros_finite : (n : ℕ) → all_finite (zeros n) ≡ true
-unfolding all_finite zeros every finite
-zeros_finite zero = refl
-zeros_finite (suc n) = zeros_finite n
-
-pub no_multipliers : (t b i j : ℕ) (sl : List Float) → b ≡ 1 → true ≡ all_finite (slice_part t b sl i j)
-unfolding slice_part
-no_multipliers t b i j sl e = rw e (sym (zeros_finite (t * 1)))
-
--- b divides t, so it is no larger
-pub block_most : (z : Sizes) → Sized z → BlockFits z → z.block ≤ 16
-block_most z s f = go (lt_or_le z.side z.block)
-  where
-    go : (z.side < z.block) ⊎ (z.block ≤ z.side) → z.block ≤ 16
-    go (inl h) = absurd (omega (arith, f.divides, mod-eq_of_lt h, s.some_side))
-    go (inr h) = omega (arith, s.small_side)
-
--- ---- tiles
-
-module _ (z : Sizes) (m : List Float) (l : List ℕ) (sl : List Float) where
+module _ (z : Sizes) (m : List Float) (l : List ℕ) where
   abbrev F : ℕ → ℕ → Bool
-  F i j = finite_place z m sl i j
+  F i j = all_finite (tile z.tiles z.side m i j)
 
   abbrev s : Buffers
-  s = record { matrix = m; lists = l; slice = sl }
+  s = record { matrix = m; lists = l }
 
   -- the tiles that each kind touches, each once
   finite_1 : (k : ℕ) → finite_tiles (plan_of z) (t_1 k) s ≡ F k k
-  unfolding finite_tiles finite_in tile_of slice_of touches reads writes is_list every plan
+  unfolding finite_tiles finite_in tile_of touches reads writes is_list every plan
   finite_1 k = go (F k k)
     where
       go : (x : Bool) → (x && (x && (true && (x && (x && (true && true)))))) ≡ x
@@ -61,7 +33,7 @@ module _ (z : Sizes) (m : List Float) (l : List ℕ) (sl : List Float) where
       go false = refl
 
   finite_2 : (k j : ℕ) → finite_tiles (plan_of z) (t_2 k j) s ≡ (F k k && F k j)
-  unfolding finite_tiles finite_in tile_of slice_of touches reads writes is_list every plan
+  unfolding finite_tiles finite_in tile_of touches reads writes is_list every plan
   finite_2 k j = go (F k k) (F k j)
     where
       go : (x y : Bool) → (x && (true && (y && (y && true)))) ≡ (x && y)
@@ -70,7 +42,7 @@ module _ (z : Sizes) (m : List Float) (l : List ℕ) (sl : List Float) where
       go false y = refl
 
   finite_3 : (k i : ℕ) → finite_tiles (plan_of z) (T-3 k i) s ≡ (F k k && F i k)
-  unfolding finite_tiles finite_in tile_of slice_of touches reads writes is_list every plan
+  unfolding finite_tiles finite_in tile_of touches reads writes is_list every plan
   finite_3 k i = go (F k k) (F i k)
     where
       go : (x y : Bool) → (x && (y && (true && (x && (y && (true && true)))))) ≡ (x && y)
@@ -80,12 +52,12 @@ module _ (z : Sizes) (m : List Float) (l : List ℕ) (sl : List Float) where
 
   -- the strictly lower part of tile (i,j), where it stands on the diagonal, is finite with the tile
   finite_low : (i j : ℕ) → F i j ≡ true → (b : Bool) → eqb i j ≡ b → every (finite_in (plan_of z) s) (cond b (low i ∷ []) []) ≡ true
-  unfolding finite_in tile_of slice_of is_list every plan
+  unfolding finite_in tile_of is_list every plan
   finite_low i j e true q = ap (λ (x : Bool). x && true) (ap (F i) (eqb-true i j q) ∙ e)
   finite_low i j e false q = refl
 
   finite_4 : (k i j : ℕ) → finite_tiles (plan_of z) (t_4 k i j) s ≡ (F i k && (F k j && F i j))
-  unfolding finite_tiles finite_in tile_of slice_of touches reads writes is_list every plan low_of
+  unfolding finite_tiles finite_in tile_of touches reads writes is_list every plan low_of
   finite_4 k i j =
       ap (λ (b : Bool). F i k && (true && (F k j && (F i j && b)))) (every_append (finite_in (plan_of z) s) (low_of i j) (A k j ∷ A i j ∷ low_of i j))
       ∙ go (F i k) (F k j) (F i j) (every (finite_in (plan_of z) s) (low_of i j)) (λ e. finite_low i j e (eqb i j) refl)

@@ -15,10 +15,10 @@ use Rattle.records.specs.Records.{all_lent}
 use Rattle.checks.proofs.Laws.{sized}
 use Rattle.turns_from.specs.Underway.{Underway}
 
-pub starts : (z : Sizes) (budget : ℕ) (m : List Float) (l : List ℕ) (sl : List Float) (r : List (List ℕ)) (ws : Workers) → run_answer z (all_lent m l sl r ws) ≡ Accepted
-    → Underway z budget m l sl r ws 0 0 0
+pub starts : (z : Sizes) (budget : ℕ) (m : List Float) (l : List ℕ) (r : List (List ℕ)) (ws : Workers) → run_answer z (all_lent m l r ws) ≡ Accepted
+    → Underway z budget m l r ws 0 0 0
 unfolding run_answer
-starts z budget m l sl r ws e =
+starts z budget m l r ws e =
     let s = sized z (passed 1 0 (bad_sizes z) _ e).0 in
     record {
       accepted = e;

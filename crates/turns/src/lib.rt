@@ -16,22 +16,19 @@ pub fn take_turns(
     z: Sizes,
     matrix: &mut [f64],
     lists: &mut [u8],
-    slice: &mut [f64],
     records: &mut [Record],
     workers: Workers,
     budget: u64,
 ) -> RunReply
-    requires { run_answer z (all_lent matrix.old lists.old slice.old records.old workers) ≡ Accepted }
+    requires { run_answer z (all_lent matrix.old lists.old records.old workers) ≡ Accepted }
     ensures workers_after { record {
       answer = result.answer;
-      left = all_lent matrix.new lists.new slice.new records.new result.workers;
-    } ≡ whole_run (plan_of z) z.workers budget (all_lent matrix.old lists.old slice.old records.old workers) }
+      left = all_lent matrix.new lists.new records.new result.workers;
+    } ≡ whole_run (plan_of z) z.workers budget (all_lent matrix.old lists.old records.old workers) }
     ensures others_kept { OthersKept workers result.workers }
 {
     let n = 0;
     let w = 0;
     let from = 0;
-    turns_from(
-        z, matrix, lists, slice, records, workers, budget, n, w, from,
-    )
+    turns_from(z, matrix, lists, records, workers, budget, n, w, from)
 }

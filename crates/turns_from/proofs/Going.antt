@@ -20,7 +20,7 @@ use Rattle.model.specs.Lists.{every}
 use Rattle.model.specs.Task.{t_1, tasks}
 use Rattle.model.specs.Plan.{plan, plan_of}
 use Rattle.model.specs.Links.{task, mark, finished, ready}
-use Rattle.model.specs.Buffer.{Ended, mark_after, ties_after, slice_length, finite_tiles}
+use Rattle.model.specs.Buffer.{Ended, mark_after, ties_after, finite_tiles}
 use Rattle.model.specs.Calls.{Lent, RunEnd, marks_of, record_of, with_take, with_column, changed, worker, took, advanced, all_finished, run_from}
 use Rattle.worker.specs.Holding.{idle, holding}
 use Rattle.model.specs.Refusal.{bad_sizes, bad_lengths, damaged, bad_tiles, run_answer}
@@ -31,7 +31,7 @@ use Rattle.records.specs.Records.{records_from, marks_from, crew, lent, all_lent
 use Rattle.records.proofs.Laws.{length_records, length_marks, marks_lent, crew_set}
 use Rattle.answers.proofs.Refusals.{count_fits}
 use Rattle.checks.specs.Checks.{Sized}
-use Rattle.checks.proofs.Laws.{sized, block_fits}
+use Rattle.checks.proofs.Laws.{sized}
 use Rattle.task_counts.proofs.Laws.{few_tasks}
 use Rattle.call_laws.proofs.Undamaged.{worker_lent, recorded, number_small}
 use Rattle.cells.proofs.Elements.{map_set}
@@ -49,19 +49,19 @@ use Rattle.turns_from.specs.Underway.{Underway}
 use Rattle.next_worker.proofs.Rounds.{NextBusy, busy_after}
 use Rattle.next_worker.proofs.Steps.{takes, works, passes, over, finishes, ends}
 
-pub record Going (z : Sizes) (budget : ℕ) (all : RunEnd) (ws₀ : List Worker) (m : List Float) (l : List ℕ) (sl : List Float) (r : List (List ℕ)) (ws : List Worker) (number n w from : ℕ) : Type 0 where
-  pub whole : Whole z (lent m l sl r ws z.workers number)
+pub record Going (z : Sizes) (budget : ℕ) (all : RunEnd) (ws₀ : List Worker) (m : List Float) (l : List ℕ) (r : List (List ℕ)) (ws : List Worker) (number n w from : ℕ) : Type 0 where
+  pub whole : Whole z (lent m l r ws z.workers number)
   pub none : NoneReady (tasks z.tiles) (marks_from r) from
   pub reached : from ≤ length r
   pub slots : length ws ≡ 32
   pub turn_of : w < z.workers
   pub within : n ≤ budget
-  pub left_to_do : run_from (plan_of z) z.workers (budget - n) n w (lent m l sl r ws z.workers number) ≡ all
+  pub left_to_do : run_from (plan_of z) z.workers (budget - n) n w (lent m l r ws z.workers number) ≡ all
   pub others : drop z.workers ws ≡ drop z.workers ws₀
 
 -- ---- lengths
 
-module _ (z : Sizes) (m : List Float) (l : List ℕ) (sl : List Float) (r : List (List ℕ)) (ws : List Worker) (number : ℕ) (h : Whole z (lent m l sl r ws z.workers number)) where
+module _ (z : Sizes) (m : List Float) (l : List ℕ) (r : List (List ℕ)) (ws : List Worker) (number : ℕ) (h : Whole z (lent m l r ws z.workers number)) where
   matrix_long : length m ≡ z.tiles * z.tiles * (z.side * z.side)
   unfolding lent
   matrix_long = h.stated.sized.matrix
@@ -69,10 +69,6 @@ module _ (z : Sizes) (m : List Float) (l : List ℕ) (sl : List Float) (r : List
   lists_long : length l ≡ z.tiles * z.tiles * z.side
   unfolding lent
   lists_long = h.stated.sized.lists
-
-  slice_long : length sl ≡ slice_length z.tiles z.side z.block
-  unfolding lent
-  slice_long = h.stated.sized.slice
 
   pub records_long : length r ≡ count z
   unfolding lent
@@ -112,13 +108,13 @@ onward z budget n w u v s s' t R h e f step all =
     let b : suc (budget - (n + 1)) ≡ budget - n = omega arith in
     rw (k, e, f) (rw k at (sym (step (budget - (n + 1))) ∙ ap (λ (x : ℕ). run_from (plan_of z) z.workers x n w s) b ∙ all))
 
-module _ {z : Sizes} {budget : ℕ} {all : RunEnd} {ws₀ : List Worker} {m : List Float} {l : List ℕ} {sl : List Float} {r : List (List ℕ)} {ws : List Worker} {number n w from : ℕ}
-    (g : Going z budget all ws₀ m l sl r ws number n w from) where
+module _ {z : Sizes} {budget : ℕ} {all : RunEnd} {ws₀ : List Worker} {m : List Float} {l : List ℕ} {r : List (List ℕ)} {ws : List Worker} {number n w from : ℕ}
+    (g : Going z budget all ws₀ m l r ws number n w from) where
   abbrev W : ℕ
   W = z.workers
 
   abbrev s : Lent
-  s = lent m l sl r ws W number
+  s = lent m l r ws W number
 
   pub sizes : Sized z
   sizes = sized z g.whole.fit
@@ -128,16 +124,15 @@ module _ {z : Sizes} {budget : ℕ} {all : RunEnd} {ws₀ : List Worker} {m : Li
   fine =
       let a = passed 1 0 _ _ (run_accepted z s g.whole) in
       let b = passed 2 0 _ _ a.1 in
-      let c = passed 17 0 _ _ b.1 in
-      (or_false _ _ (passed 4 0 _ _ c.1).0).0
+      (or_false _ _ (passed 4 0 _ _ b.1).0).0
 
   -- the run's number is far from a u32's largest
   pub few_calls : number ≤ 25432
-  few_calls = number_small z m l sl r ws number sizes fine
+  few_calls = number_small z m l r ws number sizes fine
 
   -- worker w, as the slots have it
   here : worker s w ≡ get_or ws w idle
-  here = worker_lent m l sl r ws W number w g.turn_of
+  here = worker_lent m l r ws W number w g.turn_of
 
   long : W ≤ length ws
   long = omega (arith, g.slots, sizes.few_workers)
@@ -148,11 +143,11 @@ module _ {z : Sizes} {budget : ℕ} {all : RunEnd} {ws₀ : List Worker} {m : Li
   -- ---- an idle worker takes a task
 
   pub few_records : length r ≤ 1496
-  few_records = subst (λ (k : ℕ). k ≤ 1496) (sym (records_long z m l sl r ws number g.whole)) (few_tasks z.tiles sizes.few_tiles)
+  few_records = subst (λ (k : ℕ). k ≤ 1496) (sym (records_long z m l r ws number g.whole)) (few_tasks z.tiles sizes.few_tiles)
 
   pub searched : NoneBelow z.tiles r from
   searched = record {
-    recorded = λ p h. recorded z m l sl r ws number sizes (records_long z m l sl r ws number g.whole) fine p (subst (λ (k : ℕ). p < k) (records_long z m l sl r ws number g.whole) h);
+    recorded = λ p h. recorded z m l r ws number sizes (records_long z m l r ws number g.whole) fine p (subst (λ (k : ℕ). p < k) (records_long z m l r ws number g.whole) h);
     none = g.none;
     within = g.reached;
   }
@@ -162,17 +157,17 @@ module _ {z : Sizes} {budget : ℕ} {all : RunEnd} {ws₀ : List Worker} {m : Li
     idle_now = ap (λ (x : Worker). x.busy) here ∙ b
 
     none_now : NoneReady (tasks z.tiles) (marks_of s) p
-    none_now = subst (λ (ms : List ℕ). NoneReady (tasks z.tiles) ms p) (sym (marks_lent m l sl r ws W number)) low.none
+    none_now = subst (λ (ms : List ℕ). NoneReady (tasks z.tiles) ms p) (sym (marks_lent m l r ws W number)) low.none
 
     pub take_goes : p < length r → n < budget → (h : Worker) → h ≡ holding p 0 → (r' : List (List ℕ)) → records_from r' ≡ changed p (with_take (number + 1)) (records_from r)
-        → length r' ≡ length r → (u : ℕ) → u ≡ suc w % W → Going z budget all ws₀ m l sl r' (set ws w h) (number + 1) (n + 1) u (p + 1)
+        → length r' ≡ length r → (u : ℕ) → u ≡ suc w % W → Going z budget all ws₀ m l r' (set ws w h) (number + 1) (n + 1) u (p + 1)
     unfolding lent took with_take
     take_goes hp hn h e r' q k u f =
-        let c : p < count z = subst (λ (x : ℕ). p < x) (records_long z m l sl r ws number g.whole) hp in
-        let rd : ready (tasks z.tiles) (marks_of s) p ≡ true = ap (λ (ms : List ℕ). ready (tasks z.tiles) ms p) (marks_lent m l sl r ws W number) ∙ low.found hp in
-        let t : lent m l sl r' (set ws w h) W (number + 1) ≡ took (plan_of z) w p s =
+        let c : p < count z = subst (λ (x : ℕ). p < x) (records_long z m l r ws number g.whole) hp in
+        let rd : ready (tasks z.tiles) (marks_of s) p ≡ true = ap (λ (ms : List ℕ). ready (tasks z.tiles) ms p) (marks_lent m l r ws W number) ∙ low.found hp in
+        let t : lent m l r' (set ws w h) W (number + 1) ≡ took (plan_of z) w p s =
         (λ i. record {
-          buffers = record { matrix = m; lists = l; slice = sl };
+          buffers = record { matrix = m; lists = l };
           records = (q ∙ ap (λ (k : ℕ). changed p (with_take k) (records_from r)) (add-one number)) i;
           workers = (stored h ∙ ap (set (crew ws W) w) e) i;
           number = add-one number i;
@@ -195,12 +190,12 @@ module _ {z : Sizes} {budget : ℕ} {all : RunEnd} {ws₀ : List Worker} {m : Li
 
     module _ (none_left : length r ≤ p) where
       no_task : NoneReady (tasks z.tiles) (marks_of s) (count z)
-      no_task q k = none_now q (omega (arith, records_long z m l sl r ws number g.whole))
+      no_task q k = none_now q (omega (arith, records_long z m l r ws number g.whole))
 
       as_lent : (x : ℕ) (f : Bool) → x < W → (get_or ws x idle).busy ≡ f → (worker s x).busy ≡ f
-      as_lent x f h e = ap (λ (y : Worker). y.busy) (worker_lent m l sl r ws W number x h) ∙ e
+      as_lent x f h e = ap (λ (y : Worker). y.busy) (worker_lent m l r ws W number x h) ∙ e
 
-      pub pass_goes : (v : ℕ) → NextBusy ws W w v → Going z budget all ws₀ m l sl r ws number n v p
+      pub pass_goes : (v : ℕ) → NextBusy ws W w v → Going z budget all ws₀ m l r ws number n v p
       pass_goes v (busy_after d h b before) =
           let inside : (k : ℕ) → (w + k) % W < W = λ k. mod-lt (w + k) (omega (arith, g.turn_of)) in
           record {
@@ -232,25 +227,23 @@ module _ {z : Sizes} {budget : ℕ} {all : RunEnd} {ws₀ : List Worker} {m : Li
     task_fits : h.task < count z
     task_fits = subst (λ (x : Worker). x.task < count z) here (g.whole.held w g.turn_of busy_now).task
 
-    tiles_finite : finite_tiles (plan_of z) (task (tasks z.tiles) h.task) (record { matrix = m; lists = l; slice = sl }) ≡ true
+    tiles_finite : finite_tiles (plan_of z) (task (tasks z.tiles) h.task) (record { matrix = m; lists = l }) ≡ true
     unfolding bad_tiles plan lent
     tiles_finite =
-        subst (λ (x : Worker). finite_tiles (plan_of z) (task (tasks z.tiles) x.task) (record { matrix = m; lists = l; slice = sl }) ≡ true) here
-        (and_true_not _ _ busy_now (good_tiles z s g.whole.stated.sized g.whole.numbers w (g.whole.held w g.turn_of busy_now).task))
+        subst (λ (x : Worker). finite_tiles (plan_of z) (task (tasks z.tiles) x.task) (record { matrix = m; lists = l }) ≡ true) here
+        (and_true_not _ _ busy_now (good_tiles z s g.whole.stated.sized g.whole.tiles w (g.whole.held w g.turn_of busy_now).task))
 
-    pub column_due : ColumnDue z h.task h.column m l sl r
-    column_due = due z w m l sl r ws number (record {
+    pub column_due : ColumnDue z h.task h.column m l r
+    column_due = due z w m l r ws number (record {
       sound = record {
         sizes = sizes;
         lengths = record {
           buffers = record {
-            matrix_fits = matrix_long z m l sl r ws number g.whole ∙ sym (mul-mul-mul_comm z.tiles z.side z.tiles z.side);
-            lists_fit = lists_long z m l sl r ws number g.whole;
+            matrix_fits = matrix_long z m l r ws number g.whole ∙ sym (mul-mul-mul_comm z.tiles z.side z.tiles z.side);
+            lists_fit = lists_long z m l r ws number g.whole;
           };
-          slice_fits = slice_long z m l sl r ws number g.whole;
-          records_fit = records_long z m l sl r ws number g.whole;
+          records_fit = records_long z m l r ws number g.whole;
         };
-        block = block_fits z g.whole.block;
         undamaged = fine;
       };
       exists = g.turn_of;
@@ -258,7 +251,7 @@ module _ {z : Sizes} {budget : ℕ} {all : RunEnd} {ws₀ : List Worker} {m : Li
       tiles_finite = tiles_finite;
     })
 
-    module _ {m' : List Float} {l' : List ℕ} {sl' : List Float} {r' : List (List ℕ)} {k : Worker} (o : Advanced z h w (number + 1) m l sl r m' l' sl' r' k) where
+    module _ {m' : List Float} {l' : List ℕ} {r' : List (List ℕ)} {k : Worker} (o : Advanced z h w (number + 1) m l r m' l' r' k) where
       abbrev left_mark_lem : ℕ
       left_mark_lem = mark_after o.end
 
@@ -268,14 +261,14 @@ module _ {z : Sizes} {budget : ℕ} {all : RunEnd} {ws₀ : List Worker} {m : Li
           let e = column_ends_lem z s g.whole.stated h.task h.column task_fits in
           (subst (λ (x : ℕ). 1 ≤ x) (sym q) e.begun, subst (λ (x : ℕ). x ≤ 4) (sym q) e.most)
 
-      advanced_is : lent m' l' sl' r' (set ws w k) W (number + 1) ≡ advanced (plan_of z) w s
-      advanced_is = state_after z m l sl r ws number w long g.turn_of h refl m' l' sl' r' o.end k (o.ends ws number) o.records o.worker
+      advanced_is : lent m' l' r' (set ws w k) W (number + 1) ≡ advanced (plan_of z) w s
+      advanced_is = state_after z m l r ws number w long g.turn_of h refl m' l' r' o.end k (o.ends ws number) o.records o.worker
 
       none_then : (f : ℕ) → f ≡ cond k.busy from (min from (suc h.task)) → (f ≤ from) × NoneReady (tasks z.tiles) (marks_from r') f
       none_then f e = go (finished left_mark_lem) refl o.worker
         where
           p : h.task < length (marks_from r)
-          p = subst (λ (x : ℕ). h.task < x) (sym (length_marks r ∙ records_long z m l sl r ws number g.whole)) task_fits
+          p = subst (λ (x : ℕ). h.task < x) (sym (length_marks r ∙ records_long z m l r ws number g.whole)) task_fits
 
           from_is : (x : Worker) → k ≡ x → f ≡ cond x.busy from (min from (suc h.task))
           from_is x q = e ∙ ap (λ (y : Worker). cond y.busy from (min from (suc h.task))) q
@@ -298,14 +291,14 @@ module _ {z : Sizes} {budget : ℕ} {all : RunEnd} {ws₀ : List Worker} {m : Li
               )
 
       pub work_goes : n < budget → (f : ℕ) → f ≡ cond k.busy from (min from (suc h.task)) → (u : ℕ) → u ≡ suc w % W
-          → Going z budget all ws₀ m' l' sl' r' (set ws w k) (number + 1) (n + 1) u f
+          → Going z budget all ws₀ m' l' r' (set ws w k) (number + 1) (n + 1) u f
       work_goes hn f e u q =
-          let i : Whole z (lent m' l' sl' r' (set ws w k) W (number + 1)) = subst (Whole z) (sym advanced_is) (advanced_whole z s g.whole w g.turn_of busy_now) in
+          let i : Whole z (lent m' l' r' (set ws w k) W (number + 1)) = subst (Whole z) (sym advanced_is) (advanced_whole z s g.whole w g.turn_of busy_now) in
           let x = none_then f e in
           record {
             whole = i;
             none = x.1;
-            reached = omega (arith, x.0, g.reached, records_long z m l sl r ws number g.whole, records_long z m' l' sl' r' (set ws w k) (number + 1) i);
+            reached = omega (arith, x.0, g.reached, records_long z m l r ws number g.whole, records_long z m' l' r' (set ws w k) (number + 1) i);
             slots = length-set ws w k ∙ g.slots;
             turn_of = subst (λ (x : ℕ). x < W) (sym q) (mod-lt (suc w) (omega (arith, g.turn_of)));
             within = omega arith;
@@ -321,25 +314,25 @@ module _ {z : Sizes} {budget : ℕ} {all : RunEnd} {ws₀ : List Worker} {m : Li
   run_ends h a e =
       let k : 0 ≡ budget - n = omega arith in
       (λ i. record { answer = e i; left = s })
-      ∙ sym (ends z s n w (every finished (marks_from r)) (ap (every finished) (sym (marks_lent m l sl r ws W number))))
+      ∙ sym (ends z s n w (every finished (marks_from r)) (ap (every finished) (sym (marks_lent m l r ws W number))))
       ∙ ap (λ (x : ℕ). run_from (plan_of z) W x n w s) k ∙ g.left_to_do
 
 -- ---- the first turn
 
 -- a run that is accepted has as many workers as the sizes say
-pub counted : (z : Sizes) (m : List Float) (l : List ℕ) (sl : List Float) (r : List (List ℕ)) (ws : Workers) → run_answer z (all_lent m l sl r ws) ≡ Accepted → ws.count ≡ z.workers
+pub counted : (z : Sizes) (m : List Float) (l : List ℕ) (r : List (List ℕ)) (ws : Workers) → run_answer z (all_lent m l r ws) ≡ Accepted → ws.count ≡ z.workers
 unfolding run_answer
-counted z m l sl r ws e =
+counted z m l r ws e =
     let a = passed 1 0 (bad_sizes z) _ e in
-    count_fits z m l sl r ws.slots ws.count ws.number (passed 2 0 (bad_lengths (plan_of z) z.workers (all_lent m l sl r ws)) _ a.1).0
+    count_fits z m l r ws.slots ws.count ws.number (passed 2 0 (bad_lengths (plan_of z) z.workers (all_lent m l r ws)) _ a.1).0
 
-whole_then : (z : Sizes) (m : List Float) (l : List ℕ) (sl : List Float) (r : List (List ℕ)) (ws : Workers) → run_answer z (all_lent m l sl r ws) ≡ Accepted → Whole z (lent m l sl r ws.slots z.workers ws.number)
-whole_then z m l sl r ws e = subst (λ (k : ℕ). Whole z (lent m l sl r ws.slots k ws.number)) (counted z m l sl r ws e) (run_whole z (all_lent m l sl r ws) e)
+whole_then : (z : Sizes) (m : List Float) (l : List ℕ) (r : List (List ℕ)) (ws : Workers) → run_answer z (all_lent m l r ws) ≡ Accepted → Whole z (lent m l r ws.slots z.workers ws.number)
+whole_then z m l r ws e = subst (λ (k : ℕ). Whole z (lent m l r ws.slots k ws.number)) (counted z m l r ws e) (run_whole z (all_lent m l r ws) e)
 
-pub starts : (z : Sizes) (budget : ℕ) (m : List Float) (l : List ℕ) (sl : List Float) (r : List (List ℕ)) (ws : Workers) (n w from : ℕ) → length ws.slots ≡ 32
-    → Underway z budget m l sl r ws n w from → Going z budget (run_from (plan_of z) z.workers (budget - n) n w (lent m l sl r ws.slots z.workers ws.number)) ws.slots m l sl r ws.slots ws.number n w from
-starts z budget m l sl r ws n w from h d = record {
-  whole = whole_then z m l sl r ws d.accepted;
+pub starts : (z : Sizes) (budget : ℕ) (m : List Float) (l : List ℕ) (r : List (List ℕ)) (ws : Workers) (n w from : ℕ) → length ws.slots ≡ 32
+    → Underway z budget m l r ws n w from → Going z budget (run_from (plan_of z) z.workers (budget - n) n w (lent m l r ws.slots z.workers ws.number)) ws.slots m l r ws.slots ws.number n w from
+starts z budget m l r ws n w from h d = record {
+  whole = whole_then z m l r ws d.accepted;
   none = d.none;
   reached = d.reached;
   slots = h;
@@ -351,33 +344,30 @@ starts z budget m l sl r ws n w from h d = record {
 
 -- ---- lengths stay, and the loop ends: with each call the budget left gets smaller, and a turn that passes goes from an idle worker to a busy one
 
-module _ {z : Sizes} {budget : ℕ} {all : RunEnd} (m₀ : List Float) (l₀ : List ℕ) (sl₀ : List Float) (r₀ : List (List ℕ)) (ws₀ : Workers) (a : run_answer z (all_lent m₀ l₀ sl₀ r₀ ws₀) ≡ Accepted)
-    {m : List Float} {l : List ℕ} {sl : List Float} {r : List (List ℕ)} {ws : List Worker} {number n w from : ℕ}
-    (g : Going z budget all ws₀.slots m l sl r ws number n w from) where
+module _ {z : Sizes} {budget : ℕ} {all : RunEnd} (m₀ : List Float) (l₀ : List ℕ) (r₀ : List (List ℕ)) (ws₀ : Workers) (a : run_answer z (all_lent m₀ l₀ r₀ ws₀) ≡ Accepted)
+    {m : List Float} {l : List ℕ} {r : List (List ℕ)} {ws : List Worker} {number n w from : ℕ}
+    (g : Going z budget all ws₀.slots m l r ws number n w from) where
   pub matrix_kept : length m ≡ length m₀
-  matrix_kept = matrix_long z m l sl r ws number g.whole ∙ sym (matrix_long z m₀ l₀ sl₀ r₀ ws₀.slots ws₀.number (whole_then z m₀ l₀ sl₀ r₀ ws₀ a))
+  matrix_kept = matrix_long z m l r ws number g.whole ∙ sym (matrix_long z m₀ l₀ r₀ ws₀.slots ws₀.number (whole_then z m₀ l₀ r₀ ws₀ a))
 
   pub lists_kept : length l ≡ length l₀
-  lists_kept = lists_long z m l sl r ws number g.whole ∙ sym (lists_long z m₀ l₀ sl₀ r₀ ws₀.slots ws₀.number (whole_then z m₀ l₀ sl₀ r₀ ws₀ a))
-
-  pub slice_kept : length sl ≡ length sl₀
-  slice_kept = slice_long z m l sl r ws number g.whole ∙ sym (slice_long z m₀ l₀ sl₀ r₀ ws₀.slots ws₀.number (whole_then z m₀ l₀ sl₀ r₀ ws₀ a))
+  lists_kept = lists_long z m l r ws number g.whole ∙ sym (lists_long z m₀ l₀ r₀ ws₀.slots ws₀.number (whole_then z m₀ l₀ r₀ ws₀ a))
 
   pub records_kept : length r ≡ length r₀
-  records_kept = records_long z m l sl r ws number g.whole ∙ sym (records_long z m₀ l₀ sl₀ r₀ ws₀.slots ws₀.number (whole_then z m₀ l₀ sl₀ r₀ ws₀ a))
+  records_kept = records_long z m l r ws number g.whole ∙ sym (records_long z m₀ l₀ r₀ ws₀.slots ws₀.number (whole_then z m₀ l₀ r₀ ws₀ a))
 
   -- what is left, told by the count of the workers
   pub recounted : (b n₀ w₀ : ℕ) (x : RunAnswer)
-      → ◌≡◌ {A = RunEnd} (record { answer = x; left = lent m l sl r ws z.workers number }) (run_from (plan_of z) z.workers b n₀ w₀ (lent m₀ l₀ sl₀ r₀ ws₀.slots z.workers ws₀.number))
-      → ◌≡◌ {A = RunEnd} (record { answer = x; left = lent m l sl r ws ws₀.count number }) (run_from (plan_of z) z.workers b n₀ w₀ (all_lent m₀ l₀ sl₀ r₀ ws₀))
+      → ◌≡◌ {A = RunEnd} (record { answer = x; left = lent m l r ws z.workers number }) (run_from (plan_of z) z.workers b n₀ w₀ (lent m₀ l₀ r₀ ws₀.slots z.workers ws₀.number))
+      → ◌≡◌ {A = RunEnd} (record { answer = x; left = lent m l r ws ws₀.count number }) (run_from (plan_of z) z.workers b n₀ w₀ (all_lent m₀ l₀ r₀ ws₀))
   recounted b n₀ w₀ x e =
-      subst (λ (k : ℕ). ◌≡◌ {A = RunEnd} (record { answer = x; left = lent m l sl r ws k number }) (run_from (plan_of z) z.workers b n₀ w₀ (lent m₀ l₀ sl₀ r₀ ws₀.slots k ws₀.number)))
-      (sym (counted z m₀ l₀ sl₀ r₀ ws₀ a)) e
+      subst (λ (k : ℕ). ◌≡◌ {A = RunEnd} (record { answer = x; left = lent m l r ws k number }) (run_from (plan_of z) z.workers b n₀ w₀ (lent m₀ l₀ r₀ ws₀.slots k ws₀.number)))
+      (sym (counted z m₀ l₀ r₀ ws₀ a)) e
 
   pub others_kept : OthersKept ws₀ (record { slots = ws; count = ws₀.count; number = number })
   others_kept = record {
     same_count = refl;
-    same_slots = subst (λ (k : ℕ). drop k ws ≡ drop k ws₀.slots) (sym (counted z m₀ l₀ sl₀ r₀ ws₀ a)) g.others;
+    same_slots = subst (λ (k : ℕ). drop k ws ≡ drop k ws₀.slots) (sym (counted z m₀ l₀ r₀ ws₀ a)) g.others;
   }
 
 -- the turns left at most

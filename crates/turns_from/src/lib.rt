@@ -19,7 +19,6 @@ pub fn turns_from(
     z: Sizes,
     matrix: &mut [f64],
     lists: &mut [u8],
-    slice: &mut [f64],
     records: &mut [Record],
     workers: Workers,
     budget: u64,
@@ -27,11 +26,11 @@ pub fn turns_from(
     turn: usize,
     low: usize,
 ) -> RunReply
-    requires { Underway z budget matrix.old lists.old slice.old records.old workers made turn low }
+    requires { Underway z budget matrix.old lists.old records.old workers made turn low }
     ensures workers_after { record {
       answer = result.answer;
-      left = all_lent matrix.new lists.new slice.new records.new result.workers;
-    } ≡ run_from (plan_of z) z.workers (budget - made) made turn (all_lent matrix.old lists.old slice.old records.old workers) }
+      left = all_lent matrix.new lists.new records.new result.workers;
+    } ≡ run_from (plan_of z) z.workers (budget - made) made turn (all_lent matrix.old lists.old records.old workers) }
     ensures others_kept { OthersKept workers result.workers }
 {
     let mut left = workers.slots;
@@ -43,7 +42,7 @@ pub fn turns_from(
         let h = left[w];
         if h.busy {
             number += 1;
-            let g = advance(z, matrix, lists, slice, records, h, w, number);
+            let g = advance(z, matrix, lists, records, h, w, number);
             left[w] = Worker {
                 busy: g.busy,
                 task: g.task,

@@ -50,7 +50,7 @@ module _ (r : List (List ℕ)) where
       ∙ sym (by_mark ∙ every_is_none (λ p. finished (mark (marks_from r) p)) (below (length r)))
 
 -- the search over the lent records is the definition's
-pub unfinished_is : (z : Sizes) (m : List Float) (l : List ℕ) (sl : List Float) (r : List (List ℕ)) (ws : List Worker) (count number : ℕ) → RecordsFit z r
-    → keep (λ p. not (finished (mark (marks_from r) p))) (below (length r)) ≡ unfinished (plan_of z) (lent m l sl r ws count number)
+pub unfinished_is : (z : Sizes) (m : List Float) (l : List ℕ) (r : List (List ℕ)) (ws : List Worker) (count number : ℕ) → RecordsFit z r
+    → keep (λ p. not (finished (mark (marks_from r) p))) (below (length r)) ≡ unfinished (plan_of z) (lent m l r ws count number)
 unfolding unfinished marks_of lent marks_from plan
-unfinished_is z m l sl r ws count number fit = ap (λ (n : ℕ). keep (λ p. not (finished (mark (marks_from r) p))) (below n)) fit
+unfinished_is z m l r ws count number fit = ap (λ (n : ℕ). keep (λ p. not (finished (mark (marks_from r) p))) (below n)) fit

@@ -16,9 +16,9 @@ use Rattle.answers.proofs.Refusals.{is_accepted, not_accepted}
 use Rattle.column_checks.proofs.Laws.{accepted_then}
 use Rattle.advancing.specs.Advancing.{Working}
 
-module _ (z : Sizes) (m : List Float) (l : List ℕ) (sl : List Float) (r : List (List ℕ)) (ws : List Worker) (count number w : ℕ) where
+module _ (z : Sizes) (m : List Float) (l : List ℕ) (r : List (List ℕ)) (ws : List Worker) (count number w : ℕ) where
   abbrev old : Lent
-  old = lent m l sl r ws count number
+  old = lent m l r ws count number
 
   module _ (a : Answer) (e : a ≡ column_answer z w old) (b : Bool) (f : b ≡ accepts a) where
     pub refused : b ≡ false → ◌≡◌ {A = Reply} (record { answer = a; left = old }) (column_call z w old)
@@ -26,9 +26,9 @@ module _ (z : Sizes) (m : List Float) (l : List ℕ) (sl : List Float) (r : List
     refused q = not_accepted a b old (advanced (plan_of z) w old) f q ∙ ap (λ k. replied k old (advanced (plan_of z) w old)) e
 
     module _ (q : b ≡ true) where
-      pub works_then : Working z w m l sl r ws number × (count ≡ z.workers)
+      pub works_then : Working z w m l r ws number × (count ≡ z.workers)
       works_then =
-          let (n, s, x, y, t) = accepted_then z m l sl r ws count number w (sym e ∙ is_accepted a b f q) in
+          let (n, s, x, y, t) = accepted_then z m l r ws count number w (sym e ∙ is_accepted a b f q) in
           (record { sound = s; exists = x; busy = y; tiles_finite = t }, n)
 
       pub worked : (left : Lent) → left ≡ advanced (plan_of z) w old → ◌≡◌ {A = Reply} (record { answer = a; left = left }) (column_call z w old)

@@ -15,22 +15,21 @@ pub fn column(
     z: Sizes,
     matrix: &mut [f64],
     lists: &mut [u8],
-    slice: &mut [f64],
     records: &mut [Record],
     workers: Workers,
     w: usize,
 ) -> CallReply
     ensures workers_after { record {
       answer = result.answer;
-      left = all_lent matrix.new lists.new slice.new records.new result.workers;
-    } ≡ column_call z w (all_lent matrix.old lists.old slice.old records.old workers) }
+      left = all_lent matrix.new lists.new records.new result.workers;
+    } ≡ column_call z w (all_lent matrix.old lists.old records.old workers) }
     ensures others_kept { OthersKept workers result.workers }
 {
-    let answer = column_answer(z, matrix, lists, slice, records, workers, w);
+    let answer = column_answer(z, matrix, lists, records, workers, w);
     if !accepted(answer) {
         return CallReply { answer, workers };
     }
-    let left = advance_worker(z, matrix, lists, slice, records, workers, w);
+    let left = advance_worker(z, matrix, lists, records, workers, w);
     CallReply {
         answer,
         workers: left,

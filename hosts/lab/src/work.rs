@@ -138,7 +138,7 @@ impl Shared {
 
 /// All tasks of a system, done on as many threads as there are workers.
 fn done(system: &System, workers: usize) -> Result<(Sizes, Lent), Failure> {
-    let sizes = Sizes { tiles: system.tiles, side: system.side, workers, block: 1 };
+    let sizes = Sizes { tiles: system.tiles, side: system.side, workers };
     let mut lent = Lent::of(sizes, system.matrix.clone());
     lent.open(sizes).map_err(Failure::of)?;
     let work = Work { sizes, lent, lowest: 0, finished: 0, failure: None };
@@ -174,7 +174,7 @@ pub fn factor(system: &System, workers: usize) -> Result<Factored, Failure> {
                 let _ =
                     writeln!(io::stderr(), "lab: the outcome is {}", words::outcome(system.tiles, outcome));
             }
-            let Lent { matrix, lists, records, workers, .. } = lent;
+            let Lent { matrix, lists, records, workers } = lent;
             Ok(Factored { matrix, lists, records, number: workers.number, outcome })
         }
         Ending::Unfinished(task) => Err(Failure::of(Refusal { number: 8, place: task })),

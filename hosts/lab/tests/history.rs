@@ -32,7 +32,7 @@ fn by_hand() {
         assert_eq!((ended.status, ended.out.as_str()), (0, lines));
     }
     // One tile of three rows: the calls of its first two columns have no line.
-    let tile = system_text(Shape::of(1, 3), &[1.0, 2.0, 3.0, 4.0, 5.0, 6.0, 7.0, 8.0, 10.0]);
+    let tile = system_text(Shape { tiles: 1, side: 3 }, &[1.0, 2.0, 3.0, 4.0, 5.0, 6.0, 7.0, 8.0, 10.0]);
     let ended = lab_with(&["history", "-"], tile.as_bytes());
     let lines = "1 worker 0 takes 0 T-1(0)\n4 worker 0 ends 0 T-1(0): done\n4 calls by 1 worker\n";
     assert_eq!((ended.status, ended.out.as_str()), (0, lines));
@@ -65,7 +65,7 @@ fn mark_word(mark: u8) -> &'static str {
 
 /// The lines for one worker, by a run of the reference program.
 fn due_alone(shape: Shape, matrix: &[f64]) -> String {
-    let sizes = Sizes { tiles: shape.tiles as u64, side: shape.side as u64, workers: 1, block: 1 };
+    let sizes = Sizes { tiles: shape.tiles as u64, side: shape.side as u64, workers: 1 };
     let mut lent = before_opening(&mut Rng::new(1), shape, 1, matrix.to_vec());
     opening(sizes, &mut lent).unwrap();
     let Ok(Run::Finished(count)) = run(sizes, &mut lent, u64::MAX) else { panic!("an unfinished run") };
@@ -139,7 +139,7 @@ fn any_workers() {
     let mut rng = Rng::new(9);
     for (tiles, side) in [(1, 16), (2, 3), (4, 4), (7, 1), (16, 1)] {
         for family in [1, 2, 3, 7] {
-            let shape = Shape::of(tiles, side);
+            let shape = Shape { tiles, side };
             let matrix = numbers(&mut rng, family, shape.matrix_length());
             every_order(&folder.file("system", system_text(shape, &matrix)), shape, &matrix);
         }

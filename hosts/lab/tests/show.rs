@@ -87,7 +87,7 @@ fn hard_numbers() {
     for part in numbers.chunks_exact(256) {
         let matrix: Vec<f64> =
             part.iter().enumerate().map(|(k, x)| if k % 3 == 0 { -x } else { *x }).collect();
-        let text = system_text(Shape::of(16, 1), &matrix);
+        let text = system_text(Shape { tiles: 16, side: 1 }, &matrix);
         files.push(folder.file(&format!("{}.system", files.len()), text));
     }
     same(&files);

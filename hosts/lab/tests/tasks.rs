@@ -22,7 +22,7 @@ fn by_hand() {
     // The rows 2 2 and -2 1: the lower row ties with the upper one, as two tiles a side and as one.
     let ended = lab_with(&["tasks", "-"], system_of(2, &[2.0, 2.0, -2.0, 1.0]).as_bytes());
     assert_eq!((ended.status, ended.out), (0, lines.replace("T-3(0,1) done 0", "T-3(0,1) done 1")));
-    let tile = system_text(Shape::of(1, 2), &[2.0, 2.0, -2.0, 1.0]);
+    let tile = system_text(Shape { tiles: 1, side: 2 }, &[2.0, 2.0, -2.0, 1.0]);
     let ended = lab_with(&["tasks", "-"], tile.as_bytes());
     assert_eq!((ended.status, ended.out.as_str()), (0, "0 T-1(0) done 1\n"));
 }
@@ -61,7 +61,7 @@ fn any_workers() {
     let mut rng = Rng::new(7);
     for (tiles, side) in [(1, 16), (2, 3), (4, 4), (7, 1), (16, 1)] {
         for family in [1, 2, 3, 7] {
-            let shape = Shape::of(tiles, side);
+            let shape = Shape { tiles, side };
             let matrix = numbers(&mut rng, family, shape.matrix_length());
             let (file, due) = (folder.file("system", system_text(shape, &matrix)), due(shape, &matrix));
             for workers in ["1", "5", "32"] {

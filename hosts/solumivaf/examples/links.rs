@@ -4,7 +4,7 @@ use solumivaf::{Lent, Sizes};
 
 /// With p and q waiting and every other task done, taking q is refused exactly where p is linked to q.
 pub fn links(tiles: usize) -> String {
-    let sizes = Sizes { tiles, side: 1, workers: 1, block: 1 };
+    let sizes = Sizes { tiles, side: 1, workers: 1 };
     let mut opened = Lent::of(sizes, vec![0.0; tiles * tiles]);
     opened.open(sizes).expect("N from 1 to 16");
     let mut lines = String::new();

@@ -46,7 +46,7 @@ pub fn answers(sizes: Sizes, matrix: Vec<f64>, right: &[f64]) -> Result<Vec<f64>
 #[allow(dead_code)]
 fn main() -> Result<(), Error> {
     // The system of examples/small.table: the rows 0.25 -0.125 and -0.5 1.
-    let sizes = Sizes { tiles: 2, side: 1, workers: 3, block: 1 };
+    let sizes = Sizes { tiles: 2, side: 1, workers: 3 };
     for answer in answers(sizes, vec![0.25, -0.125, -0.5, 1.0], &[0.25, 4.0])? {
         println!("{answer}");
     }

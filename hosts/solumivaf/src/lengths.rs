@@ -20,14 +20,6 @@ pub fn lists_length(tiles: usize, side: usize) -> usize {
     in_range(tiles, side, |n, t| n * n * t)
 }
 
-/// The multipliers of upper rows: N (N - 1) / 2 t b, and none for b = 1. 0 for sizes out of range and for b above t.
-pub fn slice_length(tiles: usize, side: usize, block: usize) -> usize {
-    if block == 1 || block > side {
-        return 0;
-    }
-    in_range(tiles, side, |n, t| n * (n - 1) / 2 * t * block)
-}
-
 /// The records, one for each task: N (N + 1) (2 N + 1) / 6. 0 for N out of range.
 pub fn records_length(tiles: usize) -> usize {
     in_range(tiles, 1, |n, _| n * (n + 1) * (2 * n + 1) / 6)

@@ -8,7 +8,7 @@
 //! use solumivaf::{Ending, Lent, Outcome, Sizes};
 //!
 //! // The rows 0.25 -0.125 and -0.5 1, as 2 by 2 tiles of one number each, for one worker.
-//! let sizes = Sizes { tiles: 2, side: 1, workers: 1, block: 1 };
+//! let sizes = Sizes { tiles: 2, side: 1, workers: 1 };
 //! let mut lent = Lent::of(sizes, vec![0.25, -0.125, -0.5, 1.0]);
 //! lent.open(sizes)?;
 //! lent.run(sizes, u64::MAX)?;
@@ -42,16 +42,16 @@ use std::fmt;
 
 pub use arithmetic::arithmetic_is_default;
 pub use files::{read_result, read_sizes, read_system, write_result, write_system};
-pub use lengths::{lists_length, matrix_length, records_length, result_length, slice_length, system_length};
+pub use lengths::{lists_length, matrix_length, records_length, result_length, system_length};
 pub use refusal::{Error, Refusal};
 
 /// The version of the interface, as hosts/solumivaf.h has it.
-pub const VERSION: u32 = 6;
+pub const VERSION: u32 = 5;
 
 /// The number of worker slots, and the most workers.
 pub const SLOTS: usize = 32;
 
-/// N, t, W and b as told to a call, in range or not.
+/// N, t and W as told to a call, in range or not.
 #[derive(Clone, Copy, Debug, PartialEq, Eq)]
 pub struct Sizes {
     /// N, the tiles a side: 1 to 16.
@@ -60,9 +60,6 @@ pub struct Sizes {
     pub side: usize,
     /// W, the workers: 1 to 32.
     pub workers: usize,
-    /// b, the inner block size: a divisor of t, the same for all calls on a system. 1 needs no [`slice`](Lent::slice); a larger one can
-    /// make a run shorter, and gives the same diagonal, elements above it, marks, outcome and answers.
-    pub block: usize,
 }
 
 /// A task: its kind, its k, i and j (0 where the kind has none), its mark, the sum of its [`ties`](Record::ties), the worker that ended it, and the
@@ -99,7 +96,7 @@ impl Record {
     /// use solumivaf::{Lent, Sizes};
     ///
     /// // The rows 2 2 and -2 1 as one tile: in column 0 the second row ties with the first.
-    /// let sizes = Sizes { tiles: 1, side: 2, workers: 1, block: 1 };
+    /// let sizes = Sizes { tiles: 1, side: 2, workers: 1 };
     /// let mut lent = Lent::of(sizes, vec![2.0, 2.0, -2.0, 1.0]);
     /// lent.open(sizes)?;
     /// lent.run(sizes, u64::MAX)?;
@@ -122,7 +119,7 @@ impl Record {
     /// use solumivaf::{Lent, Sizes};
     ///
     /// // Task 0 is taken by call 1, and ended by worker 1 with call 2.
-    /// let sizes = Sizes { tiles: 1, side: 1, workers: 2, block: 1 };
+    /// let sizes = Sizes { tiles: 1, side: 1, workers: 2 };
     /// let mut lent = Lent::of(sizes, vec![2.0]);
     /// lent.open(sizes)?;
     /// lent.take(sizes, 1, 0)?;
@@ -199,8 +196,6 @@ pub struct Lent {
     pub matrix: Vec<f64>,
     /// The row lists, one for each tile in the same order.
     pub lists: Vec<u8>,
-    /// With an inner block size above 1, the multipliers of T-3's upper rows: t b for each tile below the diagonal, in tile order. Else empty.
-    pub slice: Vec<f64>,
     /// The tasks in number order.
     pub records: Vec<Record>,
     /// The workers.
@@ -309,7 +304,7 @@ macro_rules! number {
 /// A call with the sizes and everything lent. A buffer is lent by `as_ptr` to be read, or by `as_mut_ptr` to be written; the worker slots
 /// and the run's number are lent like the records.
 macro_rules! call {
-    ($function:ident, $sizes:expr, $lent:expr, $matrix:ident, $lists:ident, $slice:ident, $records:ident $(, $more:expr)*) => {
+    ($function:ident, $sizes:expr, $lent:expr, $matrix:ident, $lists:ident, $records:ident $(, $more:expr)*) => {
         // SAFETY: the header's conditions hold. Each pointer is of a Vec, an array or a slice with the length that goes with it, or of the run's
         // number, which the borrow of `$lent` and of what else is passed keeps alive, and which no one else writes during the call. Buffers do
         // not overlap.
@@ -319,13 +314,10 @@ macro_rules! call {
                 $sizes.tiles,
                 $sizes.side,
                 $sizes.workers,
-                $sizes.block,
                 $lent.matrix.$matrix(),
                 $lent.matrix.len(),
                 $lent.lists.$lists(),
                 $lent.lists.len(),
-                $lent.slice.$slice(),
-                $lent.slice.len(),
                 $lent.records.$records(),
                 $lent.records.len(),
                 $lent.workers.busy.$records(),
@@ -341,30 +333,29 @@ macro_rules! call {
 
 /// The calls. All but [`take`](Lent::take) depend on the floating-point mode and test it first.
 impl Lent {
-    /// Buffers of the lengths that a system calls for, around its matrix. For N or t out of range lists, slice and records are empty, and
-    /// [`open`](Lent::open) refuses 1; a b that does not divide t is refused 17.
+    /// Buffers of the lengths that a system calls for, around its matrix. For N or t out of range lists and records are empty, and
+    /// [`open`](Lent::open) refuses 1.
     pub fn of(sizes: Sizes, matrix: Vec<f64>) -> Lent {
         Lent {
             matrix,
             lists: vec![0; lists_length(sizes.tiles, sizes.side)],
-            slice: vec![0.0; slice_length(sizes.tiles, sizes.side, sizes.block)],
             records: vec![Record::default(); records_length(sizes.tiles)],
             workers: Workers { count: sizes.workers, ..Workers::default() },
         }
     }
 
-    /// Starts the work on the matrix: lists of 0, a slice of +0, every task waiting and without ties, worker and calls, every worker idle, the run's number 0. Tests
+    /// Starts the work on the matrix: lists of 0, every task waiting and without ties, worker and calls, every worker idle, the run's number 0. Tests
     /// the version of the library too.
     pub fn open(&mut self, sizes: Sizes) -> Result<(), Error> {
         version()?;
         arithmetic()?;
-        let told = call!(solumivaf_open, sizes, self, as_ptr, as_mut_ptr, as_mut_ptr, as_mut_ptr);
+        let told = call!(solumivaf_open, sizes, self, as_ptr, as_mut_ptr, as_mut_ptr);
         Ok(accepted(told.number, told.place)?)
     }
 
     /// A worker takes a task that is ready. The run's number grows by 1, and the task's record gets it.
     pub fn take(&mut self, sizes: Sizes, worker: usize, task: usize) -> Result<(), Error> {
-        let told = call!(solumivaf_take, sizes, self, as_ptr, as_ptr, as_ptr, as_mut_ptr, worker, task);
+        let told = call!(solumivaf_take, sizes, self, as_ptr, as_ptr, as_mut_ptr, worker, task);
         Ok(accepted(told.number, told.place)?)
     }
 
@@ -372,15 +363,14 @@ impl Lent {
     /// number grows by 1, and where the task ends, its record gets it and the worker.
     pub fn column(&mut self, sizes: Sizes, worker: usize) -> Result<(), Error> {
         arithmetic()?;
-        let told =
-            call!(solumivaf_column, sizes, self, as_mut_ptr, as_mut_ptr, as_mut_ptr, as_mut_ptr, worker);
+        let told = call!(solumivaf_column, sizes, self, as_mut_ptr, as_mut_ptr, as_mut_ptr, worker);
         Ok(accepted(told.number, told.place)?)
     }
 
     /// The workers take turns from 0 until all tasks are finished, or as many calls are made as the budget allows.
     pub fn run(&mut self, sizes: Sizes, budget: u64) -> Result<Run, Error> {
         arithmetic()?;
-        let told = call!(solumivaf_run, sizes, self, as_mut_ptr, as_mut_ptr, as_mut_ptr, as_mut_ptr, budget);
+        let told = call!(solumivaf_run, sizes, self, as_mut_ptr, as_mut_ptr, as_mut_ptr, budget);
         accepted(told.number, told.place)?;
         Ok(if told.kind == 1 { Run::Finished(told.count) } else { Run::Spent(told.count) })
     }
@@ -389,7 +379,7 @@ impl Lent {
     pub fn outcome(&self, sizes: Sizes) -> Result<Ending, Error> {
         // A subnormal number on the diagonal is not zero, unless the mode makes it so.
         arithmetic()?;
-        let told = call!(solumivaf_outcome, sizes, self, as_ptr, as_ptr, as_ptr, as_ptr);
+        let told = call!(solumivaf_outcome, sizes, self, as_ptr, as_ptr, as_ptr);
         accepted(told.number, told.place)?;
         Ok(match told.kind {
             3 => Ending::Unfinished(told.place),
@@ -404,7 +394,6 @@ impl Lent {
             solumivaf_solve,
             sizes,
             self,
-            as_ptr,
             as_ptr,
             as_ptr,
             as_ptr,

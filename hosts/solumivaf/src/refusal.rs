@@ -2,7 +2,7 @@
 
 use std::fmt;
 
-/// A refusal's number, 1 to 17, and its place. What a refused call was lent stays as it was.
+/// A refusal's number, 1 to 15, and its place. What a refused call was lent stays as it was.
 ///
 /// ```
 /// let refusal = solumivaf::Refusal { number: 7, place: 3 };
@@ -16,11 +16,11 @@ pub struct Refusal {
     pub place: usize,
 }
 
-/// For each number from 1 to 15: what it means, and what to do.
+/// For each number from 1 on: what it means, and what to do.
 const WORDS: [(&str, &str); 15] = [
     ("N or t is outside 1 to 16, or W outside 1 to 32", "Give N and t from 1 to 16, and W from 1 to 32."),
     (
-        "something lent has another length than N, t, W and b call for",
+        "something lent has another length than N, t and W call for",
         "Lend buffers of the lengths that the sizes call for, and as many workers as W.",
     ),
     (
@@ -66,20 +66,11 @@ const WORDS: [(&str, &str); 15] = [
     ("the lent text is too short", "Lend a text of the length that the sizes call for."),
 ];
 
-/// For 17. No refusal has the number 16.
-const BLOCK: (&str, &str) = (
-    "the inner block size is zero or does not divide t",
-    "Give a divisor of t, the same for all calls on a system: 1, or t.",
-);
-
 impl Refusal {
     fn words(&self) -> (&'static str, &'static str) {
         let unknown = ("no refusal has this number", "Link the library that belongs to this wrapper.");
-        match self.number {
-            number @ 1..=15 => WORDS[number as usize - 1],
-            17 => BLOCK,
-            _ => unknown,
-        }
+        let place = (self.number as usize).wrapping_sub(1);
+        WORDS.get(place).copied().unwrap_or(unknown)
     }
 
     /// What the number means, in a few words.

@@ -66,7 +66,7 @@ fn same<T: PartialEq + std::fmt::Debug>(
 
 /// A system of 2 by 2 tiles of two rows with W workers, of which worker 0 holds task 0 at column 1.
 fn begun(workers: usize) -> (Sizes, Lent) {
-    let sizes = Sizes { tiles: 2, side: 2, workers, block: 1 };
+    let sizes = Sizes { tiles: 2, side: 2, workers };
     let numbers = [4.0, 1.0, 2.0, 3.0, 1.0, 0.5, -1.0, 2.0, 8.0, 1.0, 1.0, 0.25, 3.0, 1.0, 1.0, 7.0];
     let mut lent = Lent::of(sizes, numbers.to_vec());
     lent.open(sizes).unwrap();
@@ -171,9 +171,9 @@ fn sizes_of(lent: &Lent) -> Sizes {
                 && solumivaf::lists_length(tiles, side) == lent.lists.len()
                 && solumivaf::records_length(tiles) == lent.records.len();
             if fits {
-                return Sizes { tiles, side, workers, block: 1 };
+                return Sizes { tiles, side, workers };
             }
         }
     }
-    Sizes { tiles: 1, side: 1, workers, block: 1 }
+    Sizes { tiles: 1, side: 1, workers }
 }

@@ -17,7 +17,7 @@ use solumivaf::Sizes;
 #[test]
 fn small() {
     for workers in [1, 3, 8] {
-        let sizes = Sizes { tiles: 2, side: 1, workers, block: 1 };
+        let sizes = Sizes { tiles: 2, side: 1, workers };
         assert_eq!(answers(sizes, vec![0.25, -0.125, -0.5, 1.0], &[0.25, 4.0]), Ok(vec![4.0, 6.0]));
     }
 }
@@ -30,7 +30,7 @@ fn meter() {
     solumivaf::read_system(text, &mut matrix).unwrap();
     let mut right = vec![0.0; tiles * side];
     (right[10], right[11]) = (5.0, 23.0);
-    let answers = answers(Sizes { tiles, side, workers: 4, block: 1 }, matrix, &right).unwrap();
+    let answers = answers(Sizes { tiles, side, workers: 4 }, matrix, &right).unwrap();
     assert!((answers[0] - 7.4871).abs() < 5e-5 && (answers[11] - 47.9444).abs() < 5e-5, "{answers:?}");
 }
 

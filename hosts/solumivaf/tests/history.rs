@@ -39,12 +39,12 @@ fn as_it_crosses() {
 
 #[test]
 fn one_worker() {
-    let sizes = Sizes { tiles: 2, side: 1, workers: 1, block: 1 };
+    let sizes = Sizes { tiles: 2, side: 1, workers: 1 };
     let lent = finished(sizes, &[0.25, -0.125, -0.5, 1.0]);
     assert_eq!(history(&lent), [(0, 1, 2), (0, 3, 4), (0, 5, 6), (0, 7, 8), (0, 9, 10)]);
     assert_eq!(lent.workers.number, 10);
     // Of the three columns of a task the last one ends it.
-    let sizes = Sizes { tiles: 2, side: 3, workers: 1, block: 1 };
+    let sizes = Sizes { tiles: 2, side: 3, workers: 1 };
     let lent = finished(sizes, &plain(sizes));
     assert_eq!(history(&lent), [(0, 1, 4), (0, 5, 8), (0, 9, 12), (0, 13, 16), (0, 17, 20)]);
     assert_eq!(lent.workers.number, 20);
@@ -53,7 +53,7 @@ fn one_worker() {
 /// Two workers take turns: while one has the only task that is ready, the other makes no call.
 #[test]
 fn two_workers() {
-    let sizes = Sizes { tiles: 2, side: 1, workers: 2, block: 1 };
+    let sizes = Sizes { tiles: 2, side: 1, workers: 2 };
     let lent = finished(sizes, &[0.25, -0.125, -0.5, 1.0]);
     assert_eq!(history(&lent), [(0, 1, 2), (1, 3, 5), (0, 4, 6), (1, 7, 8), (0, 9, 10)]);
     assert_eq!(lent.workers.number, 10);
@@ -62,7 +62,7 @@ fn two_workers() {
 /// Each accepted take and column counts, in a run too; what is refused leaves the number and every record.
 #[test]
 fn call_by_call() {
-    let sizes = Sizes { tiles: 2, side: 2, workers: 3, block: 1 };
+    let sizes = Sizes { tiles: 2, side: 2, workers: 3 };
     let mut lent = opened(sizes, &plain(sizes));
     let mut due = vec![(0, 0, 0); 5];
     assert_eq!((history(&lent), lent.workers.number), (due.clone(), 0));
@@ -108,7 +108,7 @@ fn call_by_call() {
 /// Failed and spoiled tasks have their worker and both calls: the first fails at once, and a spoiled one has a single column.
 #[test]
 fn failed_and_spoiled() {
-    let sizes = Sizes { tiles: 2, side: 2, workers: 1, block: 1 };
+    let sizes = Sizes { tiles: 2, side: 2, workers: 1 };
     let lent = finished(sizes, &failing());
     assert_eq!(marks(&lent), [3, 4, 4, 4, 4]);
     assert_eq!(history(&lent), [(0, 1, 2), (0, 3, 4), (0, 5, 6), (0, 7, 8), (0, 9, 10)]);
@@ -128,7 +128,7 @@ fn failed_and_spoiled() {
 #[test]
 fn opening() {
     for workers in [1, 32] {
-        let sizes = Sizes { tiles: 3, side: 2, workers, block: 1 };
+        let sizes = Sizes { tiles: 3, side: 2, workers };
         let new = opened(sizes, &plain(sizes));
         assert!(history(&new).iter().all(|&told| told == (0, 0, 0)));
         assert_eq!(new.workers.number, 0);
@@ -155,7 +155,7 @@ fn opening() {
 /// A second opening starts the numbers again, in the middle of the work too.
 #[test]
 fn opened_again() {
-    let sizes = Sizes { tiles: 2, side: 2, workers: 2, block: 1 };
+    let sizes = Sizes { tiles: 2, side: 2, workers: 2 };
     let first = finished(sizes, &plain(sizes));
     for calls in [1, 4, 7, 15] {
         let mut lent = opened(sizes, &plain(sizes));
@@ -206,13 +206,13 @@ fn every_order() {
     let (mut failed, mut differ) = (0, 0);
     for (tiles, side) in [(1, 16), (2, 1), (2, 5), (3, 3), (4, 2), (5, 1)].repeat(4) {
         for family in [1, 2, 3, 6, 7] {
-            let shape = Shape::of(tiles, side);
+            let shape = Shape { tiles, side };
             let system = numbers(&mut rng, family, shape.matrix_length());
-            let alone = finished(Sizes { tiles, side, workers: 1, block: 1 }, &system);
+            let alone = finished(Sizes { tiles, side, workers: 1 }, &system);
             let due = old_loops(shape, &system);
             assert_eq!((bits(&alone.matrix), marks(&alone)), (bits(&due.matrix), due.marks.clone()));
             for workers in [1, 3, 32] {
-                let sizes = Sizes { tiles, side, workers, block: 1 };
+                let sizes = Sizes { tiles, side, workers };
                 let mut whole = opened(sizes, &system);
                 let count = match whole.run(sizes, u64::MAX).unwrap() {
                     Run::Finished(count) | Run::Spent(count) => count,

@@ -54,7 +54,7 @@ fn most_is(sizes: Sizes, lent: &Lent, most: u32) {
 /// t + 1 for each finished task, however it ended; 1 and the next column for each taken one.
 #[test]
 fn number_above() {
-    let sizes = Sizes { tiles: 2, side: 3, workers: 3, block: 1 };
+    let sizes = Sizes { tiles: 2, side: 3, workers: 3 };
     let mut lent = opened(sizes, &plain(sizes));
     most_is(sizes, &lent, 0);
     for (at, p) in [0, 2, 1, 3, 4].into_iter().enumerate() {
@@ -75,12 +75,12 @@ fn number_above() {
     }
     most_is(sizes, &lent, 4 + 3 + 2);
     // A failed and four spoiled tasks made ten calls, and t + 1 for each are allowed.
-    let sizes = Sizes { tiles: 2, side: 2, workers: 1, block: 1 };
+    let sizes = Sizes { tiles: 2, side: 2, workers: 1 };
     let lent = finished(sizes, &failing());
     assert_eq!((marks(&lent), lent.workers.number), (vec![3, 4, 4, 4, 4], 10));
     most_is(sizes, &lent, 15);
     // The most calls that there can be.
-    let sizes = Sizes { tiles: 16, side: 16, workers: 1, block: 1 };
+    let sizes = Sizes { tiles: 16, side: 16, workers: 1 };
     let mut lent = opened(sizes, &vec![0.0; 65536]);
     lent.records.iter_mut().for_each(|record| record.mark = 2);
     most_is(sizes, &lent, 1496 * 17);
@@ -89,7 +89,7 @@ fn number_above() {
 /// What is allowed by an earlier failure is allowed later too: the numbers go on from it.
 #[test]
 fn number_goes_on() {
-    let sizes = Sizes { tiles: 2, side: 2, workers: 2, block: 1 };
+    let sizes = Sizes { tiles: 2, side: 2, workers: 2 };
     let mut lent = opened(sizes, &failing());
     lent.run(sizes, 2).unwrap();
     assert_eq!(marks(&lent), [3, 0, 0, 0, 0]);
@@ -103,7 +103,7 @@ fn number_goes_on() {
 
 /// States with waiting, taken, done, failed and spoiled tasks, each with its sizes.
 fn states() -> Vec<(Sizes, Lent)> {
-    let sizes = Sizes { tiles: 2, side: 2, workers: 3, block: 1 };
+    let sizes = Sizes { tiles: 2, side: 2, workers: 3 };
     let mut states = vec![(sizes, opened(sizes, &plain(sizes)))];
     for calls in [1, 2, 5, 7, 9, u64::MAX] {
         let mut lent = opened(sizes, &plain(sizes));
@@ -179,7 +179,7 @@ fn worker_below() {
         }
     }
     for workers in [1, 31, 32] {
-        let sizes = Sizes { tiles: 3, side: 1, workers, block: 1 };
+        let sizes = Sizes { tiles: 3, side: 1, workers };
         for mut lent in [opened(sizes, &plain(sizes)), finished(sizes, &plain(sizes))] {
             lent.records[13].worker = workers as u8 - 1;
             is_accepted(sizes, &lent);
@@ -194,7 +194,7 @@ fn worker_below() {
 /// A finished system is lent to more workers, and to fewer where those above did nothing.
 #[test]
 fn other_workers() {
-    let sizes = Sizes { tiles: 2, side: 2, workers: 3, block: 1 };
+    let sizes = Sizes { tiles: 2, side: 2, workers: 3 };
     let mut lent = opened(sizes, &plain(sizes));
     for p in 0..5 {
         lent.take(sizes, p % 2, p).unwrap();

@@ -43,7 +43,7 @@ fn same_writings() {
 
 #[test]
 fn specimens() {
-    let sizes = Sizes { tiles: 2, side: 1, workers: 1, block: 1 };
+    let sizes = Sizes { tiles: 2, side: 1, workers: 1 };
     let mut lent = Lent::of(sizes, vec![1.0, 2.0, 4.0, 4.0]);
     lent.open(sizes).unwrap();
     assert_eq!(lent.take(sizes, 0, 1), Err(refused(7, 1)));
@@ -65,7 +65,7 @@ fn couple_before_apply() {
         if crafted.shape.tiles != 2 {
             continue;
         }
-        let sizes = Sizes { tiles: 2, side: crafted.shape.side, workers: 2, block: 1 };
+        let sizes = Sizes { tiles: 2, side: crafted.shape.side, workers: 2 };
         let mut lent = Lent::of(sizes, crafted.matrix.clone());
         lent.open(sizes).unwrap();
         assert_eq!(lent.take(sizes, 0, 2), Err(refused(7, 2)));
@@ -104,18 +104,12 @@ fn a_nan_has_one_text() {
 #[test]
 fn another_count() {
     let two = refused(2, 0);
-    let sizes = Sizes { tiles: 2, side: 1, workers: 2, block: 1 };
+    let sizes = Sizes { tiles: 2, side: 1, workers: 2 };
     let mut lent = Lent::of(sizes, vec![1.0, 2.0, 4.0, 4.0]);
     lent.open(sizes).unwrap();
     for count in [0, 1, 3, 32, 33, 258, (1 << 32) + 2, usize::MAX] {
         lent.workers.count = count;
-        let before = (
-            bits(&lent.matrix),
-            lent.lists.clone(),
-            bits(&lent.slice),
-            lent.records.clone(),
-            lent.workers.clone(),
-        );
+        let before = (bits(&lent.matrix), lent.lists.clone(), lent.records.clone(), lent.workers.clone());
         let mut answers = [7.0; 2];
         assert_eq!(lent.open(sizes), Err(two));
         assert_eq!(lent.take(sizes, 0, 0), Err(two));
@@ -126,13 +120,7 @@ fn another_count() {
         assert_eq!(answers, [7.0; 2]);
         assert_eq!(
             before,
-            (
-                bits(&lent.matrix),
-                lent.lists.clone(),
-                bits(&lent.slice),
-                lent.records.clone(),
-                lent.workers.clone()
-            )
+            (bits(&lent.matrix), lent.lists.clone(), lent.records.clone(), lent.workers.clone())
         );
         let beyond = Sizes { workers: 33, ..sizes };
         assert_eq!(lent.run(beyond, 0), Err(refused(1, 0)));
@@ -148,8 +136,8 @@ fn another_count() {
 fn made_buffers() {
     for tiles in 1..=16 {
         for side in 1..=16 {
-            let shape = reference::tile::Shape::of(tiles, side);
-            let sizes = Sizes { tiles, side, workers: 1, block: 1 };
+            let shape = reference::tile::Shape { tiles, side };
+            let sizes = Sizes { tiles, side, workers: 1 };
             let mut lent = Lent::of(sizes, vec![1.0; shape.matrix_length()]);
             assert_eq!(lent.lists, vec![0; shape.lists_length()]);
             assert_eq!(lent.records, vec![Record::default(); reference::tasks::numbering(tiles).len()]);

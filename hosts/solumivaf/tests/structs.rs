@@ -12,13 +12,12 @@ use reference::solve::{Ending, Outcome};
 use reference::vectors::script;
 use reference::writer::Options;
 
-/// N, t, W and b, as C has them.
+/// N, t and W, as C has them.
 #[repr(C)]
 struct Sizes {
     tiles: usize,
     side: usize,
     workers: usize,
-    block: usize,
 }
 
 /// A task's record, as C has it.
@@ -41,12 +40,12 @@ struct TaskRecord {
 #[rustfmt::skip]
 #[link(name = "bench_structs", kind = "static")]
 extern "C" {
-    fn bench_open(z: Sizes, matrix: *const f64, matrix_length: usize, lists: *mut u8, lists_length: usize, slice: *mut f64, slice_length: usize, records: *mut TaskRecord, records_length: usize, number: u32) -> u8;
-    fn bench_take(z: Sizes, matrix: *const f64, matrix_length: usize, lists: *const u8, lists_length: usize, slice: *const f64, slice_length: usize, records: *mut TaskRecord, records_length: usize, number: u32, w: usize, p: usize) -> u8;
-    fn bench_column(z: Sizes, matrix: *mut f64, matrix_length: usize, lists: *mut u8, lists_length: usize, slice: *mut f64, slice_length: usize, records: *mut TaskRecord, records_length: usize, number: u32, w: usize, p: u16, c: u8) -> u8;
-    fn bench_run(z: Sizes, matrix: *mut f64, matrix_length: usize, lists: *mut u8, lists_length: usize, slice: *mut f64, slice_length: usize, records: *mut TaskRecord, records_length: usize, number: u32, budget: u64) -> u64;
-    fn bench_outcome(z: Sizes, matrix: *const f64, matrix_length: usize, lists: *const u8, lists_length: usize, slice: *const f64, slice_length: usize, records: *const TaskRecord, records_length: usize, number: u32) -> u8;
-    fn bench_solve(z: Sizes, matrix: *const f64, matrix_length: usize, lists: *const u8, lists_length: usize, slice: *const f64, slice_length: usize, records: *const TaskRecord, records_length: usize, number: u32, right: *const f64, right_length: usize, answers: *mut f64, answers_length: usize) -> u8;
+    fn bench_open(z: Sizes, matrix: *const f64, matrix_length: usize, lists: *mut u8, lists_length: usize, records: *mut TaskRecord, records_length: usize, number: u32) -> u8;
+    fn bench_take(z: Sizes, matrix: *const f64, matrix_length: usize, lists: *const u8, lists_length: usize, records: *mut TaskRecord, records_length: usize, number: u32, w: usize, p: usize) -> u8;
+    fn bench_column(z: Sizes, matrix: *mut f64, matrix_length: usize, lists: *mut u8, lists_length: usize, records: *mut TaskRecord, records_length: usize, number: u32, w: usize, p: u16, c: u8) -> u8;
+    fn bench_run(z: Sizes, matrix: *mut f64, matrix_length: usize, lists: *mut u8, lists_length: usize, records: *mut TaskRecord, records_length: usize, number: u32, budget: u64) -> u64;
+    fn bench_outcome(z: Sizes, matrix: *const f64, matrix_length: usize, lists: *const u8, lists_length: usize, records: *const TaskRecord, records_length: usize, number: u32) -> u8;
+    fn bench_solve(z: Sizes, matrix: *const f64, matrix_length: usize, lists: *const u8, lists_length: usize, records: *const TaskRecord, records_length: usize, number: u32, right: *const f64, right_length: usize, answers: *mut f64, answers_length: usize) -> u8;
 }
 
 /// A call's own numbers.
@@ -62,12 +61,8 @@ struct Told {
 fn told(line: &str) -> Told {
     let mut fields = Fields::new(line);
     let command = fields.take(2);
-    let sizes = reference::lent::Sizes {
-        tiles: fields.take(16),
-        side: fields.take(16),
-        workers: fields.take(16),
-        block: fields.take(16),
-    };
+    let sizes =
+        reference::lent::Sizes { tiles: fields.take(16), side: fields.take(16), workers: fields.take(16) };
     let mut told = Told { command, sizes, first: 0, second: 0, right: Vec::new(), answers: Vec::new() };
     if [TAKE, COLUMN, RUN].contains(&command) {
         told.first = fields.take(16);
@@ -168,37 +163,22 @@ fn ours(told: &Told, held: Worker, lent: &mut Lent, records: &mut [TaskRecord], 
         tiles: told.sizes.tiles as usize,
         side: told.sizes.side as usize,
         workers: told.sizes.workers as usize,
-        block: told.sizes.block as usize,
     };
-    let (ml, ll, sl, rl) = (lent.matrix.len(), lent.lists.len(), lent.slice.len(), records.len());
-    let (bl, al) = (told.right.len(), answers.len());
-    let (m, l, s) = (lent.matrix.as_mut_ptr(), lent.lists.as_mut_ptr(), lent.slice.as_mut_ptr());
-    let r = records.as_mut_ptr();
+    let (ml, ll, rl, bl, al) =
+        (lent.matrix.len(), lent.lists.len(), records.len(), told.right.len(), answers.len());
+    let (m, l, r) = (lent.matrix.as_mut_ptr(), lent.lists.as_mut_ptr(), records.as_mut_ptr());
     let (n, w, p) = (lent.run_number, told.first as usize, told.second as usize);
     // SAFETY: as above the functions' declarations.
     unsafe {
         match told.command {
-            OPENING => bench_open(z, m, ml, l, ll, s, sl, r, rl, n) as u64,
-            TAKE => bench_take(z, m, ml, l, ll, s, sl, r, rl, n, w, p) as u64,
-            COLUMN => bench_column(z, m, ml, l, ll, s, sl, r, rl, n, w, held.task, held.column) as u64,
-            RUN => bench_run(z, m, ml, l, ll, s, sl, r, rl, n, told.first),
-            OUTCOME => bench_outcome(z, m, ml, l, ll, s, sl, r, rl, n) as u64,
-            _ => bench_solve(
-                z,
-                m,
-                ml,
-                l,
-                ll,
-                s,
-                sl,
-                r,
-                rl,
-                n,
-                told.right.as_ptr(),
-                bl,
-                answers.as_mut_ptr(),
-                al,
-            ) as u64,
+            OPENING => bench_open(z, m, ml, l, ll, r, rl, n) as u64,
+            TAKE => bench_take(z, m, ml, l, ll, r, rl, n, w, p) as u64,
+            COLUMN => bench_column(z, m, ml, l, ll, r, rl, n, w, held.task, held.column) as u64,
+            RUN => bench_run(z, m, ml, l, ll, r, rl, n, told.first),
+            OUTCOME => bench_outcome(z, m, ml, l, ll, r, rl, n) as u64,
+            _ => {
+                bench_solve(z, m, ml, l, ll, r, rl, n, told.right.as_ptr(), bl, answers.as_mut_ptr(), al) as u64
+            }
         }
     }
 }
@@ -212,7 +192,6 @@ fn same(told: &Told, held: Worker, lent: &Lent) -> u64 {
     assert_eq!(answer, theirs(told, &mut their_left, &mut their_answers), "command {:X}", told.command);
     assert_eq!(bits(&left.matrix), bits(&their_left.matrix), "matrix after {:X}", told.command);
     assert_eq!(left.lists, their_left.lists, "lists after {:X}", told.command);
-    assert_eq!(bits(&left.slice), bits(&their_left.slice), "slice after {:X}", told.command);
     assert_eq!(records, records_of(&their_left), "records after {:X}", told.command);
     assert_eq!(bits(&answers), bits(&their_answers), "answers after {:X}", told.command);
     answer
@@ -223,7 +202,7 @@ fn same_calls_over_structs() {
     let mut met = std::collections::BTreeMap::new();
     for seed in 1..=3 {
         let mut player = Player::new();
-        for line in script(Options { seed, calls: 6800, max_bytes: 3_750_000 }).lines() {
+        for line in script(Options { seed, calls: 5600, max_bytes: 2_900_000 }).lines() {
             if !line.starts_with(&format!("{LEND:X}")) {
                 let mut told = told(line);
                 let held = player.lent.workers.get(told.first as usize).copied().unwrap_or(IDLE);

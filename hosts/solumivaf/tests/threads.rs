@@ -57,8 +57,8 @@ fn any_order_ends_like_the_loops() {
     let mut rng = Rng::new(8);
     for (tiles, side) in [(1, 16), (2, 8), (3, 5), (4, 4), (5, 3), (6, 2), (7, 1), (8, 2)] {
         for family in 0..4 {
-            let shape = Shape::of(tiles, side);
-            let sizes = Sizes { tiles, side, workers: THREADS, block: 1 };
+            let shape = Shape { tiles, side };
+            let sizes = Sizes { tiles, side, workers: THREADS };
             let system = numbers(&mut rng, family, shape.matrix_length());
             let mut lent = Lent::of(sizes, system.clone());
             lent.open(sizes).unwrap();

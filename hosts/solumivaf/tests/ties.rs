@@ -52,9 +52,9 @@ fn as_it_crosses() {
 /// Rows 2 2 and -2 1: in T-1 the second row ties with the first, in T-3 the lower tile with the upper one's diagonal.
 #[test]
 fn one_tie() {
-    let sizes = Sizes { tiles: 1, side: 2, workers: 1, block: 1 };
+    let sizes = Sizes { tiles: 1, side: 2, workers: 1 };
     assert_eq!(sums(&finished(sizes, &[2.0, 2.0, -2.0, 1.0])), [1]);
-    let sizes = Sizes { tiles: 2, side: 1, workers: 1, block: 1 };
+    let sizes = Sizes { tiles: 2, side: 1, workers: 1 };
     assert_eq!(sums(&finished(sizes, &[2.0, 2.0, -2.0, 1.0])), [0, 0, 1, 0, 0]);
 }
 
@@ -74,7 +74,7 @@ fn one_tile() {
         (2, &[1.0, LARGEST, -1.0, LARGEST], 3, 0),
         (3, &[1.0, 0.0, 0.0, -1.0, 1.0, LARGEST, 0.0, -1.0, LARGEST], 3, 1),
     ] {
-        let sizes = Sizes { tiles: 1, side, workers: 1, block: 1 };
+        let sizes = Sizes { tiles: 1, side, workers: 1 };
         let lent = finished(sizes, matrix);
         assert_eq!((marks(&lent), sums(&lent)), (vec![mark], vec![sum]), "{matrix:?}");
     }
@@ -84,7 +84,7 @@ fn one_tile() {
 #[test]
 fn most() {
     let side = 16;
-    let sizes = Sizes { tiles: 2, side, workers: 2, block: 1 };
+    let sizes = Sizes { tiles: 2, side, workers: 2 };
     let mut matrix = vec![0.0; 4 * side * side];
     (0..side).for_each(|r| matrix[r * side + r] = 1.0);
     matrix[2 * side * side..3 * side * side].fill(1.0);
@@ -96,7 +96,7 @@ fn most() {
 /// The tasks that a failed one spoils have no ties, whatever they would meet.
 #[test]
 fn spoiled() {
-    let sizes = Sizes { tiles: 2, side: 2, workers: 1, block: 1 };
+    let sizes = Sizes { tiles: 2, side: 2, workers: 1 };
     let mut matrix = vec![1.0; 16];
     (matrix[1], matrix[2], matrix[3]) = (f64::MAX, -1.0, f64::MAX);
     let lent = finished(sizes, &matrix);
@@ -124,11 +124,11 @@ fn every_order() {
     let (mut tied, mut failed) = (0, 0);
     for (tiles, side) in [(1, 16), (2, 1), (2, 5), (3, 3), (4, 2), (5, 1)].repeat(4) {
         for family in [1, 2, 3, 6, 7] {
-            let shape = Shape::of(tiles, side);
+            let shape = Shape { tiles, side };
             let system = numbers(&mut rng, family, shape.matrix_length());
             let due = old_loops(shape, &system);
             for workers in [1, 3, 32] {
-                let sizes = Sizes { tiles, side, workers, block: 1 };
+                let sizes = Sizes { tiles, side, workers };
                 assert_eq!(sums(&finished(sizes, &system)), due.tie_sums, "{sizes:?}, family {family}");
                 let mut lent = opened(sizes, &system);
                 while let Run::Spent(_) = lent.run(sizes, rng.between(1, 9) as u64).unwrap() {}
@@ -148,7 +148,7 @@ fn every_order() {
 /// A task's sum grows by each column that it completes, and by nothing else.
 #[test]
 fn column_by_column() {
-    let sizes = Sizes { tiles: 1, side: 3, workers: 2, block: 1 };
+    let sizes = Sizes { tiles: 1, side: 3, workers: 2 };
     let mut lent = opened(sizes, &[1.0, 1.0, 0.0, 1.0, -1.0, 0.0, 1.0, 3.0, 0.0]);
     lent.take(sizes, 1, 0).unwrap();
     let mut told = vec![sums(&lent)[0]];
@@ -201,7 +201,7 @@ fn most_is(sizes: Sizes, lent: &Lent, p: usize, most: u16) {
 
 #[test]
 fn waiting_and_done() {
-    let sizes = Sizes { tiles: 2, side: 3, workers: 2, block: 1 };
+    let sizes = Sizes { tiles: 2, side: 3, workers: 2 };
     let matrix: Vec<f64> = (0..36).map(|x| (x * x % 11) as f64).collect();
     let (waiting, done) = (opened(sizes, &matrix), finished(sizes, &matrix));
     assert_eq!(marks(&done), [2; 5]);
@@ -214,7 +214,7 @@ fn waiting_and_done() {
 /// A taken task may have t for each column that is behind it.
 #[test]
 fn taken() {
-    let sizes = Sizes { tiles: 2, side: 3, workers: 3, block: 1 };
+    let sizes = Sizes { tiles: 2, side: 3, workers: 3 };
     let matrix: Vec<f64> = (0..36).map(|x| (x * x % 11) as f64).collect();
     let mut lent = opened(sizes, &matrix);
     for p in [0, 2, 1, 3, 4] {
@@ -230,7 +230,7 @@ fn taken() {
 /// A failed task may have t * t, a spoiled one nothing.
 #[test]
 fn failed_and_spoiled() {
-    let sizes = Sizes { tiles: 2, side: 1, workers: 1, block: 1 };
+    let sizes = Sizes { tiles: 2, side: 1, workers: 1 };
     let lent = finished(sizes, &[1.0, f64::MAX, 1.0, -f64::MAX]);
     assert_eq!((marks(&lent), sums(&lent)), (vec![2, 2, 2, 3, 4], vec![0, 0, 1, 0, 0]));
     most_is(sizes, &lent, 3, 1);

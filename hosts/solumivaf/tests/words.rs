@@ -30,7 +30,6 @@ fn each_refusal() {
         (13, ", line 5"),
         (14, ", line 5"),
         (15, ""),
-        (17, ""),
     ];
     for (number, words) in places {
         assert_eq!(place_words(Refusal { number, place: 5 }), words);
@@ -42,14 +41,14 @@ fn each_refusal() {
 #[test]
 fn words_differ() {
     let mut words = BTreeSet::new();
-    for number in (1..=15).chain([17]) {
+    for number in 1..=15 {
         let refusal = Refusal { number, place: 0 };
         assert!(refusal.advice().ends_with('.') && !refusal.meaning().ends_with('.'), "{number}");
         assert!(words.insert(refusal.meaning()) && words.insert(refusal.advice()), "{number}");
         assert_eq!(Error::from(refusal).to_string(), refusal.to_string());
         assert_eq!(Error::from(refusal).advice(), refusal.advice());
     }
-    for number in [0, 16, 18, 255] {
+    for number in [0, 16, 255] {
         assert_eq!(Refusal { number, place: 0 }.meaning(), "no refusal has this number");
     }
 }
@@ -68,7 +67,7 @@ fn other_errors() {
     let errors: [Box<dyn std::error::Error>; 3] =
         [Box::new(Error::Arithmetic), Box::new(Error::Version(2)), Box::new(Refusal { number: 6, place: 0 })];
     assert!(errors[0].to_string().starts_with("the floating-point mode of this thread is not"));
-    assert_eq!(errors[1].to_string(), "the library linked has version 2 of the interface, not 6");
+    assert_eq!(errors[1].to_string(), "the library linked has version 2 of the interface, not 5");
     assert_eq!(errors[2].to_string(), "refusal 6: no such task");
 }
 
@@ -77,7 +76,7 @@ fn other_errors() {
 fn version() {
     let header = include_str!("../../solumivaf.h");
     assert!(header.contains(&format!("#define SOLUMIVAF_VERSION {}\n", solumivaf::VERSION)));
-    let sizes = Sizes { tiles: 1, side: 1, workers: 1, block: 1 };
+    let sizes = Sizes { tiles: 1, side: 1, workers: 1 };
     assert_eq!(Lent::of(sizes, vec![1.0]).open(sizes), Ok(()));
 }
 
@@ -86,7 +85,7 @@ fn lengths() {
     use solumivaf::{lists_length, matrix_length, records_length, result_length, system_length};
     for tiles in 1..=16 {
         for side in 1..=16 {
-            let shape = reference::tile::Shape::of(tiles, side);
+            let shape = reference::tile::Shape { tiles, side };
             let (matrix, lists) = (vec![1.0; shape.matrix_length()], vec![0; shape.lists_length()]);
             let good = reference::solve::Outcome::Good;
             assert_eq!(matrix_length(tiles, side), matrix.len());
@@ -109,13 +108,13 @@ fn out_of_range() {
         for (tiles, side) in [(wrong, 1), (1, wrong), (wrong, wrong)] {
             assert_eq!((matrix_length(tiles, side), lists_length(tiles, side)), (0, 0));
             assert_eq!((system_length(tiles, side), result_length(tiles, side)), (0, 0));
-            let sizes = Sizes { tiles, side, workers: 1, block: 1 };
+            let sizes = Sizes { tiles, side, workers: 1 };
             assert_eq!(Lent::of(sizes, Vec::new()).open(sizes), one, "{sizes:?}");
         }
         assert_eq!(records_length(wrong), 0);
     }
     for workers in [0, 33, usize::MAX] {
-        let sizes = Sizes { tiles: 1, side: 1, workers, block: 1 };
+        let sizes = Sizes { tiles: 1, side: 1, workers };
         assert_eq!(Lent::of(sizes, vec![1.0]).open(sizes), one, "{sizes:?}");
     }
 }

@@ -26,16 +26,16 @@ mark_after-requires : tie.Need-mark_after-requires
 mark_after-requires c κs = tt
 
 overflow_cast-add_column : tie.Need-overflow_cast-add_column
-overflow_cast-add_column c = omega (arith, c.before.before.before.before.before.before.before.before.before.before.before.before.before.before.before.before.before.before.requires.1)
+overflow_cast-add_column c = omega (arith, c.before.before.before.before.before.before.before.before.before.before.before.before.before.before.requires.1)
 
 ties_after-requires : tie.Need-ties_after-requires
 ties_after-requires c κs = tt
 
 add_column-requires : tie.Need-add_column-requires
 add_column-requires c κs =
-    let a = c.before.before.before.before.before.before.before.before.before.before.before.before.before.before.before.before.before.before.before.args in
-    let d = c.before.before.before.before.before.before.before.before.before.before.before.before.before.before.before.before.before.before.before.requires.0 in
-    let e = few_more a.z a.h a.matrix.now a.lists.now a.slice.now a.records.now d c.before.before.before.before.before.before.before.before.before.work_task.result _ (c.before.before.before.before.before.before.before.before.before.work_task.ensures [] 0) in
+    let a = c.before.before.before.before.before.before.before.before.before.before.before.before.before.before.before.args in
+    let d = c.before.before.before.before.before.before.before.before.before.before.before.before.before.before.before.requires.0 in
+    let e = few_more a.z a.h a.matrix.now a.lists.now a.records.now d c.before.before.before.before.before.before.before.work_task.result _ (c.before.before.before.before.before.before.before.work_task.ensures [] 0) in
     (omega (arith, d.recorded.long, d.recorded.below), omega (arith, e, c.ties_after.ensures))
 
 moved_on-requires : tie.Need-moved_on-requires
@@ -50,16 +50,13 @@ same-length-2 c = search rules
 same-length-3 : tie.Need-same-length-3
 same-length-3 c = search rules
 
-same-length-4 : tie.Need-same-length-4
-same-length-4 c = search rules
-
 returns : tie.Need-returns
 returns c =
-    let a = c.before.before.before.before.before.before.before.before.before.before.before.before.before.before.before.before.before.before.before.before.before.before.args in
+    let a = c.before.before.before.before.before.before.before.before.before.before.before.before.before.before.before.before.before.before.args in
     let m = c.before.before.before.before.before.mark_after.ensures in
     let n = c.before.before.before.ties_after.ensures in record {
-      end = c.before.before.before.before.before.before.before.before.before.before.before.before.work_task.result;
-      ends = c.before.before.before.before.before.before.before.before.before.before.before.before.work_task.ensures;
+      end = c.before.before.before.before.before.before.before.before.before.before.work_task.result;
+      ends = c.before.before.before.before.before.before.before.before.before.before.work_task.ensures;
       records = c.before.before.add_column.ensures.0 ∙ (λ i. changed a.h.task (with_column a.w a.number (m i) (n i)) (records_from a.records.now));
       worker = c.moved_on.ensures ∙ ap (λ (k : ℕ). cond (finished k) idle (holding a.h.task (suc a.h.column))) m;
     }
@@ -79,5 +76,4 @@ advance_spec =
     same-length
     same-length-2
     same-length-3
-    same-length-4
     returns)

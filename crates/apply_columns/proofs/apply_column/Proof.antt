@@ -52,7 +52,7 @@ returns c =
     let r = apply_ready c.before.before.before.before.before.before.before.before.before.before.before.before.before.before.before.requires in
     let e = c.before.before.before.before.before.before.before.before.before.before.before.before.tile_start.ensures in
     let f = c.before.before.before.before.before.before.before.before.before.before.before.tile-start2.ensures in
-    λ sl. apply_ends a.z.tiles a.z.side a.z.block a.k a.j a.c _ _ a.matrix.now a.lists.now sl e c.before.before.before.before.before.before.before.before.before.before.list_start.ensures (rw e r.room) _ f (rw (e, f) r.mult_left) _ _ _
+    apply_ends a.z.tiles a.z.side a.k a.j a.c _ _ a.matrix.now a.lists.now e c.before.before.before.before.before.before.before.before.before.before.list_start.ensures (rw e r.room) _ f (rw (e, f) r.mult_left) _ _ _
     c.before.before.before.before.before.before.before.before.start_block.ensures c.before.before.before.before.apply_rows.ensures _ c.before.if1.true c.column_end.ensures
 
 overflow_mul-fill_numbers : tie.Need-overflow_mul-fill_numbers
@@ -72,7 +72,7 @@ returns-2 c =
     let r = apply_ready c.before.before.before.before.before.before.before.before.before.before.before.before.before.before.before.before.before.before.requires in
     let e = c.before.before.before.before.before.before.before.before.before.before.before.before.before.before.before.tile_start.ensures in
     let f = c.before.before.before.before.before.before.before.before.before.before.before.before.before.before.tile-start2.ensures in
-    λ sl. apply_fails a.z.tiles a.z.side a.z.block a.k a.j a.c _ _ a.matrix.now a.lists.now sl e c.before.before.before.before.before.before.before.before.before.before.before.before.before.list_start.ensures (rw e r.room) _ f (rw (e, f) r.mult_left) _ _ _
+    apply_fails a.z.tiles a.z.side a.k a.j a.c _ _ a.matrix.now a.lists.now e c.before.before.before.before.before.before.before.before.before.before.before.before.before.list_start.ensures (rw e r.room) _ f (rw (e, f) r.mult_left) _ _ _
     c.before.before.before.before.before.before.before.before.before.before.before.start_block.ensures c.before.before.before.before.before.before.before.apply_rows.ensures _ c.before.before.before.before.before.before.before.apply_rows.auto.0 c.before.before.before.before.if1.false c.before.before.fill_numbers.ensures
 
 pub apply_column_spec : {M : Type 1} → statement M

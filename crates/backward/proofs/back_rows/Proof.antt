@@ -6,7 +6,6 @@ use Prim.Native.Nat.{ℕ, suc, ◌+◌, ◌-◌, ◌*◌, ◌≤◌}
 use native.Mathlib.Nat.{mul-le-mul}
 use native.Mathlib.Omega.{arith}
 use lib.ListN.{length}
-use lib.Ieee.{Float}
 use Rattle.model.specs.Plan.{plan_of}
 use Rattle.model.specs.Solve.{going}
 use Rattle.progress.specs.Right.{passed_of}
@@ -18,14 +17,14 @@ use Rattle.backward.proofs.back_rows.Tie as tie
 abbrev invariant_loop : tie.invariant-loop
 invariant_loop z matrix y₀ i₀ y i =
     (i ≤ z.tiles) × (length y ≡ length y₀)
-    × ((lists : List ℕ) (slice : List Float) → back_below (plan_of z) (record { matrix = matrix; lists = lists; slice = slice }) (i * z.side) (going y) ≡ back_below (plan_of z) (record { matrix = matrix; lists = lists; slice = slice }) (z.tiles * z.side) (going y₀))
-    × ((lists : List ℕ) (slice : List Float) → going y ≡ back_between (plan_of z) (record { matrix = matrix; lists = lists; slice = slice }) (i * z.side) (z.tiles * z.side) (going y₀))
+    × ((lists : List ℕ) → back_below (plan_of z) (record { matrix = matrix; lists = lists }) (i * z.side) (going y) ≡ back_below (plan_of z) (record { matrix = matrix; lists = lists }) (z.tiles * z.side) (going y₀))
+    × ((lists : List ℕ) → going y ≡ back_between (plan_of z) (record { matrix = matrix; lists = lists }) (i * z.side) (z.tiles * z.side) (going y₀))
 
 abbrev decreases_loop : tie.decreases-loop
 decreases_loop z matrix y₀ i₀ y i = i
 
 loop-init : tie.Need-loop-init invariant_loop decreases_loop
-loop-init c = (omega arith, refl, λ lists slice. refl, λ lists slice. between_none _ _ _ _)
+loop-init c = (omega arith, refl, λ lists. refl, λ lists. between_none _ _ _ _)
 
 overflow_sub-i : tie.Need-overflow_sub-i invariant_loop decreases_loop
 overflow_sub-i c = search rules
@@ -54,8 +53,8 @@ returns c =
     let stops = c.before.p.given.1 in
     let one : suc (k - 1) ≡ k = omega (arith, c.before.before.before.before.before.before.before.loop-test.true) in
     let e : (k - 1) * a.z.side + a.z.side ≡ k * a.z.side = omega (arith, ap (λ (k : ℕ). k * a.z.side) one) in (
-      λ lists slice. tile_stops _ _ _ _ _ _ (rw e at (t.0 lists slice)) _ stops ∙ i.2 lists slice,
-      λ lists slice. tile_between _ _ _ _ _ _ _ _ (rw (stops, e, lowest_done) at t.1.0) (mul-le-mul i.0 (omega arith)) (i.3 lists slice) (rw (stops, e, lowest_done) at (t.1.1 lists slice)),
+      λ lists. tile_stops _ _ _ _ _ _ (rw e at (t.0 lists)) _ stops ∙ i.2 lists,
+      λ lists. tile_between _ _ _ _ _ _ _ _ (rw (stops, e, lowest_done) at t.1.0) (mul-le-mul i.0 (omega arith)) (i.3 lists) (rw (stops, e, lowest_done) at (t.1.1 lists)),
     )
 
 enum-told : tie.Need-enum-told invariant_loop decreases_loop
@@ -76,8 +75,8 @@ loop-preserved c =
     let e : (k - 1) * a.z.side + a.z.side ≡ k * a.z.side = omega (arith, ap (λ (k : ℕ). k * a.z.side) one) in (
       omega (arith, i.0),
       c.before.before.before.before.back_tile.auto.1.1.0 ∙ i.1,
-      λ lists slice. tile_goes _ _ _ _ _ _ (rw e at (t.0 lists slice)) goes ∙ i.2 lists slice,
-      λ lists slice. tile_between _ _ _ _ _ _ _ _ (rw (goes, e, lowest_done) at t.1.0) (mul-le-mul i.0 (omega arith)) (i.3 lists slice) (rw (goes, e, lowest_done) at (t.1.1 lists slice)),
+      λ lists. tile_goes _ _ _ _ _ _ (rw e at (t.0 lists)) goes ∙ i.2 lists,
+      λ lists. tile_between _ _ _ _ _ _ _ _ (rw (goes, e, lowest_done) at t.1.0) (mul-le-mul i.0 (omega arith)) (i.3 lists) (rw (goes, e, lowest_done) at (t.1.1 lists)),
     )
 
 same-length-2 : tie.Need-same-length-2 invariant_loop decreases_loop
@@ -87,7 +86,7 @@ returns-2 : tie.Need-returns-2 invariant_loop decreases_loop
 unfolding passed_of lowest_done
 returns-2 c =
     let e : c.before.loop.i * c.before.before.before.before.args.z.side ≡ 0 = (let k : c.before.loop.i ≡ 0 = omega (arith, c.loop-test.false) in rw k (omega arith)) in
-    (λ lists slice. sym (back_none _ _ _) ∙ (rw e at (c.before.loop.invariant.2 lists slice)), λ lists slice. rw e at (c.before.loop.invariant.3 lists slice))
+    (λ lists. sym (back_none _ _ _) ∙ (rw e at (c.before.loop.invariant.2 lists)), λ lists. rw e at (c.before.loop.invariant.3 lists))
 
 pub back_rows_spec : {M : Type 1} → statement M
 back_rows_spec =

@@ -5,7 +5,6 @@ use mathlib.Core.List.{List}
 use Prim.Native.Nat.{ℕ, suc, ◌+◌, ◌-◌, ◌*◌, ◌≤◌}
 use native.Mathlib.Omega.{arith}
 use lib.ListN.{length, length-set}
-use lib.Ieee.{Float}
 use Rattle.model.specs.Plan.{plan_of}
 use Rattle.model.specs.Solve.{going}
 use Rattle.progress.specs.Right.{passed_of}
@@ -18,8 +17,8 @@ use Rattle.backward.proofs.back_tile.Tie as tie
 abbrev invariant_loop : tie.invariant-loop
 invariant_loop z matrix y₀ i t r₀ y r =
     (r ≤ t) × (length y ≡ length y₀)
-    × ((lists : List ℕ) (slice : List Float) → back_below (plan_of z) (record { matrix = matrix; lists = lists; slice = slice }) (i * t + r) (going y) ≡ back_below (plan_of z) (record { matrix = matrix; lists = lists; slice = slice }) (i * t + t) (going y₀))
-    × ((lists : List ℕ) (slice : List Float) → going y ≡ back_between (plan_of z) (record { matrix = matrix; lists = lists; slice = slice }) (i * t + r) (i * t + t) (going y₀))
+    × ((lists : List ℕ) → back_below (plan_of z) (record { matrix = matrix; lists = lists }) (i * t + r) (going y) ≡ back_below (plan_of z) (record { matrix = matrix; lists = lists }) (i * t + t) (going y₀))
+    × ((lists : List ℕ) → going y ≡ back_between (plan_of z) (record { matrix = matrix; lists = lists }) (i * t + r) (i * t + t) (going y₀))
 
 abbrev decreases_loop : tie.decreases-loop
 decreases_loop z matrix y₀ i t r₀ y r = r
@@ -29,7 +28,7 @@ here : (c : tie.In-loop invariant_loop decreases_loop) → Placed c.before.befor
 here c = placed c.before.before.before.before.requires.0 c.before.before.before.before.args.i c.before.before.before.before.args.i (c.before.loop.r - 1) c.before.before.before.before.requires.1 c.before.before.before.before.requires.1 (omega (arith, c.before.loop.invariant.0, c.loop-test.true))
 
 loop-init : tie.Need-loop-init invariant_loop decreases_loop
-loop-init c = (omega arith, refl, λ lists slice. refl, λ lists slice. between_none _ _ _ _)
+loop-init c = (omega arith, refl, λ lists. refl, λ lists. between_none _ _ _ _)
 
 overflow_sub-r : tie.Need-overflow_sub-r invariant_loop decreases_loop
 overflow_sub-r c = search rules
@@ -62,10 +61,10 @@ unfolding passed_of lowest_done
 returns c =
     let e : suc (c.before.before.before.before.before.before.before.before.args.i * c.before.before.before.before.before.before.before.before.args.z.side + (c.before.before.before.before.before.loop.r - 1)) ≡ c.before.before.before.before.before.before.before.before.args.i * c.before.before.before.before.before.before.before.before.args.z.side + c.before.before.before.before.before.loop.r = omega (arith, c.before.before.before.before.loop-test.true) in
     let i = c.before.before.before.before.before.loop.invariant in (
-      λ lists slice.
-          let q = back_not_finite _ _ _ _ _ (c.before.before.back_row.ensures lists slice) c.enum_told.given.1 in
-          back_stopped _ _ _ _ ∙ sym q ∙ rw e (i.2 lists slice),
-      (omega (arith, e, i.0), λ lists slice. rw e (i.3 lists slice)),
+      λ lists.
+          let q = back_not_finite _ _ _ _ _ (c.before.before.back_row.ensures lists) c.enum_told.given.1 in
+          back_stopped _ _ _ _ ∙ sym q ∙ rw e (i.2 lists),
+      (omega (arith, e, i.0), λ lists. rw e (i.3 lists)),
     )
 
 overflow_mul-y : tie.Need-overflow_mul-y invariant_loop decreases_loop
@@ -82,8 +81,8 @@ loop-preserved c =
     let e : suc (c.before.before.before.before.before.before.before.before.before.args.i * c.before.before.before.before.before.before.before.before.before.args.z.side + (c.before.before.before.before.before.before.loop.r - 1)) ≡ c.before.before.before.before.before.before.before.before.before.args.i * c.before.before.before.before.before.before.before.before.before.args.z.side + c.before.before.before.before.before.before.loop.r = omega (arith, c.before.before.before.before.before.loop-test.true) in (
       omega (arith, c.before.before.before.before.before.before.loop.invariant.0),
       simp length-set c.before.before.before.before.before.before.loop.invariant.1,
-      λ lists slice. sym (back_number _ _ _ _ _ (c.before.before.before.back_row.ensures lists slice) _ c.before.found.given.1) ∙ rw e (c.before.before.before.before.before.before.loop.invariant.2 lists slice),
-      λ lists slice. between_row _ _ _ _ _ _ _ (c.before.before.before.back_row.ensures lists slice) _ c.before.found.given.1 (omega (arith, e, c.before.before.before.before.before.before.loop.invariant.0)) (rw e (c.before.before.before.before.before.before.loop.invariant.3 lists slice)),
+      λ lists. sym (back_number _ _ _ _ _ (c.before.before.before.back_row.ensures lists) _ c.before.found.given.1) ∙ rw e (c.before.before.before.before.before.before.loop.invariant.2 lists),
+      λ lists. between_row _ _ _ _ _ _ _ (c.before.before.before.back_row.ensures lists) _ c.before.found.given.1 (omega (arith, e, c.before.before.before.before.before.before.loop.invariant.0)) (rw e (c.before.before.before.before.before.before.loop.invariant.3 lists)),
     )
 
 same-length-2 : tie.Need-same-length-2 invariant_loop decreases_loop
@@ -93,7 +92,7 @@ returns-2 : tie.Need-returns-2 invariant_loop decreases_loop
 unfolding passed_of lowest_done
 returns-2 c =
     let e : c.before.before.before.before.args.i * c.before.before.before.before.args.z.side + c.before.loop.r ≡ c.before.before.before.before.args.i * c.before.before.before.before.args.z.side = omega (arith, c.loop-test.false) in
-    (λ lists slice. rw e at (c.before.loop.invariant.2 lists slice), (omega arith, λ lists slice. rw e at (c.before.loop.invariant.3 lists slice)))
+    (λ lists. rw e at (c.before.loop.invariant.2 lists), (omega arith, λ lists. rw e at (c.before.loop.invariant.3 lists)))
 
 pub back_tile_spec : {M : Type 1} → statement M
 back_tile_spec =

@@ -72,24 +72,24 @@ is_finite-requires c κs = search rules
 
 returns : tie.Need-returns
 unfolding quotient
-returns c = λ lists slice.
+returns c = λ lists.
     let a = c.before.before.before.before.before.before.before.before.before.args in
     let p = here c.before.before.before.before.before.before.before in
     let e = c.before.before.before.before.before.before.tile_start.ensures in
     let b = rw e at c.before.before.before.before.subtract.ensures in
-    row_number_lem _ _ _ _ (diagonal_finite a.z a.matrix.now lists slice a.y.now a.i a.r c.before.before.before.before.before.before.before.before.before.requires.1.1 c.before.before.before.before.before.before.before.before.before.requires.1.0 p _ _ b (c.before.before.before.subtract_tiles.ensures lists slice) c.before.before.before.before.before.before.before.before.before.requires.0.all_finite_lem) _
-    (rw e (value_is a.z a.matrix.now lists slice a.y.now a.i a.r c.before.before.before.before.before.before.before.before.before.requires.1.1 c.before.before.before.before.before.before.before.before.before.requires.1.0 p _ _ b (c.before.before.before.subtract_tiles.ensures lists slice)))
+    row_number_lem _ _ _ _ (diagonal_finite a.z a.matrix.now lists a.y.now a.i a.r c.before.before.before.before.before.before.before.before.before.requires.1.1 c.before.before.before.before.before.before.before.before.before.requires.1.0 p _ _ b (c.before.before.before.subtract_tiles.ensures lists) c.before.before.before.before.before.before.before.before.before.requires.0.all_finite_lem) _
+    (rw e (value_is a.z a.matrix.now lists a.y.now a.i a.r c.before.before.before.before.before.before.before.before.before.requires.1.1 c.before.before.before.before.before.before.before.before.before.requires.1.0 p _ _ b (c.before.before.before.subtract_tiles.ensures lists)))
     (sym c.before.is_finite.ensures ∙ c.if1.true)
 
 returns-2 : tie.Need-returns-2
 unfolding quotient
-returns-2 c = λ lists slice.
+returns-2 c = λ lists.
     let a = c.before.before.before.before.before.before.before.before.before.args in
     let p = here c.before.before.before.before.before.before.before in
     let e = c.before.before.before.before.before.before.tile_start.ensures in
     let b = rw e at c.before.before.before.before.subtract.ensures in
-    row_not_finite _ _ _ _ (diagonal_finite a.z a.matrix.now lists slice a.y.now a.i a.r c.before.before.before.before.before.before.before.before.before.requires.1.1 c.before.before.before.before.before.before.before.before.before.requires.1.0 p _ _ b (c.before.before.before.subtract_tiles.ensures lists slice) c.before.before.before.before.before.before.before.before.before.requires.0.all_finite_lem) _
-    (rw e (value_is a.z a.matrix.now lists slice a.y.now a.i a.r c.before.before.before.before.before.before.before.before.before.requires.1.1 c.before.before.before.before.before.before.before.before.before.requires.1.0 p _ _ b (c.before.before.before.subtract_tiles.ensures lists slice)))
+    row_not_finite _ _ _ _ (diagonal_finite a.z a.matrix.now lists a.y.now a.i a.r c.before.before.before.before.before.before.before.before.before.requires.1.1 c.before.before.before.before.before.before.before.before.before.requires.1.0 p _ _ b (c.before.before.before.subtract_tiles.ensures lists) c.before.before.before.before.before.before.before.before.before.requires.0.all_finite_lem) _
+    (rw e (value_is a.z a.matrix.now lists a.y.now a.i a.r c.before.before.before.before.before.before.before.before.before.requires.1.1 c.before.before.before.before.before.before.before.before.before.requires.1.0 p _ _ b (c.before.before.before.subtract_tiles.ensures lists)))
     (sym c.before.is_finite.ensures ∙ c.if1.false)
 
 pub back_row_spec : {M : Type 1} → statement M

@@ -1,7 +1,6 @@
 -- `bench_apply_column` meets its contract: it hands on the column's. Assumes nothing.
 use Rattle.bench_host.proofs.Laws.{ends}
 use borrow.Author.Rules.{rules}
-use mathlib.Core.List.{[]}
 use Rattle.bench_host.proofs.bench_apply_column.Statement.{statement}
 use Rattle.bench_host.proofs.bench_apply_column.Tie as tie
 
@@ -15,7 +14,7 @@ same-length : tie.Need-same-length
 same-length c = search rules
 
 returns : tie.Need-returns
-returns c = ends _ _ c.before.before.before.apply_column.result _ c.told.ensures (c.before.before.before.apply_column.ensures [])
+returns c = ends _ _ c.before.before.before.apply_column.result _ c.told.ensures c.before.before.before.apply_column.ensures
 
 pub bench_apply_column_spec : {M : Type 1} → statement M
 bench_apply_column_spec =

@@ -1,12 +1,11 @@
 -- `bench_couple_column` meets its contract: it hands on the column's. Assumes nothing.
 use Rattle.bench_host.proofs.Laws.{ends}
 use borrow.Author.Rules.{rules}
-use mathlib.Core.List.{[]}
 use Rattle.bench_host.proofs.bench_couple_column.Statement.{statement}
 use Rattle.bench_host.proofs.bench_couple_column.Tie as tie
 
-couple_single-requires : tie.Need-couple_single-requires
-couple_single-requires c κs = search rules
+couple_column-requires : tie.Need-couple_column-requires
+couple_column-requires c κs = search rules
 
 told-requires : tie.Need-told-requires
 told-requires c κs = search rules
@@ -18,9 +17,9 @@ same-length-2 : tie.Need-same-length-2
 same-length-2 c = search rules
 
 returns : tie.Need-returns
-returns c = ends _ _ c.before.before.before.before.before.couple_single.result _ c.told.ensures (c.before.before.before.before.before.couple_single.ensures [])
+returns c = ends _ _ c.before.before.before.before.before.couple_column.result _ c.told.ensures c.before.before.before.before.before.couple_column.ensures
 
 pub bench_couple_column_spec : {M : Type 1} → statement M
 bench_couple_column_spec =
     tie.close
-    (tie.spec couple_single-requires told-requires same-length same-length-2 returns)
+    (tie.spec couple_column-requires told-requires same-length same-length-2 returns)

@@ -1,7 +1,6 @@
 -- `bench_factor_column` meets its contract: it hands on the column's. Assumes nothing.
 use Rattle.bench_host.proofs.Laws.{ends}
 use borrow.Author.Rules.{rules}
-use mathlib.Core.List.{[]}
 use Rattle.bench_host.proofs.bench_factor_column.Statement.{statement}
 use Rattle.bench_host.proofs.bench_factor_column.Tie as tie
 
@@ -18,7 +17,7 @@ same-length-2 : tie.Need-same-length-2
 same-length-2 c = search rules
 
 returns : tie.Need-returns
-returns c = ends _ _ c.before.before.before.before.before.factor_column.result _ c.told.ensures (c.before.before.before.before.before.factor_column.ensures [])
+returns c = ends _ _ c.before.before.before.before.before.factor_column.result _ c.told.ensures c.before.before.before.before.before.factor_column.ensures
 
 pub bench_factor_column_spec : {M : Type 1} → statement M
 bench_factor_column_spec =

@@ -1,12 +1,11 @@
 -- `bench_pair_column` meets its contract: it hands on the column's. Assumes nothing.
 use Rattle.bench_host.proofs.Laws.{ends}
 use borrow.Author.Rules.{rules}
-use mathlib.Core.List.{[]}
 use Rattle.bench_host.proofs.bench_pair_column.Statement.{statement}
 use Rattle.bench_host.proofs.bench_pair_column.Tie as tie
 
-pair_single-requires : tie.Need-pair_single-requires
-pair_single-requires c κs = search rules
+pair_column-requires : tie.Need-pair_column-requires
+pair_column-requires c κs = search rules
 
 told-requires : tie.Need-told-requires
 told-requires c κs = search rules
@@ -15,8 +14,8 @@ same-length : tie.Need-same-length
 same-length c = search rules
 
 returns : tie.Need-returns
-returns c = ends _ _ c.before.before.before.pair_single.result _ c.told.ensures (c.before.before.before.pair_single.ensures [])
+returns c = ends _ _ c.before.before.before.pair_column.result _ c.told.ensures c.before.before.before.pair_column.ensures
 
 pub bench_pair_column_spec : {M : Type 1} → statement M
 bench_pair_column_spec =
-    tie.close (tie.spec pair_single-requires told-requires same-length returns)
+    tie.close (tie.spec pair_column-requires told-requires same-length returns)

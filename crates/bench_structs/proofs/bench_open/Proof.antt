@@ -75,7 +75,7 @@ use Rattle.bench_structs.proofs.bench_open.Statement as stated
 use Rattle.bench_structs.proofs.bench_open.Code as code
 
 abbrev stayed : Stays (f.ended).signature.params (f.ended).kept
-stayed = (stay_dropped (plain (λ _. Sz.the_row)) yes, (stay_dropped (shr_slice_of (0 ∷ []) tt (plain (λ _. f64))) yes, (gave_slice (1 ∷ []) tt (plain (λ _. u8)), (gave_slice (2 ∷ []) tt (plain (λ _. f64)), (gave_slice (3 ∷ []) tt (plain (λ _. T.the_row)), (stay_dropped (plain (λ _. u32)) yes, tt))))))
+stayed = (stay_dropped (plain (λ _. Sz.the_row)) yes, (stay_dropped (shr_slice_of (0 ∷ []) tt (plain (λ _. f64))) yes, (gave_slice (1 ∷ []) tt (plain (λ _. u8)), (gave_slice (2 ∷ []) tt (plain (λ _. T.the_row)), (stay_dropped (plain (λ _. u32)) yes, tt)))))
 
 module _ {M : Type 1} {𝓤 : Ura M} (𝓛 : Logic 𝓤) (mem : Memory → SProp 𝓤) (run : Routine → Fun 𝓤) where
   -- the contracts that the proof cites
@@ -88,17 +88,16 @@ module _ {M : Type 1} {𝓤 : Ura M} (𝓛 : Logic 𝓤) (mem : Memory → SProp
   abbrev Tell : Contract 𝓤
   Tell = triple_of 𝓛 tl.signature (tl.spec 𝓛 mem run)
 
-module _ {M : Type 1} {𝓤 : Ura M} (𝓛 : Logic 𝓤) (mem : Memory → SProp 𝓤) (run : Routine → Fun 𝓤) (κ₁ κ₂ κ₇ κ₃ : Lft) (q₁ q₂ q₇ q₃ : Share)
-    (z : Sizes) (z_is : Is Sz.the_row z (LL.vals Sz.the_type Sz'.the_laws z))
+module _ {M : Type 1} {𝓤 : Ura M} (𝓛 : Logic 𝓤) (mem : Memory → SProp 𝓤) (run : Routine → Fun 𝓤) (κ₁ κ₂ κ₃ : Lft) (q₁ q₂ q₃ : Share)
+    (z : Sizes) (z-is : Is Sz.the_row z (LL.vals Sz.the_type Sz'.the_laws z))
     (b₁ o₁ : ℕ) (γ₁ : GName) (ms : List Float) (room₁ : Room f64 (length ms))
     (b₂ o₂ : ℕ) (γ₂ : GName) (ls : List ℕ) (room₂ : Room u8 (length ls))
-    (b₇ o₇ : ℕ) (γ₇ : GName) (ss : List Float) (room₇ : Room f64 (length ss))
     (b₃ o₃ : ℕ) (γ₃ : GName) (ys : List TaskRecord) (room₃ : Room T.the_row (length ys))
     (number : ℕ) (number_fits : number < 2 ^ 32) where
   open 𝓛 use {H, A}
 
   abbrev Arg : Type 0
-  Arg = Sizes × (MutBor (List Float) × (MutBor (List ℕ) × (MutBor (List Float) × (MutBor (List TaskRecord) × (ℕ × Unit {0})))))
+  Arg = Sizes × (MutBor (List Float) × (MutBor (List ℕ) × (MutBor (List TaskRecord) × (ℕ × Unit {0}))))
 
   abbrev m : Bor (List Float)
   m = record { ref_ptr = (b₁, o₁); ghost_name = γ₁; now = ms }
@@ -106,14 +105,11 @@ module _ {M : Type 1} {𝓤 : Ura M} (𝓛 : Logic 𝓤) (mem : Memory → SProp
   abbrev ll : Bor (List ℕ)
   ll = record { ref_ptr = (b₂, o₂); ghost_name = γ₂; now = ls }
 
-  abbrev sr : Bor (List Float)
-  sr = record { ref_ptr = (b₇, o₇); ghost_name = γ₇; now = ss }
-
   abbrev rs : Bor (List TaskRecord)
   rs = record { ref_ptr = (b₃, o₃); ghost_name = γ₃; now = ys }
 
   abbrev a : Arg
-  a = (z, (m, (ll, (sr, (rs, (number, tt))))))
+  a = (z, (m, (ll, (rs, (number, tt)))))
 
   abbrev s₁ : Val
   s₁ = slice_val (b₁, o₁) (length ms)
@@ -121,17 +117,14 @@ module _ {M : Type 1} {𝓤 : Ura M} (𝓛 : Logic 𝓤) (mem : Memory → SProp
   abbrev s₂ : Val
   s₂ = slice_val (b₂, o₂) (length ls)
 
-  abbrev s₇ : Val
-  s₇ = slice_val (b₇, o₇) (length ss)
-
   abbrev s₃ : Val
   s₃ = slice_val (b₃, o₃) (length ys)
 
   abbrev zv : Val
   zv = LL.val Sz.the_type Sz'.the_laws z
 
-  abbrev vs : List Val × (List Val × (List Val × (List Val × (List Val × (List Val × Unit {0})))))
-  vs = (LL.vals Sz.the_type Sz'.the_laws z, (s₁ ∷ [], (s₂ ∷ [], (s₇ ∷ [], (s₃ ∷ [], (vint w32 number ∷ [], tt))))))
+  abbrev vs : List Val × (List Val × (List Val × (List Val × (List Val × Unit {0}))))
+  vs = (LL.vals Sz.the_type Sz'.the_laws z, (s₁ ∷ [], (s₂ ∷ [], (s₃ ∷ [], (vint w32 number ∷ [], tt)))))
 
   abbrev Mat : Fml
   Mat = (ShrSlice (named 0) κ₁ f64).own_val m (s₁ ∷ [])
@@ -139,46 +132,43 @@ module _ {M : Type 1} {𝓤 : Ura M} (𝓛 : Logic 𝓤) (mem : Memory → SProp
   abbrev Lis : Fml
   Lis = (MutSlice (named 1) κ₂ u8).own_val ll (s₂ ∷ [])
 
-  abbrev Sli : Fml
-  Sli = (MutSlice (named 2) κ₇ f64).own_val sr (s₇ ∷ [])
-
   abbrev Rec : Fml
-  Rec = (MutSlice (named 3) κ₃ T.the_row).own_val rs (s₃ ∷ [])
+  Rec = (MutSlice (named 2) κ₃ T.the_row).own_val rs (s₃ ∷ [])
 
   abbrev Post : Val → SProp 𝓤
-  Post = (walk_of 𝓛 f.ended stayed (f.clauses 𝓛 mem run)).post (((κ₁, (κ₂, (κ₇, (κ₃, tt)))), (q₁, (q₂, (q₇, (q₃, tt)))), tt, a, vs), tt)
+  Post = (walk_of 𝓛 f.ended stayed (f.clauses 𝓛 mem run)).post (((κ₁, (κ₂, (κ₃, tt))), (q₁, (q₂, (q₃, tt))), tt, a, vs), tt)
 
-  exits : (r : ℕ) (v : Val) (ls' : List ℕ) (ss' : List Float) (zs : List TaskRecord) → ((r ≡ answer_number (open_call z (whole ms ls ss ys (idles z.workers number))).answer) × (◌≡◌ {A = Buffers} (record { matrix = ms; lists = ls'; slice = ss' }) (open_call z (whole ms ls ss ys (idles z.workers number))).left.buffers) × (zs ≡ (open_call z (whole ms ls ss ys (idles z.workers number))).left.records)) → length ls' ≡ length ls → length ss' ≡ length ss → length zs ≡ length ys
-      → ent 𝓤 (⋆ 𝓛 (‵ (flft κ₁ q₁) ∷ ‵ (flft κ₂ q₂) ∷ ‵ (flft κ₇ q₇) ∷ ‵ (flft κ₃ q₃) ∷ ‵ (finally u8 γ₂ ls') ∷ ‵ (finally f64 γ₇ ss') ∷ ‵ (finally T.the_row γ₃ zs) ∷ ‵ (u8.own_val r (v ∷ [])) ∷ [])) (Post v)
-  exits r v ls' ss' zs e len₂ len₇ len₃ =
-      qed 𝓛 (‵ (flft κ₁ q₁) ∷ ‵ (flft κ₂ q₂) ∷ ‵ (flft κ₇ q₇) ∷ ‵ (flft κ₃ q₃) ∷ ‵ (finally u8 γ₂ ls') ∷ ‵ (finally f64 γ₇ ss') ∷ ‵ (finally T.the_row γ₃ zs) ∷ ‵ (u8.own_val r (v ∷ [])) ∷ []) ∵
-      suffices ! _ (ends_at 𝓛 f.ended stayed (f.clauses 𝓛 mem run) (((κ₁, (κ₂, (κ₇, (κ₃, tt)))), (q₁, (q₂, (q₇, (q₃, tt)))), tt, a, vs), tt) v r (tt, (tt, (ls', (ss', (zs, (tt, tt)))))) (tt, (tt, (len₂, (len₇, (len₃, (tt, tt))))))) $ says ! e $
-      nothing ! $ move ! (4 ∷ 0 ∷ []) $ join ! $ move ! (3 ∷ 0 ∷ []) $ join ! $ move ! (2 ∷ 0 ∷ []) $ join ! $ move ! (1 ∷ 0 ∷ []) $ join ! $ frame ! $
-      nothing ! $ nothing ! $ fjoin ! $ move ! (3 ∷ 0 ∷ []) $ fjoin ! $ move ! (2 ∷ 0 ∷ []) $ fjoin ! $ move ! (1 ∷ 0 ∷ []) $ fjoin ! $ nothing ! $ fjoin ! $ nothing ! $ fjoin ! $ frame ! $ done !
+  exits : (r : ℕ) (v : Val) (ls' : List ℕ) (zs : List TaskRecord) → ((r ≡ answer_number (open_call z (whole ms ls ys (idles z.workers number))).answer) × (◌≡◌ {A = Buffers} (record { matrix = ms; lists = ls' }) (open_call z (whole ms ls ys (idles z.workers number))).left.buffers) × (zs ≡ (open_call z (whole ms ls ys (idles z.workers number))).left.records)) → length ls' ≡ length ls → length zs ≡ length ys
+      → ent 𝓤 (⋆ 𝓛 (‵ (flft κ₁ q₁) ∷ ‵ (flft κ₂ q₂) ∷ ‵ (flft κ₃ q₃) ∷ ‵ (finally u8 γ₂ ls') ∷ ‵ (finally T.the_row γ₃ zs) ∷ ‵ (u8.own_val r (v ∷ [])) ∷ [])) (Post v)
+  exits r v ls' zs e len₂ len₃ =
+      qed 𝓛 (‵ (flft κ₁ q₁) ∷ ‵ (flft κ₂ q₂) ∷ ‵ (flft κ₃ q₃) ∷ ‵ (finally u8 γ₂ ls') ∷ ‵ (finally T.the_row γ₃ zs) ∷ ‵ (u8.own_val r (v ∷ [])) ∷ []) ∵
+      suffices ! _ (ends_at 𝓛 f.ended stayed (f.clauses 𝓛 mem run) (((κ₁, (κ₂, (κ₃, tt))), (q₁, (q₂, (q₃, tt))), tt, a, vs), tt) v r (tt, (tt, (ls', (zs, (tt, tt))))) (tt, (tt, (len₂, (len₃, (tt, tt)))))) $ says ! e $
+      nothing ! $ move ! (3 ∷ 0 ∷ []) $ join ! $ move ! (2 ∷ 0 ∷ []) $ join ! $ move ! (1 ∷ 0 ∷ []) $ join ! $ frame ! $
+      nothing ! $ nothing ! $ fjoin ! $ move ! (2 ∷ 0 ∷ []) $ fjoin ! $ move ! (1 ∷ 0 ∷ []) $ fjoin ! $ nothing ! $ fjoin ! $ nothing ! $ fjoin ! $ frame ! $ done !
 
   -- `idle_workers`
   abbrev to_mk : (Make 𝓛 mem run).Ghost
   to_mk = ((tt, tt, tt, (z, (number, tt)), (LL.vals Sz.the_type Sz'.the_laws z, (vint w32 number ∷ [], tt))), tt)
 
   goes_mk : ent 𝓤 (sem 𝓛 ftrue) ((Make 𝓛 mem run).pre to_mk)
-  goes_mk = unasked 𝓤 (qed 𝓛 (‵ ftrue ∷ []) ∵ frame ! $ nothing ! $ owned ! u32 (Is u32) (uint_Makes 𝓛 w32) number _ (refl, number_fits) $ fjoin ! $ owned ! Sz.the_row (Is Sz.the_row) (LL.makes Sz.the_type Sz'.the_plain 𝓛) z _ z_is $ fjoin ! $ done !)
+  goes_mk = unasked 𝓤 (qed 𝓛 (‵ ftrue ∷ []) ∵ frame ! $ nothing ! $ owned ! u32 (Is u32) (uint_Makes 𝓛 w32) number _ (refl, number_fits) $ fjoin ! $ owned ! Sz.the_row (Is Sz.the_row) (LL.makes Sz.the_type Sz'.the_plain 𝓛) z _ z-is $ fjoin ! $ done !)
 
   said_mk : (t : Workers) → ent 𝓤 (ensured 𝓛 mk.ended (mk.clauses 𝓛 mem run) tt (z, (number, tt)) tt t) (fact 𝓤 (t ≡ idles z.workers number))
   said_mk t = ex_e 𝓤 _ (λ ws. snd∗ 𝓤 (sem 𝓛 (lasts mk.ended tt (z, (number, tt)) ws)) (fact 𝓤 (t ≡ idles z.workers number)))
 
   -- `open_call::open`
   abbrev to_co : Workers → Val → (Core 𝓛 mem run).Ghost
-  to_co t v = (((κ₁, (κ₂, (κ₇, (κ₃, tt)))), (q₁, (q₂, (q₇, (q₃, tt)))), tt, (z, (m, (ll, (sr, (rs, (t, tt)))))), (LL.vals Sz.the_type Sz'.the_laws z, (s₁ ∷ [], (s₂ ∷ [], (s₇ ∷ [], (s₃ ∷ [], (v ∷ [], tt))))))), tt)
+  to_co t v = (((κ₁, (κ₂, (κ₃, tt))), (q₁, (q₂, (q₃, tt))), tt, (z, (m, (ll, (rs, (t, tt))))), (LL.vals Sz.the_type Sz'.the_laws z, (s₁ ∷ [], (s₂ ∷ [], (s₃ ∷ [], (v ∷ [], tt)))))), tt)
 
-  goes_co : (t : Workers) (v : Val) → ent 𝓤 (sep 𝓤 (sep 𝓤 (A.lft κ₁ q₁) (sep 𝓤 (A.lft κ₂ q₂) (sep 𝓤 (A.lft κ₇ q₇) (A.lft κ₃ q₃)))) (sep 𝓤 (sep 𝓤 (sem 𝓛 Mat) (sep 𝓤 (sem 𝓛 Lis) (sep 𝓤 (sem 𝓛 Sli) (sem 𝓛 Rec)))) (sem 𝓛 ((Wk.the_row).own_val t (v ∷ []))))) ((Core 𝓛 mem run).pre (to_co t v))
+  goes_co : (t : Workers) (v : Val) → ent 𝓤 (sep 𝓤 (sep 𝓤 (A.lft κ₁ q₁) (sep 𝓤 (A.lft κ₂ q₂) (A.lft κ₃ q₃))) (sep 𝓤 (sep 𝓤 (sem 𝓛 Mat) (sep 𝓤 (sem 𝓛 Lis) (sem 𝓛 Rec))) (sem 𝓛 ((Wk.the_row).own_val t (v ∷ []))))) ((Core 𝓛 mem run).pre (to_co t v))
   goes_co t v =
-      unasked 𝓤 (qed 𝓛 ((‵ (flft κ₁ q₁) ⊛ ‵ (flft κ₂ q₂) ⊛ ‵ (flft κ₇ q₇) ⊛ ‵ (flft κ₃ q₃)) ∷ (‵ Mat ⊛ ‵ Lis ⊛ ‵ Sli ⊛ ‵ Rec) ∷ ‵ ((Wk.the_row).own_val t (v ∷ [])) ∷ []) ∵ split3 ! $ move ! (2 ∷ []) $ split ! $
-      nothing ! $ move ! (2 ∷ 0 ∷ []) $ join ! $ move ! (1 ∷ 0 ∷ []) $ join ! $ move ! (2 ∷ 0 ∷ []) $ join ! $ move ! (1 ∷ 0 ∷ []) $ join ! $ frame ! $ split3 ! $ move ! (2 ∷ []) $ split ! $
-      nothing ! $ move ! (5 ∷ 0 ∷ []) $ fjoin ! $ move ! (2 ∷ 0 ∷ []) $ fjoin ! $ move ! (1 ∷ 0 ∷ []) $ fjoin ! $ move ! (2 ∷ 0 ∷ []) $ fjoin ! $ move ! (1 ∷ 0 ∷ []) $ fjoin ! $
-      owned ! Sz.the_row (Is Sz.the_row) (LL.makes Sz.the_type Sz'.the_plain 𝓛) z _ z_is $ fjoin ! $ done !)
+      unasked 𝓤 (qed 𝓛 ((‵ (flft κ₁ q₁) ⊛ ‵ (flft κ₂ q₂) ⊛ ‵ (flft κ₃ q₃)) ∷ (‵ Mat ⊛ ‵ Lis ⊛ ‵ Rec) ∷ ‵ ((Wk.the_row).own_val t (v ∷ [])) ∷ []) ∵ split3 ! $
+      nothing ! $ move ! (3 ∷ 0 ∷ []) $ join ! $ move ! (2 ∷ 0 ∷ []) $ join ! $ move ! (1 ∷ 0 ∷ []) $ join ! $ frame ! $ split3 ! $
+      nothing ! $ move ! (4 ∷ 0 ∷ []) $ fjoin ! $ move ! (3 ∷ 0 ∷ []) $ fjoin ! $ move ! (2 ∷ 0 ∷ []) $ fjoin ! $ move ! (1 ∷ 0 ∷ []) $ fjoin ! $
+      owned ! Sz.the_row (Is Sz.the_row) (LL.makes Sz.the_type Sz'.the_plain 𝓛) z _ z-is $ fjoin ! $ done !)
 
-  abbrev Told : (t : Workers) (r : CallReply) (ls' : List ℕ) (ss' : List Float) (zs : List TaskRecord) → Type 0
-  Told t r ls' ss' zs = (record { answer = r.answer; left = whole ms ls' ss' zs r.workers } ≡ open_call z (whole ms ls ss ys t)) × OthersKept t r.workers
+  abbrev Told : (t : Workers) (r : CallReply) (ls' : List ℕ) (zs : List TaskRecord) → Type 0
+  Told t r ls' zs = (record { answer = r.answer; left = whole ms ls' zs r.workers } ≡ open_call z (whole ms ls ys t)) × OthersKept t r.workers
 
   -- `number_in`
   abbrev to_tl : CallReply → Val → (Tell 𝓛 mem run).Ghost
@@ -191,48 +181,46 @@ module _ {M : Type 1} {𝓤 : Ura M} (𝓛 : Logic 𝓤) (mem : Memory → SProp
   said_tl r t = ex_e 𝓤 _ (λ ws. snd∗ 𝓤 (sem 𝓛 (lasts tl.ended tt (r, tt) ws)) (fact 𝓤 (t ≡ answer_number r.answer)))
 
   module _ (C : Calls 𝓤 H) (Λ : Loops 𝓤 H) (fm : FmC 𝓤 H 𝓛.laws C) (known-mk : Triple 𝓤 (C #mk) (Make 𝓛 mem run)) (known-co : Triple 𝓤 (C #co) (Core 𝓛 mem run)) (known-tl : Triple 𝓤 (C #tl) (Tell 𝓛 mem run)) where
-    walk : ent 𝓤 (on_entry 𝓛 f.signature (κ₁, (κ₂, (κ₇, (κ₃, tt)))) (q₁, (q₂, (q₇, (q₃, tt)))) a vs) (WpFn 𝓤 H C Λ code.function (zv ∷ s₁ ∷ s₂ ∷ s₇ ∷ s₃ ∷ vint w32 number ∷ []) Post)
+    walk : ent 𝓤 (on_entry 𝓛 f.signature (κ₁, (κ₂, (κ₃, tt))) (q₁, (q₂, (q₃, tt))) a vs) (WpFn 𝓤 H C Λ code.function (zv ∷ s₁ ∷ s₂ ∷ s₃ ∷ vint w32 number ∷ []) Post)
     walk =
-        qed 𝓛 ((‵ (flft κ₁ q₁) ⊛ ‵ (flft κ₂ q₂) ⊛ ‵ (flft κ₇ q₇) ⊛ ‵ (flft κ₃ q₃) ⊛ ‵ ftrue) ∷ ‵ (owns (Sz.the_row ∷ ShrSlice (named 0) κ₁ f64 ∷ MutSlice (named 1) κ₂ u8 ∷ MutSlice (named 2) κ₇ f64 ∷ MutSlice (named 3) κ₃ T.the_row ∷ u32 ∷ []) a vs) ∷ []) ∵ enter ! C Λ code.function (zv ∷ s₁ ∷ s₂ ∷ s₇ ∷ s₃ ∷ vint w32 number ∷ []) _ $
-        alloc1 ! (λ l₀. alloc1 ! (λ l₁. alloc1 ! (λ l₂. alloc1 ! (λ l₃. alloc1 ! (λ l₄. alloc1 ! (λ l₅. alloc1 ! (λ l₆. alloc1 ! (λ l₇. alloc1 ! (λ l₈. alloc1 ! (λ l₉. alloc1 ! (λ l₁₀. alloc1 ! (λ l₁₁. alloc1 ! (λ l₁₂. alloc1 ! (λ l₁₃. alloc1 ! (λ l₁₄. alloc0 ! $ params1 ! $
-        pass1 ! (init ! 26 refl ((LL.lawful Sz.the_type Sz'.the_laws 𝓛).typed z _ z_is).0) $ pass1 ! (init ! 24 refl (tt, (tt, (record { fits = room₁.0 }, tt)))) $ pass1 ! (init ! 22 refl (tt, (tt, (record { fits = room₂.0 }, tt)))) $ pass1 ! (init ! 20 refl (tt, (tt, (record { fits = room₇.0 }, tt)))) $ pass1 ! (init ! 18 refl (tt, (tt, (record { fits = room₃.0 }, tt)))) $ pass1 ! (init ! 16 refl (tt, record { fits = number_fits })) $ pass0 ! $
+        qed 𝓛 ((‵ (flft κ₁ q₁) ⊛ ‵ (flft κ₂ q₂) ⊛ ‵ (flft κ₃ q₃) ⊛ ‵ ftrue) ∷ ‵ (owns (Sz.the_row ∷ ShrSlice (named 0) κ₁ f64 ∷ MutSlice (named 1) κ₂ u8 ∷ MutSlice (named 2) κ₃ T.the_row ∷ u32 ∷ []) a vs) ∷ []) ∵ enter ! C Λ code.function (zv ∷ s₁ ∷ s₂ ∷ s₃ ∷ vint w32 number ∷ []) _ $
+        alloc1 ! (λ l₀. alloc1 ! (λ l₁. alloc1 ! (λ l₂. alloc1 ! (λ l₃. alloc1 ! (λ l₄. alloc1 ! (λ l₅. alloc1 ! (λ l₆. alloc1 ! (λ l₇. alloc1 ! (λ l₈. alloc1 ! (λ l₉. alloc1 ! (λ l₁₀. alloc1 ! (λ l₁₁. alloc0 ! $ params1 ! $
+        pass1 ! (init ! 20 refl ((LL.lawful Sz.the_type Sz'.the_laws 𝓛).typed z _ z-is).0) $ pass1 ! (init ! 18 refl (tt, (tt, (record { fits = room₁.0 }, tt)))) $ pass1 ! (init ! 16 refl (tt, (tt, (record { fits = room₂.0 }, tt)))) $ pass1 ! (init ! 14 refl (tt, (tt, (record { fits = room₃.0 }, tt)))) $ pass1 ! (init ! 12 refl (tt, record { fits = number_fits })) $ pass0 ! $
         -- the tokens and the borrows to the front; then the locals, the last first, each with what says that it dies
-        move ! (31 ∷ []) $ fsplit ! $ move ! (1 ∷ []) $ fsplit ! $ move ! (1 ∷ []) $ fsplit ! $ move ! (1 ∷ []) $ fsplit ! $ move ! (1 ∷ []) $ fsplit ! $ move ! (36 ∷ []) $ split ! $ move ! (1 ∷ []) $ split ! $ move ! (1 ∷ []) $ split ! $ move ! (1 ∷ []) $ split ! $ keep ! (4 ∷ 3 ∷ 2 ∷ 0 ∷ 9 ∷ 8 ∷ 7 ∷ 5 ∷ 11 ∷ 12 ∷ 13 ∷ 14 ∷ 15 ∷ 16 ∷ 17 ∷ 18 ∷ 19 ∷ 20 ∷ 21 ∷ 22 ∷ 23 ∷ 24 ∷ 25 ∷ 26 ∷ 27 ∷ 28 ∷ 29 ∷ 30 ∷ 31 ∷ 32 ∷ 33 ∷ 34 ∷ 35 ∷ 36 ∷ 37 ∷ 38 ∷ 39 ∷ 40 ∷ []) $
-        assigns ! (addr ! (from ! (fld ! refl (hop ! (look_in ! 30 (sub ! 0 refl (all_of !))) (stop !))))) (from ! (stop !)) (init ! 20 refl (tt, tt)) $
-        assigns ! (agg ! (and_then ! (load ! (from ! (stop !)) (look ! 20 refl)) (and_then ! (load ! (from ! (fld ! refl (stop !))) (look_in ! 30 (sub ! 1 refl (all_of !)))) (no_more !)))) (from ! (stop !)) (init ! 18 refl (tt, (tt, (record { fits = room₂.0 }, tt)))) $
-        assigns ! (addr ! (from ! (fld ! refl (hop ! (look_in ! 28 (sub ! 0 refl (all_of !))) (stop !))))) (from ! (stop !)) (init ! 16 refl (tt, tt)) $
-        assigns ! (agg ! (and_then ! (load ! (from ! (stop !)) (look ! 16 refl)) (and_then ! (load ! (from ! (fld ! refl (stop !))) (look_in ! 28 (sub ! 1 refl (all_of !)))) (no_more !)))) (from ! (stop !)) (init ! 14 refl (tt, (tt, (record { fits = room₇.0 }, tt)))) $
-        assigns ! (addr ! (from ! (fld ! refl (hop ! (look_in ! 26 (sub ! 0 refl (all_of !))) (stop !))))) (from ! (stop !)) (init ! 12 refl (tt, tt)) $
-        assigns ! (agg ! (and_then ! (load ! (from ! (stop !)) (look ! 12 refl)) (and_then ! (load ! (from ! (fld ! refl (stop !))) (look_in ! 26 (sub ! 1 refl (all_of !)))) (no_more !)))) (from ! (stop !)) (init ! 10 refl (tt, (tt, (record { fits = room₃.0 }, tt)))) $
+        move ! (25 ∷ []) $ fsplit ! $ move ! (1 ∷ []) $ fsplit ! $ move ! (1 ∷ []) $ fsplit ! $ move ! (1 ∷ []) $ fsplit ! $ move ! (29 ∷ []) $ split ! $ move ! (1 ∷ []) $ split ! $ move ! (1 ∷ []) $ split ! $ keep ! (3 ∷ 2 ∷ 0 ∷ 7 ∷ 6 ∷ 4 ∷ 9 ∷ 10 ∷ 11 ∷ 12 ∷ 13 ∷ 14 ∷ 15 ∷ 16 ∷ 17 ∷ 18 ∷ 19 ∷ 20 ∷ 21 ∷ 22 ∷ 23 ∷ 24 ∷ 25 ∷ 26 ∷ 27 ∷ 28 ∷ 29 ∷ 30 ∷ 31 ∷ 32 ∷ []) $
+        assigns ! (addr ! (from ! (fld ! refl (hop ! (look_in ! 22 (sub ! 0 refl (all_of !))) (stop !))))) (from ! (stop !)) (init ! 14 refl (tt, tt)) $
+        assigns ! (agg ! (and_then ! (load ! (from ! (stop !)) (look ! 14 refl)) (and_then ! (load ! (from ! (fld ! refl (stop !))) (look_in ! 22 (sub ! 1 refl (all_of !)))) (no_more !)))) (from ! (stop !)) (init ! 12 refl (tt, (tt, (record { fits = room₂.0 }, tt)))) $
+        assigns ! (addr ! (from ! (fld ! refl (hop ! (look_in ! 20 (sub ! 0 refl (all_of !))) (stop !))))) (from ! (stop !)) (init ! 10 refl (tt, tt)) $
+        assigns ! (agg ! (and_then ! (load ! (from ! (stop !)) (look ! 10 refl)) (and_then ! (load ! (from ! (fld ! refl (stop !))) (look_in ! 20 (sub ! 1 refl (all_of !)))) (no_more !)))) (from ! (stop !)) (init ! 8 refl (tt, (tt, (record { fits = room₃.0 }, tt)))) $
         -- the workers
-        nothing ! $ use1 𝓛 (raw ((Make 𝓛 mem run).pre to_mk)) (goes_mk) $ calls_at ! fm (Make 𝓛 mem run) known-mk to_mk (and_then ! (load ! (from ! (stop !)) (look ! 35 refl)) (and_then ! (load ! (from ! (stop !)) (look ! 25 refl)) (no_more !))) (λ w₀.
+        nothing ! $ use1 𝓛 (raw ((Make 𝓛 mem run).pre to_mk)) (goes_mk) $ calls_at ! fm (Make 𝓛 mem run) known-mk to_mk (and_then ! (load ! (from ! (stop !)) (look ! 27 refl)) (and_then ! (load ! (from ! (stop !)) (look ! 19 refl)) (no_more !))) (λ w₀.
         use1 𝓛 (later (some (λ (t : Workers). (‵ ftrue ⊛ ‵ ((Wk.the_row).own_val t (w₀ ∷ []))) ⊛ raw (ensured 𝓛 mk.ended (mk.clauses 𝓛 mem run) tt (z, (number, tt)) tt t)))) (id⊢ 𝓤 _) $ await ! tt $ pick ! (λ t₀. split ! $ move ! (1 ∷ []) $ use1 𝓛 (raw (fact 𝓤 (t₀ ≡ idles z.workers number))) (said_mk t₀) $ heard ! (t₀ ≡ idles z.workers number) (λ e₀. split ! $ drop ! $ peeks ! (Wk.the_row) (Is (Wk.the_row)) (shows 𝓛 (Wk.the_row)) t₀ (w₀ ∷ []) (λ is₀.
-        land ! (from ! (stop !)) (init ! 9 refl ((LL.lawful Wk.the_type Wk'.the_laws 𝓛).typed t₀ _ is₀).0) $
+        land ! (from ! (stop !)) (init ! 7 refl ((LL.lawful Wk.the_type Wk'.the_laws 𝓛).typed t₀ _ is₀).0) $
         -- the call
-        move ! (3 ∷ 4 ∷ []) $ join ! $ move ! (3 ∷ 0 ∷ []) $ join ! $ move ! (2 ∷ 0 ∷ []) $ join ! $ move ! (4 ∷ 5 ∷ []) $ join ! $ move ! (4 ∷ 0 ∷ []) $ join ! $ move ! (3 ∷ 0 ∷ []) $ join ! $ move ! (1 ∷ 0 ∷ 2 ∷ []) $
-        use3 𝓛 (raw ((Core 𝓛 mem run).pre (to_co t₀ w₀))) (goes_co t₀ w₀) $ calls_at ! fm (Core 𝓛 mem run) known-co (to_co t₀ w₀) (and_then ! (load ! (from ! (stop !)) (look ! 27 refl)) (and_then ! (load ! (from ! (stop !)) (look ! 25 refl)) (and_then ! (load ! (from ! (stop !)) (look ! 11 refl)) (and_then ! (load ! (from ! (stop !)) (look ! 7 refl)) (and_then ! (load ! (from ! (stop !)) (look ! 3 refl)) (and_then ! (load ! (from ! (stop !)) (look ! 1 refl)) (no_more !))))))) (λ w₁.
-        use1 𝓛 (later (some (λ (t : CallReply). ((‵ (flft κ₁ q₁) ⊛ ‵ (flft κ₂ q₂) ⊛ ‵ (flft κ₇ q₇) ⊛ ‵ (flft κ₃ q₃) ⊛ ‵ ftrue) ⊛ ‵ ((Rp.the_row).own_val t (w₁ ∷ []))) ⊛ raw (ensured 𝓛 co.ended (co.clauses 𝓛 mem run) (κ₁, (κ₂, (κ₇, (κ₃, tt)))) (z, (m, (ll, (sr, (rs, (t₀, tt)))))) tt t)))) (id⊢ 𝓤 _) $ await ! tt $ pick ! (λ t₁. split ! $ move ! (1 ∷ []) $
-        use1 𝓛 (some (λ (ws : Unit {0} × (Unit {0} × (List ℕ × (List Float × (List TaskRecord × (Unit {0} × Unit {0})))))). ‵ (lasts co.ended (κ₁, (κ₂, (κ₇, (κ₃, tt)))) (z, (m, (ll, (sr, (rs, (t₀, tt)))))) ws) ⊛ raw (fact 𝓤 (Told t₀ t₁ ws.1.1.0 ws.1.1.1.0 ws.1.1.1.1.0)))) (id⊢ 𝓤 _) $ pick ! (λ ws₁. split ! $ move ! (1 ∷ []) $ heard ! (Told t₀ t₁ ws₁.1.1.0 ws₁.1.1.1.0 ws₁.1.1.1.1.0) (λ e₁.
-        move ! (0 ∷ []) $ fsplit ! $ drop ! $ move ! (0 ∷ []) $ fsplit ! $ drop ! $ move ! (0 ∷ []) $ fsplit ! $ fsplit ! $ move ! (1 ∷ []) $ feq_l ! (λ same_lists. move ! (1 ∷ []) $ fsplit ! $ fsplit ! $ move ! (1 ∷ []) $ feq_l ! (λ same-slice. move ! (1 ∷ []) $ fsplit ! $ fsplit ! $ move ! (1 ∷ []) $ feq_l ! (λ same_records. move ! (1 ∷ []) $ drop ! $
-        move ! (3 ∷ []) $ split ! $ move ! (1 ∷ []) $ peeks ! Rp.the_row (Is Rp.the_row) (shows 𝓛 Rp.the_row) t₁ (w₁ ∷ []) (λ is₁. land ! (from ! (stop !)) (init ! 19 refl ((LL.lawful Rp.the_type Rp'.the_laws 𝓛).typed t₁ _ is₁).0) $
+        move ! (2 ∷ 3 ∷ []) $ join ! $ move ! (2 ∷ 0 ∷ []) $ join ! $ move ! (3 ∷ 4 ∷ []) $ join ! $ move ! (3 ∷ 0 ∷ []) $ join ! $ move ! (1 ∷ 0 ∷ 2 ∷ []) $
+        use3 𝓛 (raw ((Core 𝓛 mem run).pre (to_co t₀ w₀))) (goes_co t₀ w₀) $ calls_at ! fm (Core 𝓛 mem run) known-co (to_co t₀ w₀) (and_then ! (load ! (from ! (stop !)) (look ! 21 refl)) (and_then ! (load ! (from ! (stop !)) (look ! 19 refl)) (and_then ! (load ! (from ! (stop !)) (look ! 7 refl)) (and_then ! (load ! (from ! (stop !)) (look ! 3 refl)) (and_then ! (load ! (from ! (stop !)) (look ! 1 refl)) (no_more !)))))) (λ w₁.
+        use1 𝓛 (later (some (λ (t : CallReply). ((‵ (flft κ₁ q₁) ⊛ ‵ (flft κ₂ q₂) ⊛ ‵ (flft κ₃ q₃) ⊛ ‵ ftrue) ⊛ ‵ ((Rp.the_row).own_val t (w₁ ∷ []))) ⊛ raw (ensured 𝓛 co.ended (co.clauses 𝓛 mem run) (κ₁, (κ₂, (κ₃, tt))) (z, (m, (ll, (rs, (t₀, tt))))) tt t)))) (id⊢ 𝓤 _) $ await ! tt $ pick ! (λ t₁. split ! $ move ! (1 ∷ []) $
+        use1 𝓛 (some (λ (ws : Unit {0} × (Unit {0} × (List ℕ × (List TaskRecord × (Unit {0} × Unit {0}))))). ‵ (lasts co.ended (κ₁, (κ₂, (κ₃, tt))) (z, (m, (ll, (rs, (t₀, tt))))) ws) ⊛ raw (fact 𝓤 (Told t₀ t₁ ws.1.1.0 ws.1.1.1.0)))) (id⊢ 𝓤 _) $ pick ! (λ ws₁. split ! $ move ! (1 ∷ []) $ heard ! (Told t₀ t₁ ws₁.1.1.0 ws₁.1.1.1.0) (λ e₁.
+        move ! (0 ∷ []) $ fsplit ! $ drop ! $ move ! (0 ∷ []) $ fsplit ! $ drop ! $ move ! (0 ∷ []) $ fsplit ! $ fsplit ! $ move ! (1 ∷ []) $ feq_l ! (λ same_lists. move ! (1 ∷ []) $ fsplit ! $ fsplit ! $ move ! (1 ∷ []) $ feq_l ! (λ same_records. move ! (1 ∷ []) $ drop ! $
+        move ! (2 ∷ []) $ split ! $ move ! (1 ∷ []) $ peeks ! Rp.the_row (Is Rp.the_row) (shows 𝓛 Rp.the_row) t₁ (w₁ ∷ []) (λ is₁. land ! (from ! (stop !)) (init ! 14 refl ((LL.lawful Rp.the_type Rp'.the_laws 𝓛).typed t₁ _ is₁).0) $
         -- what is told
-        use1 𝓛 (raw ((Tell 𝓛 mem run).pre (to_tl t₁ w₁))) (goes_tl t₁ w₁) $ calls_at ! fm (Tell 𝓛 mem run) known-tl (to_tl t₁ w₁) (and_then ! (load ! (from ! (stop !)) (look ! 19 refl)) (no_more !)) (λ w₂.
-        use1 𝓛 (later (some (λ (t : ℕ). (‵ ftrue ⊛ ‵ (u8.own_val t (w₂ ∷ []))) ⊛ raw (ensured 𝓛 tl.ended (tl.clauses 𝓛 mem run) tt (t₁, tt) tt t)))) (id⊢ 𝓤 _) $ await ! tt $ pick ! (λ t₂. split ! $ move ! (1 ∷ []) $ use1 𝓛 (raw (fact 𝓤 (t₂ ≡ answer_number t₁.answer))) (said_tl t₁ t₂) $ heard ! (t₂ ≡ answer_number t₁.answer) (λ e₂. split ! $ drop ! $ peeks ! u8 (Is u8) (shows 𝓛 u8) t₂ (w₂ ∷ []) (λ is₂. land ! (from ! (stop !)) (init ! 33 refl ((uint_Lawful 𝓛 w8).typed t₂ _ is₂).0) $
-        move ! (1 ∷ []) $ split ! $ move ! (1 ∷ []) $ split ! $ move ! (1 ∷ []) $ split3 ! $ returns ! (look ! 37 refl) $ forget ! 37 refl $ forget ! 35 refl $ forget ! 33 refl $ forget ! 31 refl $ forget ! 29 refl $ forget ! 27 refl $ forget ! 25 refl $ forget ! 23 refl $ forget ! 21 refl $ forget ! 19 refl $ forget ! 17 refl $ forget ! 15 refl $ forget ! 13 refl $ forget ! 11 refl $ forget ! 9 refl $
-        move ! (37 ∷ 38 ∷ []) $ free1 ! $ move ! (35 ∷ 36 ∷ []) $ free1 ! $ move ! (33 ∷ 34 ∷ []) $ free1 ! $ move ! (31 ∷ 32 ∷ []) $ free1 ! $ move ! (29 ∷ 30 ∷ []) $ free1 ! $ move ! (27 ∷ 28 ∷ []) $ free1 ! $ move ! (25 ∷ 26 ∷ []) $ free1 ! $ move ! (23 ∷ 24 ∷ []) $ free1 ! $ move ! (21 ∷ 22 ∷ []) $ free1 ! $ move ! (19 ∷ 20 ∷ []) $ free1 ! $ move ! (17 ∷ 18 ∷ []) $ free1 ! $ move ! (15 ∷ 16 ∷ []) $ free1 ! $ move ! (13 ∷ 14 ∷ []) $ free1 ! $ move ! (11 ∷ 12 ∷ []) $ free1 ! $ move ! (9 ∷ 10 ∷ []) $ free1 ! $ free0 ! $
-        keep ! (4 ∷ 3 ∷ 0 ∷ 1 ∷ 8 ∷ 7 ∷ 6 ∷ 5 ∷ []) $ by ! (exits t₂ w₂ ws₁.1.1.0 ws₁.1.1.1.0 ws₁.1.1.1.1.0 (replies ms ms ls ws₁.1.1.0 ss ws₁.1.1.1.0 ys ws₁.1.1.1.1.0 t₀ (idles z.workers number) e₀ t₂ (open_call z) t₁ e₁.0 e₂) same_lists same-slice same_records))))))))))))))))))))))))))))))))
+        use1 𝓛 (raw ((Tell 𝓛 mem run).pre (to_tl t₁ w₁))) (goes_tl t₁ w₁) $ calls_at ! fm (Tell 𝓛 mem run) known-tl (to_tl t₁ w₁) (and_then ! (load ! (from ! (stop !)) (look ! 14 refl)) (no_more !)) (λ w₂.
+        use1 𝓛 (later (some (λ (t : ℕ). (‵ ftrue ⊛ ‵ (u8.own_val t (w₂ ∷ []))) ⊛ raw (ensured 𝓛 tl.ended (tl.clauses 𝓛 mem run) tt (t₁, tt) tt t)))) (id⊢ 𝓤 _) $ await ! tt $ pick ! (λ t₂. split ! $ move ! (1 ∷ []) $ use1 𝓛 (raw (fact 𝓤 (t₂ ≡ answer_number t₁.answer))) (said_tl t₁ t₂) $ heard ! (t₂ ≡ answer_number t₁.answer) (λ e₂. split ! $ drop ! $ peeks ! u8 (Is u8) (shows 𝓛 u8) t₂ (w₂ ∷ []) (λ is₂. land ! (from ! (stop !)) (init ! 26 refl ((uint_Lawful 𝓛 w8).typed t₂ _ is₂).0) $
+        move ! (1 ∷ []) $ split ! $ move ! (1 ∷ []) $ split3 ! $ returns ! (look ! 29 refl) $ forget ! 29 refl $ forget ! 27 refl $ forget ! 25 refl $ forget ! 23 refl $ forget ! 21 refl $ forget ! 19 refl $ forget ! 17 refl $ forget ! 15 refl $ forget ! 13 refl $ forget ! 11 refl $ forget ! 9 refl $ forget ! 7 refl $
+        move ! (29 ∷ 30 ∷ []) $ free1 ! $ move ! (27 ∷ 28 ∷ []) $ free1 ! $ move ! (25 ∷ 26 ∷ []) $ free1 ! $ move ! (23 ∷ 24 ∷ []) $ free1 ! $ move ! (21 ∷ 22 ∷ []) $ free1 ! $ move ! (19 ∷ 20 ∷ []) $ free1 ! $ move ! (17 ∷ 18 ∷ []) $ free1 ! $ move ! (15 ∷ 16 ∷ []) $ free1 ! $ move ! (13 ∷ 14 ∷ []) $ free1 ! $ move ! (11 ∷ 12 ∷ []) $ free1 ! $ move ! (9 ∷ 10 ∷ []) $ free1 ! $ move ! (7 ∷ 8 ∷ []) $ free1 ! $ free0 ! $
+        keep ! (3 ∷ 0 ∷ 1 ∷ 6 ∷ 5 ∷ 4 ∷ []) $ by ! (exits t₂ w₂ ws₁.1.1.0 ws₁.1.1.1.0 (replies ms ms ls ws₁.1.1.0 ys ws₁.1.1.1.0 t₀ (idles z.workers number) e₀ t₂ (open_call z) t₁ e₁.0 e₂) same_lists same_records))))))))))))))))))))))))))))
 
 module _ {M : Type 1} {𝓤 : Ura M} (𝓛 : Logic 𝓤) (mem : Memory → SProp 𝓤) (run : Routine → Fun 𝓤) (𝓣 : Tables 𝓤 𝓛.H) (known-mk : Triple 𝓤 (𝓣.C #mk) (Make 𝓛 mem run)) (known-co : Triple 𝓤 (𝓣.C #co) (Core 𝓛 mem run)) (known-tl : Triple 𝓤 (𝓣.C #tl) (Tell 𝓛 mem run)) where
   open 𝓛 use {H}
 
   walks : Walks 𝓛 f.ended stayed (WpFn 𝓤 H 𝓣.C 𝓣.Λ code.function) (f.clauses 𝓛 mem run)
-  walks = walked 𝓛 f.ended stayed (f.clauses 𝓛 mem run) (WpFn 𝓤 H 𝓣.C 𝓣.Λ code.function) (λ κs. (LL.vals Sz.the_type Sz'.the_laws, (shr_slice_vals, (shr_slice_vals, (shr_slice_vals, (shr_slice_vals, (uint_vals w32, tt)))))))
-      (λ κs. (LL.tells Sz.the_type Sz'.the_laws, (shr_slice_Tells (named 0) κs.0 f64, (mut_slice_Tells (named 1) κs.1.0 u8, (mut_slice_Tells (named 2) κs.1.1.0 f64, (mut_slice_Tells (named 3) κs.1.1.1.0 T.the_row, (uint_Tells w32, tt)))))))
-      (λ κs qs bounds a g are. via 𝓤 _ (fst∗ 𝓤 _ (emp 𝓤)) (walk 𝓛 mem run κs.0 κs.1.0 κs.1.1.0 κs.1.1.1.0 qs.0 qs.1.0 qs.1.1.0 qs.1.1.1.0
-      a.0 are.0 a.1.0.ref_ptr.0 a.1.0.ref_ptr.1 a.1.0.ghost_name a.1.0.now are.1.0.0.1 a.1.1.0.ref_ptr.0 a.1.1.0.ref_ptr.1 a.1.1.0.ghost_name a.1.1.0.now are.1.1.0.0.1 a.1.1.1.0.ref_ptr.0 a.1.1.1.0.ref_ptr.1 a.1.1.1.0.ghost_name a.1.1.1.0.now are.1.1.1.0.0.1 a.1.1.1.1.0.ref_ptr.0 a.1.1.1.1.0.ref_ptr.1 a.1.1.1.1.0.ghost_name a.1.1.1.1.0.now are.1.1.1.1.0.0.1 a.1.1.1.1.1.0 are.1.1.1.1.1.0.1 𝓣.C 𝓣.Λ (fm_of 𝓤 H 𝓛.laws 𝓣) known-mk known-co known-tl))
+  walks = walked 𝓛 f.ended stayed (f.clauses 𝓛 mem run) (WpFn 𝓤 H 𝓣.C 𝓣.Λ code.function) (λ κs. (LL.vals Sz.the_type Sz'.the_laws, (shr_slice_vals, (shr_slice_vals, (shr_slice_vals, (uint_vals w32, tt))))))
+      (λ κs. (LL.tells Sz.the_type Sz'.the_laws, (shr_slice_Tells (named 0) κs.0 f64, (mut_slice_Tells (named 1) κs.1.0 u8, (mut_slice_Tells (named 2) κs.1.1.0 T.the_row, (uint_Tells w32, tt))))))
+      (λ κs qs bounds a g are. via 𝓤 _ (fst∗ 𝓤 _ (emp 𝓤)) (walk 𝓛 mem run κs.0 κs.1.0 κs.1.1.0 qs.0 qs.1.0 qs.1.1.0
+      a.0 are.0 a.1.0.ref_ptr.0 a.1.0.ref_ptr.1 a.1.0.ghost_name a.1.0.now are.1.0.0.1 a.1.1.0.ref_ptr.0 a.1.1.0.ref_ptr.1 a.1.1.0.ghost_name a.1.1.0.now are.1.1.0.0.1 a.1.1.1.0.ref_ptr.0 a.1.1.1.0.ref_ptr.1 a.1.1.1.0.ghost_name a.1.1.1.0.now are.1.1.1.0.0.1 a.1.1.1.1.0 are.1.1.1.1.0.1 𝓣.C 𝓣.Λ (fm_of 𝓤 H 𝓛.laws 𝓣) known-mk known-co known-tl))
 
-  goes : AllGo 𝓛 4 (f.signature).params (f.ended).kept stayed
-  goes = (Goes-dropped 𝓛 4 (plain (λ _. Sz.the_row)) yes (λ κs x f. refl), (Goes-dropped 𝓛 4 (shr_slice_of (0 ∷ []) tt (plain (λ _. f64))) yes (λ κs x f. refl), (Goes-gave_slice 𝓛 4 1 tt (plain (λ _. u8)), (Goes-gave_slice 𝓛 4 2 tt (plain (λ _. f64)), (Goes-gave_slice 𝓛 4 3 tt (plain (λ _. T.the_row)), (Goes-dropped 𝓛 4 (plain (λ _. u32)) yes (λ κs x f. refl), tt))))))
+  goes : AllGo 𝓛 3 (f.signature).params (f.ended).kept stayed
+  goes = (Goes-dropped 𝓛 3 (plain (λ _. Sz.the_row)) yes (λ κs x f. refl), (Goes-dropped 𝓛 3 (shr_slice_of (0 ∷ []) tt (plain (λ _. f64))) yes (λ κs x f. refl), (Goes-gave_slice 𝓛 3 1 tt (plain (λ _. u8)), (Goes-gave_slice 𝓛 3 2 tt (plain (λ _. T.the_row)), (Goes-dropped 𝓛 3 (plain (λ _. u32)) yes (λ κs x f. refl), tt)))))
 
   meets : Meets 𝓛 f.signature (WpFn 𝓤 H 𝓣.C 𝓣.Λ code.function) (f.spec 𝓛 mem run)
   meets = walk_Meets 𝓛 f.ended stayed goes (f.clauses 𝓛 mem run) (WpFn 𝓤 H 𝓣.C 𝓣.Λ code.function) (WpFn-mono 𝓤 H 𝓛.laws 𝓣 code.function) walks

@@ -1,4 +1,4 @@
--- `column_call::column` meets its contract: a walk of its MIR. The local array is lent to `load` beside the records, to `column_part` beside the matrix, the lists and the slice, and to `store` beside the records, each time for a lifetime that is made for the call. Written by tools/call_walks.py.
+-- `column_call::column` meets its contract: a walk of its MIR. The local array is lent to `load` beside the records, to `column_part` beside the matrix and the lists, and to `store` beside the records, each time for a lifetime that is made for the call. Written by tools/call_walks.py.
 -- Assumes nothing.
 use mathlib.Core.Path.{◌≡◌, refl, sym, ap, subst}
 use mathlib.Core.Bool.{cond}
@@ -99,7 +99,7 @@ use Rattle.column_call.proofs.column.Statement as stated
 use Rattle.column_call.proofs.column.Code as code
 
 abbrev stayed : Stays (f.ended).signature.params (f.ended).kept
-stayed = (stay_dropped (plain (λ _. Sz.the_row)) yes, (gave_slice (0 ∷ []) tt (plain (λ _. f64)), (gave_slice (1 ∷ []) tt (plain (λ _. u8)), (gave_slice (2 ∷ []) tt (plain (λ _. f64)), (gave_slice (3 ∷ []) tt (plain (λ _. T.the_row)), (stay_dropped (plain (λ _. Wk.the_row)) yes, (stay_dropped (plain (λ _. usize)) yes, tt)))))))
+stayed = (stay_dropped (plain (λ _. Sz.the_row)) yes, (gave_slice (0 ∷ []) tt (plain (λ _. f64)), (gave_slice (1 ∷ []) tt (plain (λ _. u8)), (gave_slice (2 ∷ []) tt (plain (λ _. T.the_row)), (stay_dropped (plain (λ _. Wk.the_row)) yes, (stay_dropped (plain (λ _. usize)) yes, tt))))))
 
 module _ {M : Type 1} {𝓤 : Ura M} (𝓛 : Logic 𝓤) (mem : Memory → SProp 𝓤) (run : Routine → Fun 𝓤) where
   -- the contracts that the proof cites
@@ -121,27 +121,23 @@ module _ {M : Type 1} {𝓤 : Ura M} (𝓛 : Logic 𝓤) (mem : Memory → SProp
   abbrev Store : Contract 𝓤
   Store = triple_of 𝓛 st.signature (st.spec 𝓛 mem run)
 
-module _ {M : Type 1} {𝓤 : Ura M} (𝓛 : Logic 𝓤) (mem : Memory → SProp 𝓤) (run : Routine → Fun 𝓤) (κ₁ κ₂ κ₇ κ₃ : Lft) (q₁ q₂ q₇ q₃ : Share)
-    (z : Sizes) (z_is : Is Sz.the_row z (LL.vals Sz.the_type Sz'.the_laws z))
+module _ {M : Type 1} {𝓤 : Ura M} (𝓛 : Logic 𝓤) (mem : Memory → SProp 𝓤) (run : Routine → Fun 𝓤) (κ₁ κ₂ κ₃ : Lft) (q₁ q₂ q₃ : Share)
+    (z : Sizes) (z-is : Is Sz.the_row z (LL.vals Sz.the_type Sz'.the_laws z))
     (b₁ o₁ : ℕ) (γ₁ : GName) (ms : List Float) (room₁ : Room f64 (length ms))
     (b₂ o₂ : ℕ) (γ₂ : GName) (ls : List ℕ) (room₂ : Room u8 (length ls))
-    (b₇ o₇ : ℕ) (γ₇ : GName) (ss : List Float) (room₇ : Room f64 (length ss))
     (b₃ o₃ : ℕ) (γ₃ : GName) (ys : List TaskRecord) (room₃ : Room T.the_row (length ys))
     (wk : Workers) (wk-is : Is Wk.the_row wk (LL.vals Wk.the_type Wk'.the_laws wk))
     (w : ℕ) (w_Fits : w < 2 ^ 64) where
   open 𝓛 use {H, A}
 
   abbrev Arg : Type 0
-  Arg = Sizes × (MutBor (List Float) × (MutBor (List ℕ) × (MutBor (List Float) × (MutBor (List TaskRecord) × (Workers × (ℕ × Unit {0}))))))
+  Arg = Sizes × (MutBor (List Float) × (MutBor (List ℕ) × (MutBor (List TaskRecord) × (Workers × (ℕ × Unit {0})))))
 
   abbrev m : Bor (List Float)
   m = record { ref_ptr = (b₁, o₁); ghost_name = γ₁; now = ms }
 
   abbrev ll : Bor (List ℕ)
   ll = record { ref_ptr = (b₂, o₂); ghost_name = γ₂; now = ls }
-
-  abbrev sr : Bor (List Float)
-  sr = record { ref_ptr = (b₇, o₇); ghost_name = γ₇; now = ss }
 
   -- the records, under the name δ; and the slice of the local l at the list xs
   abbrev rs : GName → MutBor (List TaskRecord)
@@ -151,16 +147,13 @@ module _ {M : Type 1} {𝓤 : Ura M} (𝓛 : Logic 𝓤) (mem : Memory → SProp
   fl l δ xs = record { ref_ptr = (l, 0); ghost_name = δ; now = xs }
 
   abbrev a : Arg
-  a = (z, (m, (ll, (sr, ((rs γ₃), (wk, (w, tt)))))))
+  a = (z, (m, (ll, ((rs γ₃), (wk, (w, tt))))))
 
   abbrev s₁ : Val
   s₁ = slice_val (b₁, o₁) (length ms)
 
   abbrev s₂ : Val
   s₂ = slice_val (b₂, o₂) (length ls)
-
-  abbrev s₇ : Val
-  s₇ = slice_val (b₇, o₇) (length ss)
 
   abbrev s₃ : Val
   s₃ = slice_val (b₃, o₃) (length ys)
@@ -174,8 +167,8 @@ module _ {M : Type 1} {𝓤 : Ura M} (𝓛 : Logic 𝓤) (mem : Memory → SProp
   abbrev wv : Val
   wv = LL.val Wk.the_type Wk'.the_laws wk
 
-  abbrev vs : List Val × (List Val × (List Val × (List Val × (List Val × (List Val × (List Val × Unit {0}))))))
-  vs = (LL.vals Sz.the_type Sz'.the_laws z, (s₁ ∷ [], (s₂ ∷ [], (s₇ ∷ [], (s₃ ∷ [], (LL.vals Wk.the_type Wk'.the_laws wk, (vint w64 w ∷ [], tt)))))))
+  abbrev vs : List Val × (List Val × (List Val × (List Val × (List Val × (List Val × Unit {0})))))
+  vs = (LL.vals Sz.the_type Sz'.the_laws z, (s₁ ∷ [], (s₂ ∷ [], (s₃ ∷ [], (LL.vals Wk.the_type Wk'.the_laws wk, (vint w64 w ∷ [], tt))))))
 
   -- how many records are copied, and the copies before
   abbrev n : ℕ
@@ -191,11 +184,8 @@ module _ {M : Type 1} {𝓤 : Ura M} (𝓛 : Logic 𝓤) (mem : Memory → SProp
   abbrev Lis : Fml
   Lis = (MutSlice (named 1) κ₂ u8).own_val ll (s₂ ∷ [])
 
-  abbrev Sli : Fml
-  Sli = (MutSlice (named 2) κ₇ f64).own_val sr (s₇ ∷ [])
-
   abbrev Rec : Fml
-  Rec = (MutSlice (named 3) κ₃ T.the_row).own_val (rs γ₃) (s₃ ∷ [])
+  Rec = (MutSlice (named 2) κ₃ T.the_row).own_val (rs γ₃) (s₃ ∷ [])
 
   abbrev Shr : ℕ → GName → Fml
   Shr μ δ = (ShrSlice (named 0) (μ ∷ []) T.the_row).own_val (rs δ) (s₃ ∷ [])
@@ -204,7 +194,7 @@ module _ {M : Type 1} {𝓤 : Ura M} (𝓛 : Logic 𝓤) (mem : Memory → SProp
   Mut l ν δ xs = (MutSlice (named 1) (ν ∷ []) B).own_val (fl l δ xs) (s₅ l ∷ [])
 
   abbrev Mut₂ : ℕ → ℕ → GName → List (List ℕ) → Fml
-  Mut₂ l ν δ xs = (MutSlice (named 3) (ν ∷ []) B).own_val (fl l δ xs) (s₅ l ∷ [])
+  Mut₂ l ν δ xs = (MutSlice (named 2) (ν ∷ []) B).own_val (fl l δ xs) (s₅ l ∷ [])
 
   abbrev Imm : ℕ → ℕ → GName → List (List ℕ) → Fml
   Imm l ν δ xs = (ShrSlice (named 1) (ν ∷ []) B).own_val (fl l δ xs) (s₅ l ∷ [])
@@ -216,7 +206,7 @@ module _ {M : Type 1} {𝓤 : Ura M} (𝓛 : Logic 𝓤) (mem : Memory → SProp
   Cell l v = fat full_share (ty_array (ty_array (ty_int w8) bytes) N) l 0 v
 
   abbrev Post : Val → SProp 𝓤
-  Post = (walk_of 𝓛 f.ended stayed (f.clauses 𝓛 mem run)).post (((κ₁, (κ₂, (κ₇, (κ₃, tt)))), (q₁, (q₂, (q₇, (q₃, tt)))), tt, a, vs), tt)
+  Post = (walk_of 𝓛 f.ended stayed (f.clauses 𝓛 mem run)).post (((κ₁, (κ₂, (κ₃, tt))), (q₁, (q₂, (q₃, tt))), tt, a, vs), tt)
 
   n_short : n ≤ N
   n_short = looked_most (length ys)
@@ -227,13 +217,13 @@ module _ {M : Type 1} {𝓤 : Ura M} (𝓛 : Logic 𝓤) (mem : Memory → SProp
   n_fits : n < 2 ^ 64
   n_fits = omega (arith, n_short)
 
-  exits : (r : CallReply) (v : Val) (ms' : List Float) (ls' : List ℕ) (ss' : List Float) (zs : List TaskRecord) → ((record { answer = r.answer; left = whole ms' ls' ss' zs r.workers } ≡ column_call z w (whole ms ls ss ys wk)) × OthersKept wk r.workers) → length ms' ≡ length ms → length ls' ≡ length ls → length ss' ≡ length ss → length zs ≡ length ys
-      → ent 𝓤 (⋆ 𝓛 (‵ (flft κ₁ q₁) ∷ ‵ (flft κ₂ q₂) ∷ ‵ (flft κ₇ q₇) ∷ ‵ (flft κ₃ q₃) ∷ ‵ (finally f64 γ₁ ms') ∷ ‵ (finally u8 γ₂ ls') ∷ ‵ (finally f64 γ₇ ss') ∷ ‵ (finally T.the_row γ₃ zs) ∷ ‵ ((Rp.the_row).own_val r (v ∷ [])) ∷ [])) (Post v)
-  exits r v ms' ls' ss' zs e len₁ len₂ len₇ len₃ =
-      qed 𝓛 (‵ (flft κ₁ q₁) ∷ ‵ (flft κ₂ q₂) ∷ ‵ (flft κ₇ q₇) ∷ ‵ (flft κ₃ q₃) ∷ ‵ (finally f64 γ₁ ms') ∷ ‵ (finally u8 γ₂ ls') ∷ ‵ (finally f64 γ₇ ss') ∷ ‵ (finally T.the_row γ₃ zs) ∷ ‵ ((Rp.the_row).own_val r (v ∷ [])) ∷ []) ∵
-      suffices ! _ (ends_at 𝓛 f.ended stayed (f.clauses 𝓛 mem run) (((κ₁, (κ₂, (κ₇, (κ₃, tt)))), (q₁, (q₂, (q₇, (q₃, tt)))), tt, a, vs), tt) v r (tt, (ms', (ls', (ss', (zs, (tt, (tt, tt))))))) (tt, (len₁, (len₂, (len₇, (len₃, (tt, (tt, tt)))))))) $ says ! e $
-      nothing ! $ move ! (4 ∷ 0 ∷ []) $ join ! $ move ! (3 ∷ 0 ∷ []) $ join ! $ move ! (2 ∷ 0 ∷ []) $ join ! $ move ! (1 ∷ 0 ∷ []) $ join ! $ frame ! $
-      nothing ! $ nothing ! $ fjoin ! $ nothing ! $ fjoin ! $ move ! (4 ∷ 0 ∷ []) $ fjoin ! $ move ! (3 ∷ 0 ∷ []) $ fjoin ! $ move ! (2 ∷ 0 ∷ []) $ fjoin ! $ move ! (1 ∷ 0 ∷ []) $ fjoin ! $ nothing ! $ fjoin ! $ frame ! $ done !
+  exits : (r : CallReply) (v : Val) (ms' : List Float) (ls' : List ℕ) (zs : List TaskRecord) → ((record { answer = r.answer; left = whole ms' ls' zs r.workers } ≡ column_call z w (whole ms ls ys wk)) × OthersKept wk r.workers) → length ms' ≡ length ms → length ls' ≡ length ls → length zs ≡ length ys
+      → ent 𝓤 (⋆ 𝓛 (‵ (flft κ₁ q₁) ∷ ‵ (flft κ₂ q₂) ∷ ‵ (flft κ₃ q₃) ∷ ‵ (finally f64 γ₁ ms') ∷ ‵ (finally u8 γ₂ ls') ∷ ‵ (finally T.the_row γ₃ zs) ∷ ‵ ((Rp.the_row).own_val r (v ∷ [])) ∷ [])) (Post v)
+  exits r v ms' ls' zs e len₁ len₂ len₃ =
+      qed 𝓛 (‵ (flft κ₁ q₁) ∷ ‵ (flft κ₂ q₂) ∷ ‵ (flft κ₃ q₃) ∷ ‵ (finally f64 γ₁ ms') ∷ ‵ (finally u8 γ₂ ls') ∷ ‵ (finally T.the_row γ₃ zs) ∷ ‵ ((Rp.the_row).own_val r (v ∷ [])) ∷ []) ∵
+      suffices ! _ (ends_at 𝓛 f.ended stayed (f.clauses 𝓛 mem run) (((κ₁, (κ₂, (κ₃, tt))), (q₁, (q₂, (q₃, tt))), tt, a, vs), tt) v r (tt, (ms', (ls', (zs, (tt, (tt, tt)))))) (tt, (len₁, (len₂, (len₃, (tt, (tt, tt))))))) $ says ! e $
+      nothing ! $ move ! (3 ∷ 0 ∷ []) $ join ! $ move ! (2 ∷ 0 ∷ []) $ join ! $ move ! (1 ∷ 0 ∷ []) $ join ! $ frame ! $
+      nothing ! $ nothing ! $ fjoin ! $ nothing ! $ fjoin ! $ move ! (3 ∷ 0 ∷ []) $ fjoin ! $ move ! (2 ∷ 0 ∷ []) $ fjoin ! $ move ! (1 ∷ 0 ∷ []) $ fjoin ! $ nothing ! $ fjoin ! $ frame ! $ done !
 
   -- `looked_at`
   abbrev to_lk : (Look 𝓛 mem run).Ghost
@@ -259,18 +249,18 @@ module _ {M : Type 1} {𝓤 : Ura M} (𝓛 : Logic 𝓤) (mem : Memory → SProp
 
   -- `column_part`
   abbrev to_co : ℕ → ℕ → GName → List (List ℕ) → (Core 𝓛 mem run).Ghost
-  to_co l ν ε X = (((κ₁, (κ₂, (κ₇, (ν ∷ [], tt)))), (q₁, (q₂, (q₇, (full_share, tt)))), tt, (z, (m, (ll, (sr, (fl l ε X, (n, (wk, (w, tt)))))))), (LL.vals Sz.the_type Sz'.the_laws z, (s₁ ∷ [], (s₂ ∷ [], (s₇ ∷ [], (s₅ l ∷ [], (vint w64 n ∷ [], (LL.vals Wk.the_type Wk'.the_laws wk, (vint w64 w ∷ [], tt))))))))), tt)
+  to_co l ν ε X = (((κ₁, (κ₂, (ν ∷ [], tt))), (q₁, (q₂, (full_share, tt))), tt, (z, (m, (ll, (fl l ε X, (n, (wk, (w, tt))))))), (LL.vals Sz.the_type Sz'.the_laws z, (s₁ ∷ [], (s₂ ∷ [], (s₅ l ∷ [], (vint w64 n ∷ [], (LL.vals Wk.the_type Wk'.the_laws wk, (vint w64 w ∷ [], tt)))))))), tt)
 
-  goes_co : (l ν : ℕ) (ε : GName) (X : List (List ℕ)) → length X ≡ N → ent 𝓤 (sep 𝓤 (sep 𝓤 (A.lft κ₁ q₁) (sep 𝓤 (A.lft κ₂ q₂) (sep 𝓤 (A.lft κ₇ q₇) (A.lft (ν ∷ []) full_share)))) (sep 𝓤 (sep 𝓤 (sem 𝓛 Mat) (sep 𝓤 (sem 𝓛 Lis) (sem 𝓛 Sli))) (sem 𝓛 (Mut₂ l ν ε X)))) ((Core 𝓛 mem run).pre (to_co l ν ε X))
+  goes_co : (l ν : ℕ) (ε : GName) (X : List (List ℕ)) → length X ≡ N → ent 𝓤 (sep 𝓤 (sep 𝓤 (A.lft κ₁ q₁) (sep 𝓤 (A.lft κ₂ q₂) (A.lft (ν ∷ []) full_share))) (sep 𝓤 (sep 𝓤 (sem 𝓛 Mat) (sem 𝓛 Lis)) (sem 𝓛 (Mut₂ l ν ε X)))) ((Core 𝓛 mem run).pre (to_co l ν ε X))
   goes_co l ν ε X long =
-      qed 𝓛 ((‵ (flft κ₁ q₁) ⊛ ‵ (flft κ₂ q₂) ⊛ ‵ (flft κ₇ q₇) ⊛ ‵ (flft (ν ∷ []) full_share)) ∷ (‵ Mat ⊛ ‵ Lis ⊛ ‵ Sli) ∷ ‵ (Mut₂ l ν ε X) ∷ []) ∵ says ! (subst (λ (k : ℕ). n ≤ k) (sym long) n_short) $ split3 ! $ move ! (2 ∷ []) $ split ! $
-      nothing ! $ move ! (2 ∷ 0 ∷ []) $ join ! $ move ! (1 ∷ 0 ∷ []) $ join ! $ move ! (2 ∷ 0 ∷ []) $ join ! $ move ! (1 ∷ 0 ∷ []) $ join ! $ frame ! $ split3 ! $
+      qed 𝓛 ((‵ (flft κ₁ q₁) ⊛ ‵ (flft κ₂ q₂) ⊛ ‵ (flft (ν ∷ []) full_share)) ∷ (‵ Mat ⊛ ‵ Lis) ∷ ‵ (Mut₂ l ν ε X) ∷ []) ∵ says ! (subst (λ (k : ℕ). n ≤ k) (sym long) n_short) $ split3 ! $
+      nothing ! $ move ! (3 ∷ 0 ∷ []) $ join ! $ move ! (2 ∷ 0 ∷ []) $ join ! $ move ! (1 ∷ 0 ∷ []) $ join ! $ frame ! $ split ! $
       nothing ! $ owned ! usize (Is usize) (uint_Makes 𝓛 w64) w _ (refl, w_Fits) $ fjoin ! $ owned ! Wk.the_row (Is Wk.the_row) (LL.makes Wk.the_type Wk'.the_plain 𝓛) wk _ wk-is $ fjoin ! $
-      owned ! usize (Is usize) (uint_Makes 𝓛 w64) n _ (refl, n_fits) $ fjoin ! $ move ! (4 ∷ 0 ∷ []) $ fjoin ! $ move ! (3 ∷ 0 ∷ []) $ fjoin ! $ move ! (2 ∷ 0 ∷ []) $ fjoin ! $ move ! (1 ∷ 0 ∷ []) $ fjoin ! $
-      owned ! Sz.the_row (Is Sz.the_row) (LL.makes Sz.the_type Sz'.the_plain 𝓛) z _ z_is $ fjoin ! $ done !
+      owned ! usize (Is usize) (uint_Makes 𝓛 w64) n _ (refl, n_fits) $ fjoin ! $ move ! (3 ∷ 0 ∷ []) $ fjoin ! $ move ! (2 ∷ 0 ∷ []) $ fjoin ! $ move ! (1 ∷ 0 ∷ []) $ fjoin ! $
+      owned ! Sz.the_row (Is Sz.the_row) (LL.makes Sz.the_type Sz'.the_plain 𝓛) z _ z-is $ fjoin ! $ done !
 
-  abbrev Told : (X : List (List ℕ)) (r : CallReply) (ms' : List Float) (ls' : List ℕ) (ss' : List Float) (X' : List (List ℕ)) → Type 0
-  Told X r ms' ls' ss' X' = (record { answer = r.answer; left = all_lent ms' ls' ss' (up_to n X') r.workers } ≡ column_call z w (all_lent ms ls ss (up_to n X) wk)) × OthersKept wk r.workers
+  abbrev Told : (X : List (List ℕ)) (r : CallReply) (ms' : List Float) (ls' : List ℕ) (X' : List (List ℕ)) → Type 0
+  Told X r ms' ls' X' = (record { answer = r.answer; left = all_lent ms' ls' (up_to n X') r.workers } ≡ column_call z w (all_lent ms ls (up_to n X) wk)) × OthersKept wk r.workers
 
   -- `task_held`
   abbrev p : ℕ
@@ -318,86 +308,84 @@ module _ {M : Type 1} {𝓤 : Ura M} (𝓛 : Logic 𝓤) (mem : Memory → SProp
   unit_typed w is = subst (λ (v : Val). Holds (has_ty ty_unit v) × WT v) (sym (ap only is)) (tt, tt)
 
   module _ (C : Calls 𝓤 H) (Λ : Loops 𝓤 H) (fm : FmC 𝓤 H 𝓛.laws C) (known-lk : Triple 𝓤 (C #lk) (Look 𝓛 mem run)) (known-ld : Triple 𝓤 (C #ld) (Load 𝓛 mem run)) (known-co : Triple 𝓤 (C #co) (Core 𝓛 mem run)) (known-th : Triple 𝓤 (C #th) (Task 𝓛 mem run)) (known-pt : Triple 𝓤 (C #pt) (Past 𝓛 mem run)) (known-st : Triple 𝓤 (C #st) (Store 𝓛 mem run)) where
-    walk : ent 𝓤 (on_entry 𝓛 f.signature (κ₁, (κ₂, (κ₇, (κ₃, tt)))) (q₁, (q₂, (q₇, (q₃, tt)))) a vs) (WpFn 𝓤 H C Λ code.function (zv ∷ s₁ ∷ s₂ ∷ s₇ ∷ s₃ ∷ wv ∷ vint w64 w ∷ []) Post)
+    walk : ent 𝓤 (on_entry 𝓛 f.signature (κ₁, (κ₂, (κ₃, tt))) (q₁, (q₂, (q₃, tt))) a vs) (WpFn 𝓤 H C Λ code.function (zv ∷ s₁ ∷ s₂ ∷ s₃ ∷ wv ∷ vint w64 w ∷ []) Post)
     walk =
-        qed 𝓛 ((‵ (flft κ₁ q₁) ⊛ ‵ (flft κ₂ q₂) ⊛ ‵ (flft κ₇ q₇) ⊛ ‵ (flft κ₃ q₃) ⊛ ‵ ftrue) ∷ ‵ (owns (Sz.the_row ∷ MutSlice (named 0) κ₁ f64 ∷ MutSlice (named 1) κ₂ u8 ∷ MutSlice (named 2) κ₇ f64 ∷ MutSlice (named 3) κ₃ T.the_row ∷ Wk.the_row ∷ usize ∷ []) a vs) ∷ []) ∵ enter ! C Λ code.function (zv ∷ s₁ ∷ s₂ ∷ s₇ ∷ s₃ ∷ wv ∷ vint w64 w ∷ []) _ $
-        alloc1 ! (λ l₀. alloc1 ! (λ l₁. alloc1 ! (λ l₂. alloc1 ! (λ l₃. alloc1 ! (λ l₄. alloc1 ! (λ l₅. alloc1 ! (λ l₆. alloc1 ! (λ l₇. alloc1 ! (λ l₈. alloc1 ! (λ l₉. alloc1 ! (λ l₁₀. alloc1 ! (λ l₁₁. alloc1 ! (λ l₁₂. alloc1 ! (λ l₁₃. alloc1 ! (λ l₁₄. alloc1 ! (λ l₁₅. alloc1 ! (λ l₁₆. alloc1 ! (λ l₁₇. alloc1 ! (λ l₁₈. alloc1 ! (λ l₁₉. alloc1 ! (λ l₂₀. alloc1 ! (λ l₂₁. alloc1 ! (λ l₂₂. alloc1 ! (λ l₂₃. alloc1 ! (λ l₂₄. alloc1 ! (λ l₂₅. alloc1 ! (λ l₂₆. alloc1 ! (λ l₂₇. alloc1 ! (λ l₂₈. alloc1 ! (λ l₂₉. alloc1 ! (λ l₃₀. alloc0 ! $ params1 ! $
-        pass1 ! (init ! 58 refl ((LL.lawful Sz.the_type Sz'.the_laws 𝓛).typed z _ z_is).0) $ pass1 ! (init ! 56 refl (tt, (tt, (record { fits = room₁.0 }, tt)))) $ pass1 ! (init ! 54 refl (tt, (tt, (record { fits = room₂.0 }, tt)))) $ pass1 ! (init ! 52 refl (tt, (tt, (record { fits = room₇.0 }, tt)))) $ pass1 ! (init ! 50 refl (tt, (tt, (record { fits = room₃.0 }, tt)))) $ pass1 ! (init ! 48 refl ((LL.lawful Wk.the_type Wk'.the_laws 𝓛).typed wk _ wk-is).0) $ pass1 ! (init ! 46 refl (tt, record { fits = w_Fits })) $ pass0 ! $
+        qed 𝓛 ((‵ (flft κ₁ q₁) ⊛ ‵ (flft κ₂ q₂) ⊛ ‵ (flft κ₃ q₃) ⊛ ‵ ftrue) ∷ ‵ (owns (Sz.the_row ∷ MutSlice (named 0) κ₁ f64 ∷ MutSlice (named 1) κ₂ u8 ∷ MutSlice (named 2) κ₃ T.the_row ∷ Wk.the_row ∷ usize ∷ []) a vs) ∷ []) ∵ enter ! C Λ code.function (zv ∷ s₁ ∷ s₂ ∷ s₃ ∷ wv ∷ vint w64 w ∷ []) _ $
+        alloc1 ! (λ l₀. alloc1 ! (λ l₁. alloc1 ! (λ l₂. alloc1 ! (λ l₃. alloc1 ! (λ l₄. alloc1 ! (λ l₅. alloc1 ! (λ l₆. alloc1 ! (λ l₇. alloc1 ! (λ l₈. alloc1 ! (λ l₉. alloc1 ! (λ l₁₀. alloc1 ! (λ l₁₁. alloc1 ! (λ l₁₂. alloc1 ! (λ l₁₃. alloc1 ! (λ l₁₄. alloc1 ! (λ l₁₅. alloc1 ! (λ l₁₆. alloc1 ! (λ l₁₇. alloc1 ! (λ l₁₈. alloc1 ! (λ l₁₉. alloc1 ! (λ l₂₀. alloc1 ! (λ l₂₁. alloc1 ! (λ l₂₂. alloc1 ! (λ l₂₃. alloc1 ! (λ l₂₄. alloc1 ! (λ l₂₅. alloc1 ! (λ l₂₆. alloc1 ! (λ l₂₇. alloc0 ! $ params1 ! $
+        pass1 ! (init ! 52 refl ((LL.lawful Sz.the_type Sz'.the_laws 𝓛).typed z _ z-is).0) $ pass1 ! (init ! 50 refl (tt, (tt, (record { fits = room₁.0 }, tt)))) $ pass1 ! (init ! 48 refl (tt, (tt, (record { fits = room₂.0 }, tt)))) $ pass1 ! (init ! 46 refl (tt, (tt, (record { fits = room₃.0 }, tt)))) $ pass1 ! (init ! 44 refl ((LL.lawful Wk.the_type Wk'.the_laws 𝓛).typed wk _ wk-is).0) $ pass1 ! (init ! 42 refl (tt, record { fits = w_Fits })) $ pass0 ! $
         -- the tokens and the borrows to the front; then the locals, the last first, each with what says that it dies
-        move ! (63 ∷ []) $ move ! (0 ∷ []) $ fsplit ! $ move ! (1 ∷ []) $ fsplit ! $ move ! (1 ∷ []) $ fsplit ! $ move ! (1 ∷ []) $ fsplit ! $ move ! (1 ∷ []) $ fsplit ! $ move ! (68 ∷ []) $ split ! $ move ! (1 ∷ []) $ split ! $ move ! (1 ∷ []) $ split ! $ move ! (1 ∷ []) $ split ! $ keep ! (4 ∷ 3 ∷ 2 ∷ 0 ∷ 9 ∷ 8 ∷ 7 ∷ 5 ∷ 11 ∷ 12 ∷ 13 ∷ 14 ∷ 15 ∷ 16 ∷ 17 ∷ 18 ∷ 19 ∷ 20 ∷ 21 ∷ 22 ∷ 23 ∷ 24 ∷ 25 ∷ 26 ∷ 27 ∷ 28 ∷ 29 ∷ 30 ∷ 31 ∷ 32 ∷ 33 ∷ 34 ∷ 35 ∷ 36 ∷ 37 ∷ 38 ∷ 39 ∷ 40 ∷ 41 ∷ 42 ∷ 43 ∷ 44 ∷ 45 ∷ 46 ∷ 47 ∷ 48 ∷ 49 ∷ 50 ∷ 51 ∷ 52 ∷ 53 ∷ 54 ∷ 55 ∷ 56 ∷ 57 ∷ 58 ∷ 59 ∷ 60 ∷ 61 ∷ 62 ∷ 63 ∷ 64 ∷ 65 ∷ 66 ∷ 67 ∷ 68 ∷ 69 ∷ 70 ∷ 71 ∷ 72 ∷ []) $
+        move ! (57 ∷ []) $ move ! (0 ∷ []) $ fsplit ! $ move ! (1 ∷ []) $ fsplit ! $ move ! (1 ∷ []) $ fsplit ! $ move ! (1 ∷ []) $ fsplit ! $ move ! (61 ∷ []) $ split ! $ move ! (1 ∷ []) $ split ! $ move ! (1 ∷ []) $ split ! $ keep ! (3 ∷ 2 ∷ 0 ∷ 7 ∷ 6 ∷ 4 ∷ 9 ∷ 10 ∷ 11 ∷ 12 ∷ 13 ∷ 14 ∷ 15 ∷ 16 ∷ 17 ∷ 18 ∷ 19 ∷ 20 ∷ 21 ∷ 22 ∷ 23 ∷ 24 ∷ 25 ∷ 26 ∷ 27 ∷ 28 ∷ 29 ∷ 30 ∷ 31 ∷ 32 ∷ 33 ∷ 34 ∷ 35 ∷ 36 ∷ 37 ∷ 38 ∷ 39 ∷ 40 ∷ 41 ∷ 42 ∷ 43 ∷ 44 ∷ 45 ∷ 46 ∷ 47 ∷ 48 ∷ 49 ∷ 50 ∷ 51 ∷ 52 ∷ 53 ∷ 54 ∷ 55 ∷ 56 ∷ 57 ∷ 58 ∷ 59 ∷ 60 ∷ 61 ∷ 62 ∷ 63 ∷ 64 ∷ []) $
         -- the array is made
         owned ! u8 (Is u8) (uint_Makes 𝓛 w8) 0 (vint w8 0 ∷ []) (refl, lit< tt) $ use1 𝓛 (‵ (B.own (replicate bytes 0) ((array_val (replicate bytes (vint w8 0))) ∷ []))) (Array-repeat 𝓛 u8 (uint_copy 𝓛 w8) bytes 0 (vint w8 0)) $ peeks ! B (Is B) (shows 𝓛 B) (replicate bytes 0) ((array_val (replicate bytes (vint w8 0))) ∷ []) (λ copy.
-        assigns ! (rep ! bytes (lit ! tt)) (from ! (stop !)) (init ! 45 refl ((Array-Lawful 𝓛 u8 (uint_Lawful 𝓛 w8) bytes).typed (replicate bytes 0) _ copy).0) $ use1 𝓛 (‵ (Arr X₀ (array_val (replicate N (array_val (replicate bytes (vint w8 0))))))) (Array-repeat 𝓛 B (array_copy 𝓛 u8 (uint_copy 𝓛 w8) bytes) N (replicate bytes 0) (array_val (replicate bytes (vint w8 0)))) $
-        peeks ! (Array B N) (Is (Array B N)) (shows 𝓛 (Array B N)) X₀ ((array_val (replicate N (array_val (replicate bytes (vint w8 0))))) ∷ []) (λ new. assigns ! (rep ! N (load ! (from ! (stop !)) (look ! 45 refl))) (from ! (stop !)) (init ! 53 refl ((Array-Lawful 𝓛 B (Array-Lawful 𝓛 u8 (uint_Lawful 𝓛 w8) bytes) N).typed X₀ _ new).0) $
+        assigns ! (rep ! bytes (lit ! tt)) (from ! (stop !)) (init ! 39 refl ((Array-Lawful 𝓛 u8 (uint_Lawful 𝓛 w8) bytes).typed (replicate bytes 0) _ copy).0) $ use1 𝓛 (‵ (Arr X₀ (array_val (replicate N (array_val (replicate bytes (vint w8 0))))))) (Array-repeat 𝓛 B (array_copy 𝓛 u8 (uint_copy 𝓛 w8) bytes) N (replicate bytes 0) (array_val (replicate bytes (vint w8 0)))) $
+        peeks ! (Array B N) (Is (Array B N)) (shows 𝓛 (Array B N)) X₀ ((array_val (replicate N (array_val (replicate bytes (vint w8 0))))) ∷ []) (λ new. assigns ! (rep ! N (load ! (from ! (stop !)) (look ! 39 refl))) (from ! (stop !)) (init ! 47 refl ((Array-Lawful 𝓛 B (Array-Lawful 𝓛 u8 (uint_Lawful 𝓛 w8) bytes) N).typed X₀ _ new).0) $
         -- how many records are copied
-        assigns ! (of_opd ! (load ! (from ! (fld ! refl (stop !))) (look_in ! 59 (sub ! 1 refl (all_of !))))) (from ! (stop !)) (init ! 43 refl (tt, record { fits = room₃.0 })) $
-        nothing ! $ use1 𝓛 (raw ((Look 𝓛 mem run).pre to_lk)) (goes_lk) $ calls_at ! fm (Look 𝓛 mem run) known-lk to_lk (and_then ! (load ! (from ! (stop !)) (look ! 44 refl)) (no_more !)) (λ w₀.
+        assigns ! (of_opd ! (load ! (from ! (fld ! refl (stop !))) (look_in ! 53 (sub ! 1 refl (all_of !))))) (from ! (stop !)) (init ! 37 refl (tt, record { fits = room₃.0 })) $
+        nothing ! $ use1 𝓛 (raw ((Look 𝓛 mem run).pre to_lk)) (goes_lk) $ calls_at ! fm (Look 𝓛 mem run) known-lk to_lk (and_then ! (load ! (from ! (stop !)) (look ! 38 refl)) (no_more !)) (λ w₀.
         use1 𝓛 (later (some (λ (t : ℕ). (‵ ftrue ⊛ ‵ (usize.own_val t (w₀ ∷ []))) ⊛ raw (ensured 𝓛 lk.ended (lk.clauses 𝓛 mem run) tt (length ys, tt) tt t)))) (id⊢ 𝓤 _) $ await ! tt $ pick ! (λ t₀. split ! $ move ! (1 ∷ []) $ use1 𝓛 (raw (fact 𝓤 (t₀ ≡ n))) (said_lk t₀) $ heard ! (t₀ ≡ n) (λ e₀. split ! $ rewrite ! 1 (λ (h : ℕ). ‵ (usize.own_val h (w₀ ∷ []))) e₀ refl $ move ! (1 ∷ []) $ peeks ! usize (Is usize) (shows 𝓛 usize) (n) (w₀ ∷ []) (λ is₀.
-        land ! (from ! (stop !)) (init ! 53 refl (word_typed (n) w₀ is₀)) $ rewrite ! 53 (λ (v : Val). ‵ (fat full_share (ty_int w64) l₉ 0 v)) (ap only (uint_Tells w64 (n) (w₀ ∷ []) is₀)) refl $ drop ! $ drop ! $
+        land ! (from ! (stop !)) (init ! 47 refl (word_typed (n) w₀ is₀)) $ rewrite ! 47 (λ (v : Val). ‵ (fat full_share (ty_int w64) l₈ 0 v)) (ap only (uint_Tells w64 (n) (w₀ ∷ []) is₀)) refl $ drop ! $ drop ! $
         -- `load`: the array is lent for ν, and the records as a `&` for μ
-        assigns ! (addr ! (from ! (fld ! refl (hop ! (look_in ! 59 (sub ! 0 refl (all_of !))) (stop !))))) (from ! (stop !)) (init ! 39 refl (tt, tt)) $
-        assigns ! (agg ! (and_then ! (load ! (from ! (stop !)) (look ! 39 refl)) (and_then ! (load ! (from ! (fld ! refl (stop !))) (look_in ! 59 (sub ! 1 refl (all_of !)))) (no_more !)))) (from ! (stop !)) (init ! 37 refl (tt, (tt, (record { fits = room₃.0 }, tt)))) $
-        assigns ! (addr ! (from ! (stop !))) (from ! (stop !)) (init ! 35 refl (tt, tt)) $ assigns ! (agg ! (and_then ! (load ! (from ! (stop !)) (look ! 35 refl)) (and_then ! (big ! (record { fits = room.0 })) (no_more !)))) (from ! (stop !)) (init ! 33 refl (tt, (tt, (record { fits = room.0 }, tt)))) $
-        lft_new ! tt (λ ν. move ! (54 ∷ 1 ∷ []) $
-        use2 𝓛 (later (some (λ (ε : GName). ‵ (Mut l₈ ν ε X₀) ⊛ ‵ (flent (ν ∷ []) (Held B N l₈ 0 ε))))) (lends_local B tt byte_vals byte_tells N 𝓛 (named 1) (ν ∷ []) X₀ _ l₈ room) $ await ! tt $ pick ! (λ ε. split ! $
-        lft_new ! tt (λ μ. move ! (11 ∷ 7 ∷ []) $ use2 𝓛 (later (some (λ (δ : GName). ‵ (Shr μ δ) ⊛ ‵ (Shared T.the_row κ₃ (μ ∷ []) q₃ γ₃ b₃ o₃ ys)))) (shares_again T.the_row κ₃ (μ ∷ []) q₃ γ₃ b₃ o₃ ys 𝓛 (named 3) (named 0)) $ await ! tt $ pick ! (λ δ. split ! $
-        move ! (2 ∷ 5 ∷ []) $ join ! $ move ! (0 ∷ 1 ∷ 3 ∷ []) $ use3 𝓛 (raw ((Load 𝓛 mem run).pre (to_ld l₈ μ ν δ ε))) (goes_ld l₈ μ ν δ ε) $ calls_at ! fm (Load 𝓛 mem run) known-ld (to_ld l₈ μ ν δ ε) (and_then ! (load ! (from ! (stop !)) (look ! 37 refl)) (and_then ! (load ! (from ! (stop !)) (look ! 33 refl)) (and_then ! (load ! (from ! (stop !)) (look ! 51 refl)) (no_more !)))) (λ w₁.
-        use1 𝓛 (later (some (λ (t : Unit {0}). ((‵ (flft (μ ∷ []) full_share) ⊛ ‵ (flft (ν ∷ []) full_share) ⊛ ‵ ftrue) ⊛ ‵ (unit.own_val t (w₁ ∷ []))) ⊛ raw (ensured 𝓛 ld.ended (ld.clauses 𝓛 mem run) (μ ∷ [], (ν ∷ [], tt)) (rs δ, (fl l₈ ε X₀, (n, tt))) tt t)))) (id⊢ 𝓤 _) $ await ! tt $ pick ! (λ t₁. split ! $ move ! (1 ∷ []) $
-        use1 𝓛 (some (λ (ws : Unit {0} × (List (List ℕ) × (Unit {0} × Unit {0}))). ‵ (lasts ld.ended (μ ∷ [], (ν ∷ [], tt)) (rs δ, (fl l₈ ε X₀, (n, tt))) ws) ⊛ raw (fact 𝓤 (Loaded ws.1.0)))) (id⊢ 𝓤 _) $ pick ! (λ ws₁. split ! $ move ! (1 ∷ []) $ heard ! (Loaded ws₁.1.0) (λ e₁.
-        fsplit ! $ drop ! $ fsplit ! $ fsplit ! $ move ! (1 ∷ []) $ feq_l ! (λ same₀. move ! (1 ∷ []) $ drop ! $ move ! (1 ∷ []) $ split ! $ move ! (1 ∷ []) $ feq_l ! (λ is₁. land ! (from ! (stop !)) (init ! 42 refl (unit_typed w₁ is₁)) $
-        move ! (0 ∷ []) $ split3 ! $ lft_end ! tt $ move ! (0 ∷ 4 ∷ []) $ use2 𝓛 (later (‵ Rec ⊛ ‵ (flft κ₃ q₃))) (shared_back T.the_row κ₃ (μ ∷ []) q₃ γ₃ b₃ o₃ ys 𝓛 (named 3) (named 0) room₃) $ await ! tt $ split ! $
-        move ! (2 ∷ []) $ lft_end ! tt $ move ! (0 ∷ 5 ∷ 4 ∷ []) $ use3 𝓛 (later (‵ (Cell l₈ (copies_val ws₁.1.0)) ⊛ ‵ (Arr ws₁.1.0 (copies_val ws₁.1.0)))) (local_back B tt byte_vals byte_tells N 𝓛 (ν ∷ []) ε ws₁.1.0 l₈) $ await ! tt $ split ! $
+        assigns ! (addr ! (from ! (fld ! refl (hop ! (look_in ! 53 (sub ! 0 refl (all_of !))) (stop !))))) (from ! (stop !)) (init ! 33 refl (tt, tt)) $
+        assigns ! (agg ! (and_then ! (load ! (from ! (stop !)) (look ! 33 refl)) (and_then ! (load ! (from ! (fld ! refl (stop !))) (look_in ! 53 (sub ! 1 refl (all_of !)))) (no_more !)))) (from ! (stop !)) (init ! 31 refl (tt, (tt, (record { fits = room₃.0 }, tt)))) $
+        assigns ! (addr ! (from ! (stop !))) (from ! (stop !)) (init ! 29 refl (tt, tt)) $ assigns ! (agg ! (and_then ! (load ! (from ! (stop !)) (look ! 29 refl)) (and_then ! (big ! (record { fits = room.0 })) (no_more !)))) (from ! (stop !)) (init ! 27 refl (tt, (tt, (record { fits = room.0 }, tt)))) $
+        lft_new ! tt (λ ν. move ! (48 ∷ 1 ∷ []) $
+        use2 𝓛 (later (some (λ (ε : GName). ‵ (Mut l₇ ν ε X₀) ⊛ ‵ (flent (ν ∷ []) (Held B N l₇ 0 ε))))) (lends_local B tt byte_vals byte_tells N 𝓛 (named 1) (ν ∷ []) X₀ _ l₇ room) $ await ! tt $ pick ! (λ ε. split ! $
+        lft_new ! tt (λ μ. move ! (9 ∷ 6 ∷ []) $ use2 𝓛 (later (some (λ (δ : GName). ‵ (Shr μ δ) ⊛ ‵ (Shared T.the_row κ₃ (μ ∷ []) q₃ γ₃ b₃ o₃ ys)))) (shares_again T.the_row κ₃ (μ ∷ []) q₃ γ₃ b₃ o₃ ys 𝓛 (named 2) (named 0)) $ await ! tt $ pick ! (λ δ. split ! $
+        move ! (2 ∷ 5 ∷ []) $ join ! $ move ! (0 ∷ 1 ∷ 3 ∷ []) $ use3 𝓛 (raw ((Load 𝓛 mem run).pre (to_ld l₇ μ ν δ ε))) (goes_ld l₇ μ ν δ ε) $ calls_at ! fm (Load 𝓛 mem run) known-ld (to_ld l₇ μ ν δ ε) (and_then ! (load ! (from ! (stop !)) (look ! 31 refl)) (and_then ! (load ! (from ! (stop !)) (look ! 27 refl)) (and_then ! (load ! (from ! (stop !)) (look ! 45 refl)) (no_more !)))) (λ w₁.
+        use1 𝓛 (later (some (λ (t : Unit {0}). ((‵ (flft (μ ∷ []) full_share) ⊛ ‵ (flft (ν ∷ []) full_share) ⊛ ‵ ftrue) ⊛ ‵ (unit.own_val t (w₁ ∷ []))) ⊛ raw (ensured 𝓛 ld.ended (ld.clauses 𝓛 mem run) (μ ∷ [], (ν ∷ [], tt)) (rs δ, (fl l₇ ε X₀, (n, tt))) tt t)))) (id⊢ 𝓤 _) $ await ! tt $ pick ! (λ t₁. split ! $ move ! (1 ∷ []) $
+        use1 𝓛 (some (λ (ws : Unit {0} × (List (List ℕ) × (Unit {0} × Unit {0}))). ‵ (lasts ld.ended (μ ∷ [], (ν ∷ [], tt)) (rs δ, (fl l₇ ε X₀, (n, tt))) ws) ⊛ raw (fact 𝓤 (Loaded ws.1.0)))) (id⊢ 𝓤 _) $ pick ! (λ ws₁. split ! $ move ! (1 ∷ []) $ heard ! (Loaded ws₁.1.0) (λ e₁.
+        fsplit ! $ drop ! $ fsplit ! $ fsplit ! $ move ! (1 ∷ []) $ feq_l ! (λ same₀. move ! (1 ∷ []) $ drop ! $ move ! (1 ∷ []) $ split ! $ move ! (1 ∷ []) $ feq_l ! (λ is₁. land ! (from ! (stop !)) (init ! 36 refl (unit_typed w₁ is₁)) $
+        move ! (0 ∷ []) $ split3 ! $ lft_end ! tt $ move ! (0 ∷ 4 ∷ []) $ use2 𝓛 (later (‵ Rec ⊛ ‵ (flft κ₃ q₃))) (shared_back T.the_row κ₃ (μ ∷ []) q₃ γ₃ b₃ o₃ ys 𝓛 (named 2) (named 0) room₃) $ await ! tt $ split ! $
+        move ! (2 ∷ []) $ lft_end ! tt $ move ! (0 ∷ 5 ∷ 4 ∷ []) $ use3 𝓛 (later (‵ (Cell l₇ (copies_val ws₁.1.0)) ⊛ ‵ (Arr ws₁.1.0 (copies_val ws₁.1.0)))) (local_back B tt byte_vals byte_tells N 𝓛 (ν ∷ []) ε ws₁.1.0 l₇) $ await ! tt $ split ! $
         -- `column_part`: the array is lent for ν
-        assigns ! (addr ! (from ! (fld ! refl (hop ! (look_in ! 66 (sub ! 0 refl (all_of !))) (stop !))))) (from ! (stop !)) (init ! 33 refl (tt, tt)) $
-        assigns ! (agg ! (and_then ! (load ! (from ! (stop !)) (look ! 33 refl)) (and_then ! (load ! (from ! (fld ! refl (stop !))) (look_in ! 66 (sub ! 1 refl (all_of !)))) (no_more !)))) (from ! (stop !)) (init ! 31 refl (tt, (tt, (record { fits = room₁.0 }, tt)))) $
-        assigns ! (addr ! (from ! (fld ! refl (hop ! (look_in ! 64 (sub ! 0 refl (all_of !))) (stop !))))) (from ! (stop !)) (init ! 29 refl (tt, tt)) $
-        assigns ! (agg ! (and_then ! (load ! (from ! (stop !)) (look ! 29 refl)) (and_then ! (load ! (from ! (fld ! refl (stop !))) (look_in ! 64 (sub ! 1 refl (all_of !)))) (no_more !)))) (from ! (stop !)) (init ! 27 refl (tt, (tt, (record { fits = room₂.0 }, tt)))) $
-        assigns ! (addr ! (from ! (fld ! refl (hop ! (look_in ! 62 (sub ! 0 refl (all_of !))) (stop !))))) (from ! (stop !)) (init ! 25 refl (tt, tt)) $
-        assigns ! (agg ! (and_then ! (load ! (from ! (stop !)) (look ! 25 refl)) (and_then ! (load ! (from ! (fld ! refl (stop !))) (look_in ! 62 (sub ! 1 refl (all_of !)))) (no_more !)))) (from ! (stop !)) (init ! 23 refl (tt, (tt, (record { fits = room₇.0 }, tt)))) $
-        assigns ! (addr ! (from ! (stop !))) (from ! (stop !)) (init ! 21 refl (tt, tt)) $ assigns ! (agg ! (and_then ! (load ! (from ! (stop !)) (look ! 21 refl)) (and_then ! (big ! (record { fits = room.0 })) (no_more !)))) (from ! (stop !)) (init ! 19 refl (tt, (tt, (record { fits = room.0 }, tt)))) $
+        assigns ! (addr ! (from ! (fld ! refl (hop ! (look_in ! 58 (sub ! 0 refl (all_of !))) (stop !))))) (from ! (stop !)) (init ! 27 refl (tt, tt)) $
+        assigns ! (agg ! (and_then ! (load ! (from ! (stop !)) (look ! 27 refl)) (and_then ! (load ! (from ! (fld ! refl (stop !))) (look_in ! 58 (sub ! 1 refl (all_of !)))) (no_more !)))) (from ! (stop !)) (init ! 25 refl (tt, (tt, (record { fits = room₁.0 }, tt)))) $
+        assigns ! (addr ! (from ! (fld ! refl (hop ! (look_in ! 56 (sub ! 0 refl (all_of !))) (stop !))))) (from ! (stop !)) (init ! 23 refl (tt, tt)) $
+        assigns ! (agg ! (and_then ! (load ! (from ! (stop !)) (look ! 23 refl)) (and_then ! (load ! (from ! (fld ! refl (stop !))) (look_in ! 56 (sub ! 1 refl (all_of !)))) (no_more !)))) (from ! (stop !)) (init ! 21 refl (tt, (tt, (record { fits = room₂.0 }, tt)))) $
+        assigns ! (addr ! (from ! (stop !))) (from ! (stop !)) (init ! 19 refl (tt, tt)) $ assigns ! (agg ! (and_then ! (load ! (from ! (stop !)) (look ! 19 refl)) (and_then ! (big ! (record { fits = room.0 })) (no_more !)))) (from ! (stop !)) (init ! 17 refl (tt, (tt, (record { fits = room.0 }, tt)))) $
         move ! (1 ∷ []) $ peeks ! (Array B N) (Is (Array B N)) (shows 𝓛 (Array B N)) ws₁.1.0 (copies_val ws₁.1.0 ∷ []) (λ good₁. lft_new ! tt (λ ν. move ! (2 ∷ 1 ∷ []) $
-        use2 𝓛 (later (some (λ (ε : GName). ‵ (Mut₂ l₈ ν ε ws₁.1.0) ⊛ ‵ (flent (ν ∷ []) (Held B N l₈ 0 ε))))) (lends_local B tt byte_vals byte_tells N 𝓛 (named 3) (ν ∷ []) ws₁.1.0 _ l₈ room) $ await ! tt $ pick ! (λ ε. split ! $
-        move ! (8 ∷ 2 ∷ []) $ join ! $ move ! (7 ∷ 0 ∷ []) $ join ! $ move ! (6 ∷ 0 ∷ []) $ join ! $ move ! (7 ∷ 8 ∷ []) $ join ! $ move ! (7 ∷ 0 ∷ []) $ join ! $ move ! (1 ∷ 0 ∷ 2 ∷ []) $
-        use3 𝓛 (raw ((Core 𝓛 mem run).pre (to_co l₈ ν ε ws₁.1.0))) (goes_co l₈ ν ε ws₁.1.0 good₁.1.0.1) $ calls_at ! fm (Core 𝓛 mem run) known-co (to_co l₈ ν ε ws₁.1.0) (and_then ! (load ! (from ! (stop !)) (look ! 62 refl)) (and_then ! (load ! (from ! (stop !)) (look ! 25 refl)) (and_then ! (load ! (from ! (stop !)) (look ! 21 refl)) (and_then ! (load ! (from ! (stop !)) (look ! 17 refl)) (and_then ! (load ! (from ! (stop !)) (look ! 13 refl)) (and_then ! (load ! (from ! (stop !)) (look ! 47 refl)) (and_then ! (load ! (from ! (stop !)) (look ! 52 refl)) (and_then ! (load ! (from ! (stop !)) (look ! 50 refl)) (no_more !))))))))) (λ w₂.
-        use1 𝓛 (later (some (λ (t : CallReply). ((‵ (flft κ₁ q₁) ⊛ ‵ (flft κ₂ q₂) ⊛ ‵ (flft κ₇ q₇) ⊛ ‵ (flft (ν ∷ []) full_share) ⊛ ‵ ftrue) ⊛ ‵ ((Rp.the_row).own_val t (w₂ ∷ []))) ⊛ raw (ensured 𝓛 co.ended (co.clauses 𝓛 mem run) (κ₁, (κ₂, (κ₇, (ν ∷ [], tt)))) (z, (m, (ll, (sr, (fl l₈ ε ws₁.1.0, (n, (wk, (w, tt)))))))) tt t)))) (id⊢ 𝓤 _) $ await ! tt $ pick ! (λ t₂. split ! $ move ! (1 ∷ []) $
-        use1 𝓛 (some (λ (ws : Unit {0} × (List Float × (List ℕ × (List Float × (List (List ℕ) × (Unit {0} × (Unit {0} × (Unit {0} × Unit {0})))))))). ‵ (lasts co.ended (κ₁, (κ₂, (κ₇, (ν ∷ [], tt)))) (z, (m, (ll, (sr, (fl l₈ ε ws₁.1.0, (n, (wk, (w, tt)))))))) ws) ⊛ raw (fact 𝓤 (Told ws₁.1.0 t₂ ws.1.0 ws.1.1.0 ws.1.1.1.0 ws.1.1.1.1.0)))) (id⊢ 𝓤 _) $ pick ! (λ ws₂. split ! $ move ! (1 ∷ []) $ heard ! (Told ws₁.1.0 t₂ ws₂.1.0 ws₂.1.1.0 ws₂.1.1.1.0 ws₂.1.1.1.1.0) (λ e₂.
-        fsplit ! $ drop ! $ move ! (0 ∷ []) $ fsplit ! $ fsplit ! $ move ! (1 ∷ []) $ feq_l ! (λ sameM. move ! (1 ∷ []) $ fsplit ! $ fsplit ! $ move ! (1 ∷ []) $ feq_l ! (λ sameL. move ! (1 ∷ []) $ fsplit ! $ fsplit ! $ move ! (1 ∷ []) $ feq_l ! (λ sameS. move ! (1 ∷ []) $ fsplit ! $ fsplit ! $ move ! (1 ∷ []) $ feq_l ! (λ sameX. move ! (1 ∷ []) $ drop ! $
-        move ! (4 ∷ []) $ split ! $ move ! (1 ∷ []) $ peeks ! Rp.the_row (Is Rp.the_row) (shows 𝓛 Rp.the_row) t₂ (w₂ ∷ []) (λ is₂.
-        land ! (from ! (stop !)) (init ! 50 refl ((LL.lawful Rp.the_type Rp'.the_laws 𝓛).typed t₂ _ is₂).0) $
-        move ! (1 ∷ []) $ split ! $ move ! (1 ∷ []) $ split ! $ move ! (1 ∷ []) $ split3 ! $ move ! (1 ∷ []) $ lft_end ! tt $ move ! (0 ∷ 10 ∷ 6 ∷ []) $ use3 𝓛 (later (‵ (Cell l₈ (copies_val ws₂.1.1.1.1.0)) ⊛ ‵ (Arr ws₂.1.1.1.1.0 (copies_val ws₂.1.1.1.1.0)))) (local_back B tt byte_vals byte_tells N 𝓛 (ν ∷ []) ε ws₂.1.1.1.1.0 l₈) $ await ! tt $ split ! $
-        nothing ! $ use1 𝓛 (raw ((Task 𝓛 mem run).pre to_th)) (goes_th) $ calls_at ! fm (Task 𝓛 mem run) known-th to_th (and_then ! (load ! (from ! (stop !)) (look ! 61 refl)) (and_then ! (load ! (from ! (stop !)) (look ! 59 refl)) (no_more !))) (λ w₅.
+        use2 𝓛 (later (some (λ (ε : GName). ‵ (Mut₂ l₇ ν ε ws₁.1.0) ⊛ ‵ (flent (ν ∷ []) (Held B N l₇ 0 ε))))) (lends_local B tt byte_vals byte_tells N 𝓛 (named 2) (ν ∷ []) ws₁.1.0 _ l₇ room) $ await ! tt $ pick ! (λ ε. split ! $
+        move ! (7 ∷ 2 ∷ []) $ join ! $ move ! (6 ∷ 0 ∷ []) $ join ! $ move ! (6 ∷ 7 ∷ []) $ join ! $ move ! (1 ∷ 0 ∷ 2 ∷ []) $
+        use3 𝓛 (raw ((Core 𝓛 mem run).pre (to_co l₇ ν ε ws₁.1.0))) (goes_co l₇ ν ε ws₁.1.0 good₁.1.0.1) $ calls_at ! fm (Core 𝓛 mem run) known-co (to_co l₇ ν ε ws₁.1.0) (and_then ! (load ! (from ! (stop !)) (look ! 56 refl)) (and_then ! (load ! (from ! (stop !)) (look ! 21 refl)) (and_then ! (load ! (from ! (stop !)) (look ! 17 refl)) (and_then ! (load ! (from ! (stop !)) (look ! 13 refl)) (and_then ! (load ! (from ! (stop !)) (look ! 43 refl)) (and_then ! (load ! (from ! (stop !)) (look ! 48 refl)) (and_then ! (load ! (from ! (stop !)) (look ! 46 refl)) (no_more !)))))))) (λ w₂.
+        use1 𝓛 (later (some (λ (t : CallReply). ((‵ (flft κ₁ q₁) ⊛ ‵ (flft κ₂ q₂) ⊛ ‵ (flft (ν ∷ []) full_share) ⊛ ‵ ftrue) ⊛ ‵ ((Rp.the_row).own_val t (w₂ ∷ []))) ⊛ raw (ensured 𝓛 co.ended (co.clauses 𝓛 mem run) (κ₁, (κ₂, (ν ∷ [], tt))) (z, (m, (ll, (fl l₇ ε ws₁.1.0, (n, (wk, (w, tt))))))) tt t)))) (id⊢ 𝓤 _) $ await ! tt $ pick ! (λ t₂. split ! $ move ! (1 ∷ []) $
+        use1 𝓛 (some (λ (ws : Unit {0} × (List Float × (List ℕ × (List (List ℕ) × (Unit {0} × (Unit {0} × (Unit {0} × Unit {0}))))))). ‵ (lasts co.ended (κ₁, (κ₂, (ν ∷ [], tt))) (z, (m, (ll, (fl l₇ ε ws₁.1.0, (n, (wk, (w, tt))))))) ws) ⊛ raw (fact 𝓤 (Told ws₁.1.0 t₂ ws.1.0 ws.1.1.0 ws.1.1.1.0)))) (id⊢ 𝓤 _) $ pick ! (λ ws₂. split ! $ move ! (1 ∷ []) $ heard ! (Told ws₁.1.0 t₂ ws₂.1.0 ws₂.1.1.0 ws₂.1.1.1.0) (λ e₂.
+        fsplit ! $ drop ! $ move ! (0 ∷ []) $ fsplit ! $ fsplit ! $ move ! (1 ∷ []) $ feq_l ! (λ sameM. move ! (1 ∷ []) $ fsplit ! $ fsplit ! $ move ! (1 ∷ []) $ feq_l ! (λ sameL. move ! (1 ∷ []) $ fsplit ! $ fsplit ! $ move ! (1 ∷ []) $ feq_l ! (λ sameX. move ! (1 ∷ []) $ drop ! $
+        move ! (3 ∷ []) $ split ! $ move ! (1 ∷ []) $ peeks ! Rp.the_row (Is Rp.the_row) (shows 𝓛 Rp.the_row) t₂ (w₂ ∷ []) (λ is₂.
+        land ! (from ! (stop !)) (init ! 45 refl ((LL.lawful Rp.the_type Rp'.the_laws 𝓛).typed t₂ _ is₂).0) $
+        move ! (1 ∷ []) $ split ! $ move ! (1 ∷ []) $ split3 ! $ move ! (1 ∷ []) $ lft_end ! tt $ move ! (0 ∷ 8 ∷ 5 ∷ []) $ use3 𝓛 (later (‵ (Cell l₇ (copies_val ws₂.1.1.1.0)) ⊛ ‵ (Arr ws₂.1.1.1.0 (copies_val ws₂.1.1.1.0)))) (local_back B tt byte_vals byte_tells N 𝓛 (ν ∷ []) ε ws₂.1.1.1.0 l₇) $ await ! tt $ split ! $
+        nothing ! $ use1 𝓛 (raw ((Task 𝓛 mem run).pre to_th)) (goes_th) $ calls_at ! fm (Task 𝓛 mem run) known-th to_th (and_then ! (load ! (from ! (stop !)) (look ! 55 refl)) (and_then ! (load ! (from ! (stop !)) (look ! 53 refl)) (no_more !))) (λ w₅.
         use1 𝓛 (later (some (λ (t : ℕ). (‵ ftrue ⊛ ‵ (usize.own_val t (w₅ ∷ []))) ⊛ raw (ensured 𝓛 th.ended (th.clauses 𝓛 mem run) tt (wk, (w, tt)) tt t)))) (id⊢ 𝓤 _) $ await ! tt $ pick ! (λ t₅. split ! $ move ! (1 ∷ []) $ use1 𝓛 (raw (fact 𝓤 (t₅ ≡ p))) (said_th t₅) $ heard ! (t₅ ≡ p) (λ e₅. split ! $ rewrite ! 1 (λ (h : ℕ). ‵ (usize.own_val h (w₅ ∷ []))) e₅ refl $ move ! (1 ∷ []) $ peeks ! usize (Is usize) (shows 𝓛 usize) (p) (w₅ ∷ []) (λ is₅.
-        land ! (from ! (stop !)) (init ! 53 refl (word_typed (p) w₅ is₅)) $ rewrite ! 53 (λ (v : Val). ‵ (fat full_share (ty_int w64) l₁₁ 0 v)) (ap only (uint_Tells w64 (p) (w₅ ∷ []) is₅)) refl $ drop ! $ drop ! $
+        land ! (from ! (stop !)) (init ! 47 refl (word_typed (p) w₅ is₅)) $ rewrite ! 47 (λ (v : Val). ‵ (fat full_share (ty_int w64) l₁₀ 0 v)) (ap only (uint_Tells w64 (p) (w₅ ∷ []) is₅)) refl $ drop ! $ drop ! $
         -- `store`: the records go on at their own lifetime, and the array is lent as a `&` for ν
-        assigns ! (addr ! (from ! (fld ! refl (hop ! (look_in ! 62 (sub ! 0 refl (all_of !))) (stop !))))) (from ! (stop !)) (init ! 19 refl (tt, tt)) $
-        assigns ! (agg ! (and_then ! (load ! (from ! (stop !)) (look ! 19 refl)) (and_then ! (load ! (from ! (fld ! refl (stop !))) (look_in ! 62 (sub ! 1 refl (all_of !)))) (no_more !)))) (from ! (stop !)) (init ! 17 refl (tt, (tt, (record { fits = room₃.0 }, tt)))) $
-        assigns ! (addr ! (from ! (stop !))) (from ! (stop !)) (init ! 15 refl (tt, tt)) $ assigns ! (agg ! (and_then ! (load ! (from ! (stop !)) (look ! 15 refl)) (and_then ! (big ! (record { fits = room.0 })) (no_more !)))) (from ! (stop !)) (init ! 13 refl (tt, (tt, (record { fits = room.0 }, tt)))) $
-        nothing ! $ use1 𝓛 (raw ((Past 𝓛 mem run).pre to_pt)) (goes_pt is₅.1) $ calls_at ! fm (Past 𝓛 mem run) known-pt to_pt (and_then ! (load ! (from ! (stop !)) (look ! 52 refl)) (and_then ! (load ! (from ! (stop !)) (look ! 56 refl)) (no_more !))) (λ w₄.
+        assigns ! (addr ! (from ! (fld ! refl (hop ! (look_in ! 56 (sub ! 0 refl (all_of !))) (stop !))))) (from ! (stop !)) (init ! 17 refl (tt, tt)) $
+        assigns ! (agg ! (and_then ! (load ! (from ! (stop !)) (look ! 17 refl)) (and_then ! (load ! (from ! (fld ! refl (stop !))) (look_in ! 56 (sub ! 1 refl (all_of !)))) (no_more !)))) (from ! (stop !)) (init ! 15 refl (tt, (tt, (record { fits = room₃.0 }, tt)))) $
+        assigns ! (addr ! (from ! (stop !))) (from ! (stop !)) (init ! 13 refl (tt, tt)) $ assigns ! (agg ! (and_then ! (load ! (from ! (stop !)) (look ! 13 refl)) (and_then ! (big ! (record { fits = room.0 })) (no_more !)))) (from ! (stop !)) (init ! 11 refl (tt, (tt, (record { fits = room.0 }, tt)))) $
+        nothing ! $ use1 𝓛 (raw ((Past 𝓛 mem run).pre to_pt)) (goes_pt is₅.1) $ calls_at ! fm (Past 𝓛 mem run) known-pt to_pt (and_then ! (load ! (from ! (stop !)) (look ! 46 refl)) (and_then ! (load ! (from ! (stop !)) (look ! 50 refl)) (no_more !))) (λ w₄.
         use1 𝓛 (later (some (λ (t : ℕ). (‵ ftrue ⊛ ‵ (usize.own_val t (w₄ ∷ []))) ⊛ raw (ensured 𝓛 pt.ended (pt.clauses 𝓛 mem run) tt (p, (n, tt)) tt t)))) (id⊢ 𝓤 _) $ await ! tt $ pick ! (λ t₄. split ! $ move ! (1 ∷ []) $ use1 𝓛 (raw (fact 𝓤 (t₄ ≡ past_p))) (said_pt t₄) $ heard ! (t₄ ≡ past_p) (λ e₄. split ! $ rewrite ! 1 (λ (h : ℕ). ‵ (usize.own_val h (w₄ ∷ []))) e₄ refl $ move ! (1 ∷ []) $ peeks ! usize (Is usize) (shows 𝓛 usize) (past_p) (w₄ ∷ []) (λ is₄.
-        land ! (from ! (stop !)) (store ! 49 refl (word_typed (past_p) w₄ is₄)) $ rewrite ! 49 (λ (v : Val). ‵ (fat full_share (ty_int w64) l₁₃ 0 v)) (ap only (uint_Tells w64 (past_p) (w₄ ∷ []) is₄)) refl $ drop ! $ drop ! $
-        move ! (1 ∷ []) $ peeks ! (Array B N) (Is (Array B N)) (shows 𝓛 (Array B N)) ws₂.1.1.1.1.0 (copies_val ws₂.1.1.1.1.0 ∷ []) (λ good₂. lft_new ! tt (λ ν. move ! (2 ∷ 1 ∷ []) $
-        use2 𝓛 (later (some (λ (ε : GName). ‵ (Imm l₈ ν ε ws₂.1.1.1.1.0) ⊛ ‵ (flent (ν ∷ []) ((arr_parts (shares B) N).part full_share ws₂.1.1.1.1.0 l₈ 0))))) (shares_local B tt byte_vals byte_tells N 𝓛 (named 1) (ν ∷ []) ws₂.1.1.1.1.0 _ l₈ room) $ await ! tt $ pick ! (λ ε. split ! $
-        move ! (12 ∷ 2 ∷ []) $ join ! $ move ! (0 ∷ 11 ∷ 1 ∷ []) $ use3 𝓛 (raw ((Store 𝓛 mem run).pre (to_st l₈ ν ε ws₂.1.1.1.1.0))) (goes_st is₅.1 l₈ ν ε ws₂.1.1.1.1.0 good₂.1.0.1) $ calls_at ! fm (Store 𝓛 mem run) known-st (to_st l₈ ν ε ws₂.1.1.1.1.0) (and_then ! (load ! (from ! (stop !)) (look ! 15 refl)) (and_then ! (load ! (from ! (stop !)) (look ! 11 refl)) (and_then ! (load ! (from ! (stop !)) (look ! 49 refl)) (and_then ! (load ! (from ! (stop !)) (look ! 45 refl)) (no_more !))))) (λ w₃.
-        use1 𝓛 (later (some (λ (t : Unit {0}). ((‵ (flft κ₃ q₃) ⊛ ‵ (flft (ν ∷ []) full_share) ⊛ ‵ ftrue) ⊛ ‵ (unit.own_val t (w₃ ∷ []))) ⊛ raw (ensured 𝓛 st.ended (st.clauses 𝓛 mem run) (κ₃, (ν ∷ [], tt)) (rs γ₃, (fl l₈ ε ws₂.1.1.1.1.0, (p, (past_p, tt)))) tt t)))) (id⊢ 𝓤 _) $ await ! tt $ pick ! (λ t₃. split ! $ move ! (1 ∷ []) $
-        use1 𝓛 (some (λ (zs : List TaskRecord × (Unit {0} × (Unit {0} × (Unit {0} × Unit {0})))). ‵ (lasts st.ended (κ₃, (ν ∷ [], tt)) (rs γ₃, (fl l₈ ε ws₂.1.1.1.1.0, (p, (past_p, tt)))) zs) ⊛ raw (fact 𝓤 (Stored ws₂.1.1.1.1.0 zs.0)))) (id⊢ 𝓤 _) $ pick ! (λ zs. split ! $ move ! (1 ∷ []) $ heard ! (Stored ws₂.1.1.1.1.0 zs.0) (λ e₃.
-        fsplit ! $ fsplit ! $ move ! (1 ∷ []) $ feq_l ! (λ sameR. move ! (1 ∷ []) $ drop ! $ move ! (1 ∷ []) $ split ! $ move ! (1 ∷ []) $ feq_l ! (λ is₃. land ! (from ! (stop !)) (store ! 44 refl (unit_typed w₃ is₃)) $
-        move ! (0 ∷ []) $ split3 ! $ move ! (1 ∷ []) $ lft_end ! tt $ move ! (0 ∷ 4 ∷ []) $ use2 𝓛 (later (‵ (Cell l₈ (copies_val ws₂.1.1.1.1.0)) ⊛ ‵ (Arr ws₂.1.1.1.1.0 (copies_val ws₂.1.1.1.1.0)))) (local_shared_back B tt byte_vals byte_tells N 𝓛 (ν ∷ []) ws₂.1.1.1.1.0 l₈) $ await ! tt $ split ! $
-        assigns ! (of_opd ! (load ! (from ! (stop !)) (look ! 54 refl))) (from ! (stop !)) (init ! 73 refl ((LL.lawful Rp.the_type Rp'.the_laws 𝓛).typed t₂ _ is₂).0) $
-        returns ! (look ! 73 refl) $ forget ! 73 refl $ forget ! 71 refl $ forget ! 69 refl $ forget ! 67 refl $ forget ! 65 refl $ forget ! 63 refl $ forget ! 61 refl $ forget ! 59 refl $ forget ! 0 refl $ forget ! 56 refl $ forget ! 54 refl $ forget ! 52 refl $ forget ! 50 refl $ forget ! 48 refl $ forget ! 46 refl $ forget ! 44 refl $ forget ! 42 refl $ forget ! 40 refl $ forget ! 38 refl $ forget ! 36 refl $ forget ! 34 refl $ forget ! 32 refl $ forget ! 30 refl $ forget ! 28 refl $ forget ! 26 refl $ forget ! 24 refl $ forget ! 22 refl $ forget ! 20 refl $ forget ! 18 refl $ forget ! 16 refl $ forget ! 14 refl $
-        move ! (73 ∷ 74 ∷ []) $ free1 ! $ move ! (71 ∷ 72 ∷ []) $ free1 ! $ move ! (69 ∷ 70 ∷ []) $ free1 ! $ move ! (67 ∷ 68 ∷ []) $ free1 ! $ move ! (65 ∷ 66 ∷ []) $ free1 ! $ move ! (63 ∷ 64 ∷ []) $ free1 ! $ move ! (61 ∷ 62 ∷ []) $ free1 ! $ move ! (59 ∷ 60 ∷ []) $ free1 ! $ move ! (0 ∷ 58 ∷ []) $ free1 ! $ move ! (55 ∷ 56 ∷ []) $ free1 ! $ move ! (53 ∷ 54 ∷ []) $ free1 ! $ move ! (51 ∷ 52 ∷ []) $ free1 ! $ move ! (49 ∷ 50 ∷ []) $ free1 ! $ move ! (47 ∷ 48 ∷ []) $ free1 ! $ move ! (45 ∷ 46 ∷ []) $ free1 ! $ move ! (43 ∷ 44 ∷ []) $ free1 ! $ move ! (41 ∷ 42 ∷ []) $ free1 ! $ move ! (39 ∷ 40 ∷ []) $ free1 ! $ move ! (37 ∷ 38 ∷ []) $ free1 ! $ move ! (35 ∷ 36 ∷ []) $ free1 ! $ move ! (33 ∷ 34 ∷ []) $ free1 ! $ move ! (31 ∷ 32 ∷ []) $ free1 ! $ move ! (29 ∷ 30 ∷ []) $ free1 ! $ move ! (27 ∷ 28 ∷ []) $ free1 ! $ move ! (25 ∷ 26 ∷ []) $ free1 ! $ move ! (23 ∷ 24 ∷ []) $ free1 ! $ move ! (21 ∷ 22 ∷ []) $ free1 ! $ move ! (19 ∷ 20 ∷ []) $ free1 ! $ move ! (17 ∷ 18 ∷ []) $ free1 ! $ move ! (15 ∷ 16 ∷ []) $ free1 ! $ move ! (13 ∷ 14 ∷ []) $ free1 ! $ free0 ! $
-        keep ! (7 ∷ 6 ∷ 4 ∷ 1 ∷ 11 ∷ 10 ∷ 9 ∷ 3 ∷ 8 ∷ []) $ by ! (exits t₂ w₂ ws₂.1.0 ws₂.1.1.0 ws₂.1.1.1.0 zs.0 (column_whole z ms ls ss ys wk w X₀ ws₁.1.0 ws₂.1.0 ws₂.1.1.0 ws₂.1.1.1.0 ws₂.1.1.1.1.0 t₂ zs.0 good₁.1.0.1 good₂.1.0.1 e₁ e₂.0 e₃, e₂.1) sameM sameL sameS sameR)))))))))))))))))))))))))))))))))))))))))))))))))))))))))))))))))))))))))))))
+        land ! (from ! (stop !)) (store ! 43 refl (word_typed (past_p) w₄ is₄)) $ rewrite ! 43 (λ (v : Val). ‵ (fat full_share (ty_int w64) l₁₂ 0 v)) (ap only (uint_Tells w64 (past_p) (w₄ ∷ []) is₄)) refl $ drop ! $ drop ! $
+        move ! (1 ∷ []) $ peeks ! (Array B N) (Is (Array B N)) (shows 𝓛 (Array B N)) ws₂.1.1.1.0 (copies_val ws₂.1.1.1.0 ∷ []) (λ good₂. lft_new ! tt (λ ν. move ! (2 ∷ 1 ∷ []) $
+        use2 𝓛 (later (some (λ (ε : GName). ‵ (Imm l₇ ν ε ws₂.1.1.1.0) ⊛ ‵ (flent (ν ∷ []) ((arr_parts (shares B) N).part full_share ws₂.1.1.1.0 l₇ 0))))) (shares_local B tt byte_vals byte_tells N 𝓛 (named 1) (ν ∷ []) ws₂.1.1.1.0 _ l₇ room) $ await ! tt $ pick ! (λ ε. split ! $
+        move ! (10 ∷ 2 ∷ []) $ join ! $ move ! (0 ∷ 9 ∷ 1 ∷ []) $ use3 𝓛 (raw ((Store 𝓛 mem run).pre (to_st l₇ ν ε ws₂.1.1.1.0))) (goes_st is₅.1 l₇ ν ε ws₂.1.1.1.0 good₂.1.0.1) $ calls_at ! fm (Store 𝓛 mem run) known-st (to_st l₇ ν ε ws₂.1.1.1.0) (and_then ! (load ! (from ! (stop !)) (look ! 13 refl)) (and_then ! (load ! (from ! (stop !)) (look ! 9 refl)) (and_then ! (load ! (from ! (stop !)) (look ! 43 refl)) (and_then ! (load ! (from ! (stop !)) (look ! 39 refl)) (no_more !))))) (λ w₃.
+        use1 𝓛 (later (some (λ (t : Unit {0}). ((‵ (flft κ₃ q₃) ⊛ ‵ (flft (ν ∷ []) full_share) ⊛ ‵ ftrue) ⊛ ‵ (unit.own_val t (w₃ ∷ []))) ⊛ raw (ensured 𝓛 st.ended (st.clauses 𝓛 mem run) (κ₃, (ν ∷ [], tt)) (rs γ₃, (fl l₇ ε ws₂.1.1.1.0, (p, (past_p, tt)))) tt t)))) (id⊢ 𝓤 _) $ await ! tt $ pick ! (λ t₃. split ! $ move ! (1 ∷ []) $
+        use1 𝓛 (some (λ (zs : List TaskRecord × (Unit {0} × (Unit {0} × (Unit {0} × Unit {0})))). ‵ (lasts st.ended (κ₃, (ν ∷ [], tt)) (rs γ₃, (fl l₇ ε ws₂.1.1.1.0, (p, (past_p, tt)))) zs) ⊛ raw (fact 𝓤 (Stored ws₂.1.1.1.0 zs.0)))) (id⊢ 𝓤 _) $ pick ! (λ zs. split ! $ move ! (1 ∷ []) $ heard ! (Stored ws₂.1.1.1.0 zs.0) (λ e₃.
+        fsplit ! $ fsplit ! $ move ! (1 ∷ []) $ feq_l ! (λ sameR. move ! (1 ∷ []) $ drop ! $ move ! (1 ∷ []) $ split ! $ move ! (1 ∷ []) $ feq_l ! (λ is₃. land ! (from ! (stop !)) (store ! 38 refl (unit_typed w₃ is₃)) $
+        move ! (0 ∷ []) $ split3 ! $ move ! (1 ∷ []) $ lft_end ! tt $ move ! (0 ∷ 4 ∷ []) $ use2 𝓛 (later (‵ (Cell l₇ (copies_val ws₂.1.1.1.0)) ⊛ ‵ (Arr ws₂.1.1.1.0 (copies_val ws₂.1.1.1.0)))) (local_shared_back B tt byte_vals byte_tells N 𝓛 (ν ∷ []) ws₂.1.1.1.0 l₇) $ await ! tt $ split ! $
+        assigns ! (of_opd ! (load ! (from ! (stop !)) (look ! 48 refl))) (from ! (stop !)) (init ! 65 refl ((LL.lawful Rp.the_type Rp'.the_laws 𝓛).typed t₂ _ is₂).0) $
+        returns ! (look ! 65 refl) $ forget ! 65 refl $ forget ! 63 refl $ forget ! 61 refl $ forget ! 59 refl $ forget ! 57 refl $ forget ! 55 refl $ forget ! 53 refl $ forget ! 0 refl $ forget ! 50 refl $ forget ! 48 refl $ forget ! 46 refl $ forget ! 44 refl $ forget ! 42 refl $ forget ! 40 refl $ forget ! 38 refl $ forget ! 36 refl $ forget ! 34 refl $ forget ! 32 refl $ forget ! 30 refl $ forget ! 28 refl $ forget ! 26 refl $ forget ! 24 refl $ forget ! 22 refl $ forget ! 20 refl $ forget ! 18 refl $ forget ! 16 refl $ forget ! 14 refl $ forget ! 12 refl $
+        move ! (65 ∷ 66 ∷ []) $ free1 ! $ move ! (63 ∷ 64 ∷ []) $ free1 ! $ move ! (61 ∷ 62 ∷ []) $ free1 ! $ move ! (59 ∷ 60 ∷ []) $ free1 ! $ move ! (57 ∷ 58 ∷ []) $ free1 ! $ move ! (55 ∷ 56 ∷ []) $ free1 ! $ move ! (53 ∷ 54 ∷ []) $ free1 ! $ move ! (0 ∷ 52 ∷ []) $ free1 ! $ move ! (49 ∷ 50 ∷ []) $ free1 ! $ move ! (47 ∷ 48 ∷ []) $ free1 ! $ move ! (45 ∷ 46 ∷ []) $ free1 ! $ move ! (43 ∷ 44 ∷ []) $ free1 ! $ move ! (41 ∷ 42 ∷ []) $ free1 ! $ move ! (39 ∷ 40 ∷ []) $ free1 ! $ move ! (37 ∷ 38 ∷ []) $ free1 ! $ move ! (35 ∷ 36 ∷ []) $ free1 ! $ move ! (33 ∷ 34 ∷ []) $ free1 ! $ move ! (31 ∷ 32 ∷ []) $ free1 ! $ move ! (29 ∷ 30 ∷ []) $ free1 ! $ move ! (27 ∷ 28 ∷ []) $ free1 ! $ move ! (25 ∷ 26 ∷ []) $ free1 ! $ move ! (23 ∷ 24 ∷ []) $ free1 ! $ move ! (21 ∷ 22 ∷ []) $ free1 ! $ move ! (19 ∷ 20 ∷ []) $ free1 ! $ move ! (17 ∷ 18 ∷ []) $ free1 ! $ move ! (15 ∷ 16 ∷ []) $ free1 ! $ move ! (13 ∷ 14 ∷ []) $ free1 ! $ move ! (11 ∷ 12 ∷ []) $ free1 ! $ free0 ! $
+        keep ! (6 ∷ 4 ∷ 1 ∷ 9 ∷ 8 ∷ 3 ∷ 7 ∷ []) $ by ! (exits t₂ w₂ ws₂.1.0 ws₂.1.1.0 zs.0 (column_whole z ms ls ys wk w X₀ ws₁.1.0 ws₂.1.0 ws₂.1.1.0 ws₂.1.1.1.0 t₂ zs.0 good₁.1.0.1 good₂.1.0.1 e₁ e₂.0 e₃, e₂.1) sameM sameL sameR)))))))))))))))))))))))))))))))))))))))))))))))))))))))))))))))))))))))))
 
 module _ {M : Type 1} {𝓤 : Ura M} (𝓛 : Logic 𝓤) (mem : Memory → SProp 𝓤) (run : Routine → Fun 𝓤) (𝓣 : Tables 𝓤 𝓛.H) (known-lk : Triple 𝓤 (𝓣.C #lk) (Look 𝓛 mem run)) (known-ld : Triple 𝓤 (𝓣.C #ld) (Load 𝓛 mem run)) (known-co : Triple 𝓤 (𝓣.C #co) (Core 𝓛 mem run)) (known-th : Triple 𝓤 (𝓣.C #th) (Task 𝓛 mem run)) (known-pt : Triple 𝓤 (𝓣.C #pt) (Past 𝓛 mem run)) (known-st : Triple 𝓤 (𝓣.C #st) (Store 𝓛 mem run)) where
   open 𝓛 use {H}
 
   walks : Walks 𝓛 f.ended stayed (WpFn 𝓤 H 𝓣.C 𝓣.Λ code.function) (f.clauses 𝓛 mem run)
-  walks = walked 𝓛 f.ended stayed (f.clauses 𝓛 mem run) (WpFn 𝓤 H 𝓣.C 𝓣.Λ code.function) (λ κs. (LL.vals Sz.the_type Sz'.the_laws, (mut_slice_vals, (mut_slice_vals, (mut_slice_vals, (mut_slice_vals, (LL.vals Wk.the_type Wk'.the_laws, (uint_vals w64, tt))))))))
-      (λ κs. (LL.tells Sz.the_type Sz'.the_laws, (mut_slice_Tells (named 0) κs.0 f64, (mut_slice_Tells (named 1) κs.1.0 u8, (mut_slice_Tells (named 2) κs.1.1.0 f64, (mut_slice_Tells (named 3) κs.1.1.1.0 T.the_row, (LL.tells Wk.the_type Wk'.the_laws, (uint_Tells w64, tt))))))))
-      (λ κs qs bounds a g are. via 𝓤 _ (fst∗ 𝓤 _ (emp 𝓤)) (walk 𝓛 mem run κs.0 κs.1.0 κs.1.1.0 κs.1.1.1.0 qs.0 qs.1.0 qs.1.1.0 qs.1.1.1.0
-      a.0 are.0 a.1.0.ref_ptr.0 a.1.0.ref_ptr.1 a.1.0.ghost_name a.1.0.now are.1.0.0.1 a.1.1.0.ref_ptr.0 a.1.1.0.ref_ptr.1 a.1.1.0.ghost_name a.1.1.0.now are.1.1.0.0.1 a.1.1.1.0.ref_ptr.0 a.1.1.1.0.ref_ptr.1 a.1.1.1.0.ghost_name a.1.1.1.0.now are.1.1.1.0.0.1 a.1.1.1.1.0.ref_ptr.0 a.1.1.1.1.0.ref_ptr.1 a.1.1.1.1.0.ghost_name a.1.1.1.1.0.now are.1.1.1.1.0.0.1 a.1.1.1.1.1.0 are.1.1.1.1.1.0 a.1.1.1.1.1.1.0 are.1.1.1.1.1.1.0.1 𝓣.C 𝓣.Λ (fm_of 𝓤 H 𝓛.laws 𝓣) known-lk known-ld known-co known-th known-pt known-st))
+  walks = walked 𝓛 f.ended stayed (f.clauses 𝓛 mem run) (WpFn 𝓤 H 𝓣.C 𝓣.Λ code.function) (λ κs. (LL.vals Sz.the_type Sz'.the_laws, (mut_slice_vals, (mut_slice_vals, (mut_slice_vals, (LL.vals Wk.the_type Wk'.the_laws, (uint_vals w64, tt)))))))
+      (λ κs. (LL.tells Sz.the_type Sz'.the_laws, (mut_slice_Tells (named 0) κs.0 f64, (mut_slice_Tells (named 1) κs.1.0 u8, (mut_slice_Tells (named 2) κs.1.1.0 T.the_row, (LL.tells Wk.the_type Wk'.the_laws, (uint_Tells w64, tt)))))))
+      (λ κs qs bounds a g are. via 𝓤 _ (fst∗ 𝓤 _ (emp 𝓤)) (walk 𝓛 mem run κs.0 κs.1.0 κs.1.1.0 qs.0 qs.1.0 qs.1.1.0
+      a.0 are.0 a.1.0.ref_ptr.0 a.1.0.ref_ptr.1 a.1.0.ghost_name a.1.0.now are.1.0.0.1 a.1.1.0.ref_ptr.0 a.1.1.0.ref_ptr.1 a.1.1.0.ghost_name a.1.1.0.now are.1.1.0.0.1 a.1.1.1.0.ref_ptr.0 a.1.1.1.0.ref_ptr.1 a.1.1.1.0.ghost_name a.1.1.1.0.now are.1.1.1.0.0.1 a.1.1.1.1.0 are.1.1.1.1.0 a.1.1.1.1.1.0 are.1.1.1.1.1.0.1 𝓣.C 𝓣.Λ (fm_of 𝓤 H 𝓛.laws 𝓣) known-lk known-ld known-co known-th known-pt known-st))
 
-  goes : AllGo 𝓛 4 (f.signature).params (f.ended).kept stayed
-  goes = (Goes-dropped 𝓛 4 (plain (λ _. Sz.the_row)) yes (λ κs x f. refl), (Goes-gave_slice 𝓛 4 0 tt (plain (λ _. f64)), (Goes-gave_slice 𝓛 4 1 tt (plain (λ _. u8)), (Goes-gave_slice 𝓛 4 2 tt (plain (λ _. f64)), (Goes-gave_slice 𝓛 4 3 tt (plain (λ _. T.the_row)), (Goes-dropped 𝓛 4 (plain (λ _. Wk.the_row)) yes (λ κs x f. refl), (Goes-dropped 𝓛 4 (plain (λ _. usize)) yes (λ κs x f. refl), tt)))))))
+  goes : AllGo 𝓛 3 (f.signature).params (f.ended).kept stayed
+  goes = (Goes-dropped 𝓛 3 (plain (λ _. Sz.the_row)) yes (λ κs x f. refl), (Goes-gave_slice 𝓛 3 0 tt (plain (λ _. f64)), (Goes-gave_slice 𝓛 3 1 tt (plain (λ _. u8)), (Goes-gave_slice 𝓛 3 2 tt (plain (λ _. T.the_row)), (Goes-dropped 𝓛 3 (plain (λ _. Wk.the_row)) yes (λ κs x f. refl), (Goes-dropped 𝓛 3 (plain (λ _. usize)) yes (λ κs x f. refl), tt))))))
 
   meets : Meets 𝓛 f.signature (WpFn 𝓤 H 𝓣.C 𝓣.Λ code.function) (f.spec 𝓛 mem run)
   meets = walk_Meets 𝓛 f.ended stayed goes (f.clauses 𝓛 mem run) (WpFn 𝓤 H 𝓣.C 𝓣.Λ code.function) (WpFn-mono 𝓤 H 𝓛.laws 𝓣 code.function) walks

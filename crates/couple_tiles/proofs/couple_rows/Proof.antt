@@ -4,7 +4,6 @@ use mathlib.Core.Path.{refl}
 use native.Mathlib.Omega.{arith}
 use Rattle.column_laws.proofs.Exchanges.{row_apart}
 use Rattle.column_laws.proofs.Pairs.{mid_long, mid_finite, coupled_fine, tiles_coupled}
-use Rattle.elimination.proofs.Eliminated.{whole_rows}
 use Rattle.laws.proofs.Blocks.{row_end}
 use Rattle.couple_tiles.proofs.couple_rows.Statement.{statement}
 use Rattle.couple_tiles.proofs.couple_rows.Tie as tie
@@ -36,7 +35,7 @@ eliminate-requires c κs =
         apart = row_apart a.t a.t a.u a.d a.c h.0.0 b.apart;
       },
       (
-        (h.0.0, omega arith, mid_finite a.t a.t a.c a.c a.e a.u a.d a.m.now b.upper_room b.lower_room b.apart _ x h.0.0 h.0.2 h.0.3),
+        mid_finite a.t a.t a.c a.c a.e a.u a.d a.m.now b.upper_room b.lower_room b.apart _ x h.0.0 h.0.2 h.0.3,
         coupled_fine a.t a.c a.e a.u a.d _ h.0.0 a.m.now b.upper_room b.lower_room b.apart refl _ x h.1,
       ),
     )
@@ -48,7 +47,7 @@ returns : tie.Need-returns
 returns c =
     let a = c.before.before.before.before.before.before.before.before.before.args in
     let b = c.before.before.before.before.before.before.before.before.before.requires.0 in
-    tiles_coupled a.t a.c a.e a.u a.d _ c.before.before.before.before.before.before.before.before.before.requires.1.0.0 a.m.now b.upper_room b.lower_room b.apart refl _ c.before.before.before.before.before.before.exchange_entry.ensures _ _ c.before.before.eliminate.auto.0 (whole_rows _ _ _ _ _ _ _ _ c.before.before.eliminate.ensures)
+    tiles_coupled a.t a.c a.e a.u a.d _ c.before.before.before.before.before.before.before.before.before.requires.1.0.0 a.m.now b.upper_room b.lower_room b.apart refl _ c.before.before.before.before.before.before.exchange_entry.ensures _ _ c.before.before.eliminate.auto.0 c.before.before.eliminate.ensures
 
 pub couple_rows_spec : {M : Type 1} → statement M
 couple_rows_spec =

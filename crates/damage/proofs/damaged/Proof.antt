@@ -10,7 +10,7 @@ bad_records-requires c κs = search rules
 returns : tie.Need-returns
 returns c =
     let a = c.before.before.before.args in
-    λ m sl. damaged_1 a.z m a.lists.now sl _ a.workers a.number _ c.before.bad_records.ensures c.if1.true
+    λ m. damaged_1 a.z m a.lists.now _ a.workers a.number _ c.before.bad_records.ensures c.if1.true
 
 bad_workers-requires : tie.Need-bad_workers-requires
 bad_workers-requires c κs = search rules
@@ -18,7 +18,7 @@ bad_workers-requires c κs = search rules
 returns-2 : tie.Need-returns-2
 returns-2 c =
     let a = c.before.before.before.before.before.args in
-    λ m sl. damaged_2 a.z m a.lists.now sl _ a.workers a.number _ c.before.before.before.bad_records.ensures c.before.before.if1.false _ c.before.bad_workers.ensures c.if2.true
+    λ m. damaged_2 a.z m a.lists.now _ a.workers a.number _ c.before.before.before.bad_records.ensures c.before.before.if1.false _ c.before.bad_workers.ensures c.if2.true
 
 bad_entries-requires : tie.Need-bad_entries-requires
 bad_entries-requires c κs = search rules
@@ -26,7 +26,7 @@ bad_entries-requires c κs = search rules
 returns-3 : tie.Need-returns-3
 returns-3 c =
     let a = c.before.before.before.before.before.before.args in
-    λ m sl. damaged_3 a.z m a.lists.now sl _ a.workers a.number _ c.before.before.before.before.bad_records.ensures c.before.before.before.if1.false _ _ c.before.before.bad_workers.ensures c.before.if2.false c.bad_entries_lem.ensures
+    λ m. damaged_3 a.z m a.lists.now _ a.workers a.number _ c.before.before.before.before.bad_records.ensures c.before.before.before.if1.false _ _ c.before.before.bad_workers.ensures c.before.if2.false c.bad_entries_lem.ensures
 
 pub damaged_spec : {M : Type 1} → statement M
 damaged_spec = tie.close (tie.spec bad_records-requires returns bad_workers-requires returns-2 bad_entries-requires returns-3)

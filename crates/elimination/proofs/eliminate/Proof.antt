@@ -18,22 +18,22 @@ ends : {q t : ℕ} → q ≤ t → t ≤ q → q ≡ t
 ends a b = omega arith
 
 abbrev invariant_loop : tie.invariant-loop
-invariant_loop m₀ t z start top rows c pivot fours ok₀ r at by q₀ m ok q = (c + 1 ≤ q) × (q ≤ fours) × (ok ≡ true) × RowDone (c + 1) (start + r * t) top by q m₀ m
+invariant_loop m₀ t start top rows c pivot fours ok₀ r at by q₀ m ok q = (c + 1 ≤ q) × (q ≤ fours) × (ok ≡ true) × RowDone (c + 1) (start + r * t) top by q m₀ m
 
 abbrev decreases_loop : tie.decreases-loop
-decreases_loop m₀ t z start top rows c pivot fours ok₀ r at by q₀ m ok q = fours - q
+decreases_loop m₀ t start top rows c pivot fours ok₀ r at by q₀ m ok q = fours - q
 
 abbrev invariant_loop2 : tie.invariant-loop2
-invariant_loop2 m₀ t z start top rows c pivot fours ok₀ r at by q₀ m ok q = (q₀ ≤ q) × (q ≤ z) × (ok ≡ true) × ((z - q) % 4 ≡ 0) × RowDone q₀ (start + r * t) top by q m₀ m
+invariant_loop2 m₀ t start top rows c pivot fours ok₀ r at by q₀ m ok q = (q₀ ≤ q) × (q ≤ t) × (ok ≡ true) × ((t - q) % 4 ≡ 0) × RowDone q₀ (start + r * t) top by q m₀ m
 
 abbrev decreases_loop2 : tie.decreases-loop2
-decreases_loop2 m₀ t z start top rows c pivot fours ok₀ r at by q₀ m ok q = z - q
+decreases_loop2 m₀ t start top rows c pivot fours ok₀ r at by q₀ m ok q = t - q
 
 abbrev invariant_rows : tie.invariant-rows
-invariant_rows m₀ t z start top rows c pivot fours ok₀ r₀ m ok r = (r ≤ rows) × (ok ≡ true) × RowsGone rows t z c start top m₀ r m
+invariant_rows m₀ t start top rows c pivot fours ok₀ r₀ m ok r = (r ≤ rows) × (ok ≡ true) × RowsGone rows t c start top m₀ r m
 
 abbrev decreases_rows : tie.decreases-rows
-decreases_rows m₀ t z start top rows c pivot fours ok₀ r₀ m ok r = rows - r
+decreases_rows m₀ t start top rows c pivot fours ok₀ r₀ m ok r = rows - r
 
 overflow_add-pivot : tie.Need-overflow_add-pivot invariant_loop decreases_loop invariant_loop2 decreases_loop2 invariant_rows decreases_rows
 overflow_add-pivot c = omega (arith, c.before.requires.0)
@@ -57,7 +57,7 @@ overflow_sub-fours-2 : tie.Need-overflow_sub-fours-2 invariant_loop decreases_lo
 overflow_sub-fours-2 c = omega (arith, c.before.before.requires.0)
 
 rows-init : tie.Need-rows-init invariant_loop decreases_loop invariant_loop2 decreases_loop2 invariant_rows decreases_rows
-rows-init c = (omega arith, refl, gone_none _ _ _ _ _ _ _)
+rows-init c = (omega arith, refl, gone_none _ _ _ _ _ _)
 
 overflow_mul-at : tie.Need-overflow_mul-at invariant_loop decreases_loop invariant_loop2 decreases_loop2 invariant_rows decreases_rows
 overflow_mul-at c = omega (arith, c.before.before.before.before.requires.0, row_end _ _ c.before.before.before.before.args.t c.rows-test.true)
@@ -92,15 +92,16 @@ rows-smaller c = omega (arith, c.before.before.before.before.before.before.requi
 rows-preserved : tie.Need-rows-preserved invariant_loop decreases_loop invariant_loop2 decreases_loop2 invariant_rows decreases_rows
 unfolding of_bits is_zero quotient
 rows-preserved c =
+    let a = c.before.before.before.before.before.before.args in
     let b = c.before.before.before.before.before.before.requires.0 in
     let h = c.before.before.before.before.before.before.requires.1 in
     let rows = c.before.before.before.rows in
     let row = c.before.before.rows-test.true in (
       omega arith,
       rows.invariant.1,
-      gone_more _ _ _ _ _ _ h.0.0 h.0.1 _ b.room b.apart _ row _ rows.invariant.2 _ refl _
+      gone_more _ _ _ _ _ b.column _ b.room b.apart _ row _ rows.invariant.2 _ refl _
           (row_unchanged _ _ _ _ _ _ c.if1.true
-          (divided_finite _ _ _ _ _ _ h.0.0 h.0.1 _ b.room b.apart _ row _ rows.invariant.2 _ refl (λ q l. row_finite _ _ _ _ _ _ h.0.0 h.0.1 _ b.room b.apart h.0.2 h.1 _ q row l) (h.1 _ row))),
+          (divided_finite _ _ _ _ _ b.column _ b.room b.apart _ row _ rows.invariant.2 _ refl (λ q l. row_finite _ _ _ _ _ b.column _ b.room b.apart h.0 h.1 _ q row l) (h.1 _ row))),
     )
 
 overflow_add-q : tie.Need-overflow_add-q invariant_loop decreases_loop invariant_loop2 decreases_loop2 invariant_rows decreases_rows
@@ -186,7 +187,7 @@ rows-preserved-2 c =
     let four = c.before.loop2 in (
       omega arith,
       four.invariant.2,
-      gone_more _ _ _ _ _ _ a.requires.1.0.0 a.requires.1.0.1 _ b.room b.apart _ row _ rows.invariant.2 _ refl _
+      gone_more _ _ _ _ _ b.column _ b.room b.apart _ row _ rows.invariant.2 _ refl _
           (rw (ends four.invariant.1 (omega arith)) at (row_join _ _ _ _ _ _ _ l.invariant.3 _ _ l.invariant.0 (omega arith) (λ k g h. top_clear _ _ _ _ b.apart _ row _ (omega arith) _ (omega arith)) four.invariant.4)),
     )
 
@@ -198,7 +199,7 @@ returns c =
     let a = c.before.before.before.before in
     let b = a.requires.0 in
     let rows = c.before.rows in
-    all_gone _ _ _ _ _ _ a.requires.1.0.0 a.requires.1.0.1 _ b.room b.apart a.requires.1.0.2 a.requires.1.1 _ _ _ (omega arith) rows.invariant.1 rows.invariant.2
+    all_gone _ _ _ _ _ b.column _ b.room b.apart a.requires.1.0 a.requires.1.1 _ _ _ (omega arith) rows.invariant.1 rows.invariant.2
 
 same-length-2 : tie.Need-same-length-2 invariant_loop decreases_loop invariant_loop2 decreases_loop2 invariant_rows decreases_rows
 unfolding quotient
@@ -211,7 +212,7 @@ returns-2 c =
     let b = a.requires.0 in
     let row = c.before.before.before.before.before.before.before.before.before.rows-test.true in
     let l = c.before.before.before.before.before.before.loop in
-    gone_stop _ _ _ _ _ _ a.requires.1.0.0 a.requires.1.0.1 _ b.room b.apart a.requires.1.0.2 a.requires.1.1 _ row _ c.before.before.before.before.before.before.before.before.before.before.rows.invariant.2 _ refl _ _ _ _ _ l.invariant.3 c.before.before.before.row_one.ensures
+    gone_stop _ _ _ _ _ b.column _ b.room b.apart a.requires.1.0 a.requires.1.1 _ row _ c.before.before.before.before.before.before.before.before.before.before.rows.invariant.2 _ refl _ _ _ _ _ l.invariant.3 c.before.before.before.row_one.ensures
     (λ k h. top_clear _ _ _ _ b.apart _ row _ (omega arith) _ (omega arith)) l.invariant.0 (omega arith) (not-true c.before.before.before.row_one.result c.if2.true)
 
 same-length-3 : tie.Need-same-length-3 invariant_loop decreases_loop invariant_loop2 decreases_loop2 invariant_rows decreases_rows
@@ -226,7 +227,7 @@ returns-3 c =
     let row = c.before.before.before.before.before.before.before.before.before.before.before.rows-test.true in
     let l = c.before.before.before.before.before.before.before.before.loop in
     let four = c.before.before.before.before.before.before.loop2 in
-    gone_stop _ _ _ _ _ _ a.requires.1.0.0 a.requires.1.0.1 _ b.room b.apart a.requires.1.0.2 a.requires.1.1 _ row _ c.before.before.before.before.before.before.before.before.before.before.before.before.rows.invariant.2 _ refl _ _ _ _ _
+    gone_stop _ _ _ _ _ b.column _ b.room b.apart a.requires.1.0 a.requires.1.1 _ row _ c.before.before.before.before.before.before.before.before.before.before.before.before.rows.invariant.2 _ refl _ _ _ _ _
     (row_join _ _ _ _ _ _ _ l.invariant.3 _ _ l.invariant.0 four.invariant.0 (λ k g h. top_clear _ _ _ _ b.apart _ row _ (omega arith) _ (omega arith)) four.invariant.4) c.before.before.before.row_four.ensures
     (λ k h. top_clear _ _ _ _ b.apart _ row _ (omega arith) _ (omega arith)) (omega arith) (omega arith) (not-true c.before.before.before.row_four.result c.if3.true)
 

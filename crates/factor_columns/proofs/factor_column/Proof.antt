@@ -62,7 +62,7 @@ returns c =
     let a = c.before.before.before.before.before.before.before.before.args in
     let r = factor_ready c.before.before.before.before.before.before.before.before.requires in
     let p = c.before.before.before.before.list_start.ensures in
-    λ sl. factor_skips a.z.tiles a.z.side a.z.block a.k a.c _ _ c.before.before.before.before.before.tile_start.ensures p r.column a.matrix.now a.lists.now _ sl (rw p r.list_room) c.before.before.factor_pivot.result c.before.before.factor_pivot.ensures refl _
+    factor_skips a.z.tiles a.z.side a.k a.c _ _ c.before.before.before.before.before.tile_start.ensures p r.column a.matrix.now a.lists.now _ (rw p r.list_room) c.before.before.factor_pivot.result c.before.before.factor_pivot.ensures refl _
     (zero c.before) c.column_end.ensures
 
 factor_rows-requires : tie.Need-factor_rows-requires
@@ -94,7 +94,7 @@ returns-2 c =
     let r = factor_ready c.before.before.before.before.before.before.before.before.before.before.before.before.before.requires in
     let e = c.before.before.before.before.before.before.before.before.before.before.tile_start.ensures in
     let p = c.before.before.before.before.before.before.before.before.before.list_start.ensures in
-    λ sl. factor_ends a.z.tiles a.z.side a.z.block a.k a.c _ _ e p r.column a.matrix.now a.lists.now _ sl (rw p r.list_room) c.before.before.before.before.before.before.before.factor_pivot.result c.before.before.before.before.before.before.before.factor_pivot.ensures refl
+    factor_ends a.z.tiles a.z.side a.k a.c _ _ e p r.column a.matrix.now a.lists.now _ (rw p r.list_room) c.before.before.before.before.before.before.before.factor_pivot.result c.before.before.before.before.before.before.before.factor_pivot.ensures refl
     (rw e r.room) (nonzero c.before.before.before.before.before.before) _ _ c.before.before.before.before.factor_rows.ensures _ c.before.if2.true c.column-end2.ensures
 
 overflow_mul-fill_numbers : tie.Need-overflow_mul-fill_numbers
@@ -118,7 +118,7 @@ returns-3 c =
     let r = factor_ready c.before.before.before.before.before.before.before.before.before.before.before.before.before.before.before.before.before.before.before.before.requires in
     let e = c.before.before.before.before.before.before.before.before.before.before.before.before.before.before.before.before.before.tile_start.ensures in
     let p = c.before.before.before.before.before.before.before.before.before.before.before.before.before.before.before.before.list_start.ensures in
-    λ sl. factor_fails a.z.tiles a.z.side a.z.block a.k a.c _ _ e p r.column a.matrix.now a.lists.now _ sl (rw p r.list_room) c.before.before.before.before.before.before.before.before.before.before.before.before.before.before.factor_pivot.result c.before.before.before.before.before.before.before.before.before.before.before.before.before.before.factor_pivot.ensures refl
+    factor_fails a.z.tiles a.z.side a.k a.c _ _ e p r.column a.matrix.now a.lists.now _ (rw p r.list_room) c.before.before.before.before.before.before.before.before.before.before.before.before.before.before.factor_pivot.result c.before.before.before.before.before.before.before.before.before.before.before.before.before.before.factor_pivot.ensures refl
     (rw e r.room) (nonzero c.before.before.before.before.before.before.before.before.before.before.before.before.before) _ _ c.before.before.before.before.before.before.before.before.before.before.before.factor_rows.ensures _ _ c.before.before.before.before.before.before.before.before.if2.false c.before.before.before.before.before.before.fill_numbers.ensures c.before.before.fill_entries.ensures
 
 pub factor_column_spec : {M : Type 1} → statement M

@@ -7,7 +7,6 @@ use native.Mathlib.Omega.{arith}
 use Rattle.column_laws.proofs.Exchanges.{exchange_at}
 use Rattle.column_laws.proofs.Permutes.{rows_exchangeable}
 use Rattle.column_laws.proofs.Pairs.{kept_long, factored_finite, factored_fine, tile_factored}
-use Rattle.elimination.proofs.Eliminated.{whole_rows}
 use Rattle.laws.proofs.Blocks.{row_end}
 use Rattle.factor_tiles.proofs.factor_rows.Statement.{statement}
 use Rattle.factor_tiles.proofs.factor_rows.Tie as tie
@@ -71,7 +70,7 @@ eliminate-requires c κs =
         apart = inl (omega arith);
       },
       (
-        (h.0.0, omega arith, factored_finite a.t a.c k a.y a.a (a.a + (a.c + 1) * a.t) (a.a + a.c * a.t) ends a.m.now b.room (omega arith) refl _ x h.0.1 h.0.2),
+        factored_finite a.t a.c k a.y a.a (a.a + (a.c + 1) * a.t) (a.a + a.c * a.t) ends a.m.now b.room (omega arith) refl _ x h.0.1 h.0.2,
         factored_fine a.t a.c k a.y a.a (a.a + (a.c + 1) * a.t) (a.a + a.c * a.t) ends a.m.now b.room (omega arith) refl _ x h.1,
       ),
     )
@@ -85,7 +84,7 @@ returns c =
     let b = c.before.before.before.before.before.before.before.before.before.requires.0 in
     let h = c.before.before.before.before.before.before.before.before.before.requires.1 in
     let x = exchange_at a.t a.a a.c a.y a.m.now _ h.0.0 h.0.1 b.room c.before.before.before.before.before.before.exchange.ensures in
-    tile_factored a.t a.c (a.t - (a.c + 1)) a.y a.a (a.a + (a.c + 1) * a.t) (a.a + a.c * a.t) (omega (arith, h.0.0)) a.m.now b.room (omega arith) refl _ x _ _ c.before.before.eliminate.auto.0 (whole_rows _ _ _ _ _ _ _ _ c.before.before.eliminate.ensures)
+    tile_factored a.t a.c (a.t - (a.c + 1)) a.y a.a (a.a + (a.c + 1) * a.t) (a.a + a.c * a.t) (omega (arith, h.0.0)) a.m.now b.room (omega arith) refl _ x _ _ c.before.before.eliminate.auto.0 c.before.before.eliminate.ensures
 
 pub factor_rows_spec : {M : Type 1} → statement M
 factor_rows_spec =

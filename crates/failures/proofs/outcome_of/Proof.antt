@@ -20,7 +20,7 @@ overflow_cast-t8 c =
     omega (arith, failed_below _ _ _ c.before.before.before.first_failed.ensures c.before.task.given.1, length_marks d.args.records.now, few_tasks _ d.requires.0.few_tiles)
 
 returns : tie.Need-returns
-returns c = λ lists slice. outcome_failed c.before.before.before.before.before.args.z _ lists slice _ _ _ _ c.before.before.before.first_failed.ensures c.before.task.given.1
+returns c = λ lists. outcome_failed c.before.before.before.before.before.args.z _ lists _ _ _ _ c.before.before.before.first_failed.ensures c.before.task.given.1
 
 enum-told : tie.Need-enum-told
 enum-told c = search rules
@@ -41,12 +41,12 @@ enum-told-2 c = search rules
 
 returns-2 : tie.Need-returns-2
 returns-2 c =
-    λ lists slice. outcome_zero c.before.before.before.before.before.before.before.before.args.z _ lists slice _ _ _ c.before.before.before.before.before.before.first_failed.ensures c.before.before.before.before.enum_told.given.1
+    λ lists. outcome_zero c.before.before.before.before.before.before.before.before.args.z _ lists _ _ _ c.before.before.before.before.before.before.first_failed.ensures c.before.before.before.before.enum_told.given.1
     _ _ c.before.before.before.first_zero_row.ensures c.before.row.given.1
 
 returns-3 : tie.Need-returns-3
 returns-3 c =
-    λ lists slice. outcome_good c.before.before.before.before.before.before.before.args.z _ lists slice _ _ _ c.before.before.before.before.before.first_failed.ensures c.before.before.before.enum_told.given.1
+    λ lists. outcome_good c.before.before.before.before.before.before.before.args.z _ lists _ _ _ c.before.before.before.before.before.first_failed.ensures c.before.before.before.enum_told.given.1
     _ c.before.before.first_zero_row.ensures c.enum-told2.given.1
 
 pub outcome_of_spec : {M : Type 1} → statement M

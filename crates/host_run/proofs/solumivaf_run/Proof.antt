@@ -27,14 +27,11 @@ same-length-2 c = search rules
 same-length-3 : tie.Need-same-length-3
 same-length-3 c = search rules
 
-same-length-4 : tie.Need-same-length-4
-same-length-4 c = search rules
-
 returns : tie.Need-returns
 returns c =
-    let a = c.before.before.before.before.before.before.before.before.before.before.before.before.before.before.before.before.before.before.before.before.before.before.before.before.before.before.args in
-    let e = c.before.before.before.before.before.before.before.before.before.before.before.before.before in
-    run_said a.matrix.now e.run.new.1.0 a.lists.now e.run.new.1.1.0 a.slice.now e.run.new.1.1.1.0 a.records.now e.run.new.1.1.1.1.0 a.busy.now _ a.task.now a.column.now a.count a.number.now _ _ e.before.before.before.before.before.gather.result e.before.before.before.before.before.gather.ensures c.tell_run.result (run_call (record { tiles = a.tiles; side = a.side; workers = a.workers; block = a.block }) a.budget) e.run.result e.run.ensures.0 e.run.ensures.1 c.before.scatter.ensures.0 c.before.scatter.ensures.1 refl c.tell_run.ensures
+    let a = c.before.before.before.before.before.before.before.before.before.before.before.before.before.before.before.before.before.before.before.before.before.before.args in
+    let e = c.before.before.before.before.before.before.before.before.before.before.before in
+    run_said a.matrix.now e.run.new.1.0 a.lists.now e.run.new.1.1.0 a.records.now e.run.new.1.1.1.0 a.busy.now _ a.task.now a.column.now a.count a.number.now _ _ e.before.before.before.before.gather.result e.before.before.before.before.gather.ensures c.tell_run.result (run_call (record { tiles = a.tiles; side = a.side; workers = a.workers }) a.budget) e.run.result e.run.ensures.0 e.run.ensures.1 c.before.scatter.ensures.0 c.before.scatter.ensures.1 refl c.tell_run.ensures
 
 pub solumivaf_run_spec : {M : Type 1} → statement M
 solumivaf_run_spec =
@@ -46,5 +43,5 @@ solumivaf_run_spec =
     tell_run-requires
     same-length
     same-length-2
-    same-length-3 same-length-4
+    same-length-3
     returns)

@@ -19,8 +19,8 @@ tell_outcome-requires c κs = search rules
 
 returns : tie.Need-returns
 returns c =
-    let a = c.before.before.before.before.before.before.before.before.before.args in
-    c.tell_outcome.ensures ∙ ap outcome_told c.before.outcome.ensures ∙ ap (λ (k : Workers). outcome_told (outcome_call (record { tiles = a.tiles; side = a.side; workers = a.workers; block = a.block }) (all_lent a.matrix.now a.lists.now a.slice.now a.records.now k))) c.before.before.gather.ensures
+    let a = c.before.before.before.before.before.before.before.before.args in
+    c.tell_outcome.ensures ∙ ap outcome_told c.before.outcome.ensures ∙ ap (λ (k : Workers). outcome_told (outcome_call (record { tiles = a.tiles; side = a.side; workers = a.workers }) (all_lent a.matrix.now a.lists.now a.records.now k))) c.before.before.gather.ensures
 
 pub solumivaf_outcome_spec : {M : Type 1} → statement M
 solumivaf_outcome_spec =

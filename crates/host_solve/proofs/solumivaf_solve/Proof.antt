@@ -21,8 +21,8 @@ same-length c = search rules
 returns : tie.Need-returns
 returns c =
     let e = c.before.before.before in
-    let a = e.before.before.before.before.before.before.before.before.before.before.before.args in
-    solve_said a.matrix.now a.lists.now a.slice.now a.records.now _ e.before.before.gather.result e.before.before.gather.ensures c.tell.result (λ (s : Lent). solve_call (record { tiles = a.tiles; side = a.side; workers = a.workers; block = a.block }) s a.right.now a.answers.now) _ _ e.solve.ensures c.tell.ensures
+    let a = e.before.before.before.before.before.before.before.before.before.before.args in
+    solve_said a.matrix.now a.lists.now a.records.now _ e.before.before.gather.result e.before.before.gather.ensures c.tell.result (λ (s : Lent). solve_call (record { tiles = a.tiles; side = a.side; workers = a.workers }) s a.right.now a.answers.now) _ _ e.solve.ensures c.tell.ensures
 
 pub solumivaf_solve_spec : {M : Type 1} → statement M
 solumivaf_solve_spec =

@@ -24,14 +24,11 @@ same-length c = search rules
 same-length-2 : tie.Need-same-length-2
 same-length-2 c = search rules
 
-same-length-3 : tie.Need-same-length-3
-same-length-3 c = search rules
-
 returns : tie.Need-returns
 returns c =
-    let a = c.before.before.before.before.before.before.before.before.before.before.before.before.before.before.before.before.before.before.before.before.before.before.before.args in
-    let e = c.before.before.before.before.before.before.before.before.before.before.before in
-    call_said a.matrix.now a.matrix.now a.lists.now e.«open».new.1.1.0 a.slice.now e.«open».new.1.1.1.0 a.records.now e.«open».new.1.1.1.1.0 a.busy.now _ a.task.now a.column.now a.count a.number.now _ _ e.before.before.before.before.gather.result e.before.before.before.before.gather.ensures c.tell.result (open_call (record { tiles = a.tiles; side = a.side; workers = a.workers; block = a.block })) e.«open».result e.«open».ensures.0 e.«open».ensures.1 c.before.scatter.ensures.0 c.before.scatter.ensures.1 refl c.tell.ensures
+    let a = c.before.before.before.before.before.before.before.before.before.before.before.before.before.before.before.before.before.before.before.args in
+    let e = c.before.before.before.before.before.before.before.before.before in
+    call_said a.matrix.now a.matrix.now a.lists.now e.«open».new.1.1.0 a.records.now e.«open».new.1.1.1.0 a.busy.now _ a.task.now a.column.now a.count a.number.now _ _ e.before.before.before.gather.result e.before.before.before.gather.ensures c.tell.result (open_call (record { tiles = a.tiles; side = a.side; workers = a.workers })) e.«open».result e.«open».ensures.0 e.«open».ensures.1 c.before.scatter.ensures.0 c.before.scatter.ensures.1 refl c.tell.ensures
 
 pub solumivaf_open_spec : {M : Type 1} → statement M
 solumivaf_open_spec =
@@ -42,5 +39,5 @@ solumivaf_open_spec =
     scatter-requires
     tell-requires
     same-length
-    same-length-2 same-length-3
+    same-length-2
     returns)

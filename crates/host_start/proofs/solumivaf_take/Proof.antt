@@ -23,9 +23,9 @@ same-length c = search rules
 
 returns : tie.Need-returns
 returns c =
-    let a = c.before.before.before.before.before.before.before.before.before.before.before.before.before.before.before.before.before.args in
+    let a = c.before.before.before.before.before.before.before.before.before.before.before.before.before.before.before.before.args in
     let e = c.before.before.before.before.before.before.before in
-    call_said a.matrix.now a.matrix.now a.lists.now a.lists.now a.slice.now a.slice.now a.records.now e.take.new.1.1.1.1.0 a.busy.now _ a.task.now a.column.now a.count a.number.now _ _ e.before.before.gather.result e.before.before.gather.ensures c.tell.result (take_call (record { tiles = a.tiles; side = a.side; workers = a.workers; block = a.block }) a.w a.p) e.take.result e.take.ensures.0 e.take.ensures.1 c.before.scatter.ensures.0 c.before.scatter.ensures.1 refl c.tell.ensures
+    call_said a.matrix.now a.matrix.now a.lists.now a.lists.now a.records.now e.take.new.1.1.1.0 a.busy.now _ a.task.now a.column.now a.count a.number.now _ _ e.before.before.gather.result e.before.before.gather.ensures c.tell.result (take_call (record { tiles = a.tiles; side = a.side; workers = a.workers }) a.w a.p) e.take.result e.take.ensures.0 e.take.ensures.1 c.before.scatter.ensures.0 c.before.scatter.ensures.1 refl c.tell.ensures
 
 pub solumivaf_take_spec : {M : Type 1} → statement M
 solumivaf_take_spec =

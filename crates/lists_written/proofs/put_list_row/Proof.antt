@@ -47,7 +47,7 @@ loop-smaller : tie.Need-loop-smaller invariant_loop decreases_loop
 loop-smaller c = omega arith
 
 loop-preserved : tie.Need-loop-preserved invariant_loop decreases_loop
-loop-preserved c = let a = c.before.before.before.before.before.before.before.before.args in let p = c.before.before.before.before.before.before.before.before.requires in row_more _ _ _ _ _ _ _ (7 + a.t * 2) _ c.before.before.before.before.before.loop.invariant (row_end _ _ _ (omega arith)) p.1.0 _ (omega arith) (one_more _ _) (length_list a.n a.t a.l.now a.i _ p.0.0 (omega arith) p.1.1) c.before.before.put_list_lem.ensures
+loop-preserved c = let a = c.before.before.before.before.before.before.before.before.args in let p = c.before.before.before.before.before.before.before.before.requires in row_more _ _ _ _ _ _ _ (7 + a.t * 2) _ c.before.before.before.before.before.loop.invariant (row_end _ _ _ (omega arith)) p.1.0 _ (omega arith) (one_more _ _) (length_list a.n a.t a.l.now a.i _ p.0.0 (omega arith) p.1.1) c.before.before.put_list.ensures
 
 same-length : tie.Need-same-length invariant_loop decreases_loop
 same-length c = put_length c.before.loop.invariant.written

@@ -9,12 +9,6 @@ use Rattle.one_worker.proofs.Ends.{alone_told, published_told}
 use Rattle.one_worker.proofs.run_alone.Statement.{statement}
 use Rattle.one_worker.proofs.run_alone.Tie as tie
 
-array-borrow-prefix-none : tie.Need-array-borrow-prefix-none
-array-borrow-prefix-none c = search rules
-
-slice-aggregate-open : tie.Need-slice-aggregate-open
-slice-aggregate-open c = search rules
-
 one_idle-requires : tie.Need-one_idle-requires
 one_idle-requires c κs = search rules
 
@@ -29,24 +23,18 @@ overflow_add-budget c = search rules
 
 overflow_mul-budget : tie.Need-overflow_mul-budget
 overflow_mul-budget c =
-    let p = c.before.before.before.before.before.before.before.before.before.before.before.before.before.before.requires in
+    let p = c.before.before.before.before.before.before.before.before.before.before.before.before.requires in
     let k : c.task_count_lem.result ≤ 1496 = omega (arith, c.task_count_lem.ensures, few_tasks _ p.tiles.1) in
-    let j : c.before.before.before.before.before.before.before.before.before.before.before.before.before.before.args.side + 1 ≤ 17 = omega (arith, p.side.1) in
+    let j : c.before.before.before.before.before.before.before.before.before.before.before.before.args.side + 1 ≤ 17 = omega (arith, p.side.1) in
     omega (arith, mul-le-mul k j)
-
-array-borrow-prefix-none-2 : tie.Need-array-borrow-prefix-none-2
-array-borrow-prefix-none-2 c = search rules
-
-slice-aggregate-run : tie.Need-slice-aggregate-run
-slice-aggregate-run c = search rules
 
 run-requires : tie.Need-run-requires
 run-requires c κs = search rules
 
 outcome_of-requires : tie.Need-outcome_of-requires
 outcome_of-requires c κs =
-    let d = c.before.before.before.before.before.before.before.before in
-    let p = d.before.before.before.before.before.before.before.before.before.before.before.before.before.before.before.before.before.before.before.requires in
+    let d = c.before.before.before.before.before.before.before in
+    let p = d.before.before.before.before.before.before.before.before.before.before.before.before.before.before.before.before.requires in
     (record { some_tiles = p.tiles.0; few_tiles = p.tiles.1; some_side = p.side.0; small_side = p.side.1; some_workers = omega arith; few_workers = omega arith }, search rules, search rules)
 
 same-length : tie.Need-same-length
@@ -60,27 +48,23 @@ same-length-3 c = search rules
 
 returns : tie.Need-returns
 returns c =
-    let d = c.before.before.before.before.before.before.before.before.before in
-    let e = d.before.before.before.before.before.before.before.before.before.before.before in
-    let f = e.before.before.before.before.before.before.before.before in
-    let b = ap (λ k. k * (f.args.side + 1)) d.before.before.before.before.before.task_count_lem.ensures in (
-      alone_told _ _ _ _ _ _ f.requires e.before.one_idle.ensures _ _ _ _ _ e.«open».ensures.0 _ b _ _ _ _ _ _ d.run.ensures.0 _ c.outcome_of_lem.ensures,
-      published_told _ _ _ _ _ _ f.requires e.before.one_idle.ensures _ _ _ _ _ e.«open».ensures.0 _ b _ _ _ _ _ _ d.run.ensures.0 _ c.outcome_of_lem.ensures,
+    let d = c.before.before.before.before.before.before.before.before in
+    let e = d.before.before.before.before.before.before.before.before.before in
+    let f = e.before.before.before.before.before.before.before in
+    let b = ap (λ k. k * (f.args.side + 1)) d.before.before.before.before.task_count_lem.ensures in (
+      alone_told _ _ _ _ _ _ f.requires e.before.one_idle.ensures _ _ _ _ e.«open».ensures.0 _ b _ _ _ _ _ d.run.ensures.0 _ c.outcome_of_lem.ensures,
+      published_told _ _ _ _ _ _ f.requires e.before.one_idle.ensures _ _ _ _ e.«open».ensures.0 _ b _ _ _ _ _ d.run.ensures.0 _ c.outcome_of_lem.ensures,
     )
 
 pub run_alone_spec : {M : Type 1} → statement M
 run_alone_spec =
     tie.close
     (tie.spec
-    array-borrow-prefix-none
-    slice-aggregate-open
     one_idle-requires
     open-requires
     task_count-requires
     overflow_add-budget
     overflow_mul-budget
-    array-borrow-prefix-none-2
-    slice-aggregate-run
     run-requires
     outcome_of-requires
     same-length

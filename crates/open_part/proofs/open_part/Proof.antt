@@ -10,7 +10,7 @@ slice-relend-prefix-open : tie.Need-slice-relend-prefix-open
 slice-relend-prefix-open c = search rules
 
 slice-aggregate-open : tie.Need-slice-aggregate-open
-slice-aggregate-open c = sym (length-take-le _ c.before.before.before.before.before.before.args.records.now (search rules))
+slice-aggregate-open c = sym (length-take-le _ c.before.before.before.before.args.records.now (search rules))
 
 open-requires : tie.Need-open-requires
 open-requires c κs = search rules
@@ -21,14 +21,11 @@ same-length c = search rules
 same-length-2 : tie.Need-same-length-2
 same-length-2 c = search rules
 
-same-length-3 : tie.Need-same-length-3
-same-length-3 c = search rules
-
 returns : tie.Need-returns
 returns c =
-    let same : length c.before.before.before.before.before.«open».new.1.1.1.1.0 ≡ length (take c.before.before.before.before.before.before.before.before.before.before.before.before.args.n c.before.before.before.before.before.before.before.before.before.before.before.before.args.records.now) = c.records.given.0 in
-    let long : length c.before.before.before.before.before.«open».new.1.1.1.1.0 ≡ c.before.before.before.before.before.before.before.before.before.before.before.before.args.n = same ∙ length-take-le c.before.before.before.before.before.before.before.before.before.before.before.before.args.n c.before.before.before.before.before.before.before.before.before.before.before.before.args.records.now c.before.before.before.before.before.before.before.before.before.before.before.before.requires in
-    (rw (take_at c.before.before.before.before.before.«open».new.1.1.1.1.0 (drop c.before.before.before.before.before.before.before.before.before.before.before.before.args.n c.before.before.before.before.before.before.before.before.before.before.before.before.args.records.now) c.before.before.before.before.before.before.before.before.before.before.before.before.args.n long) c.before.before.before.before.before.«open».ensures.0, c.before.before.before.before.before.«open».ensures.1)
+    let same : length c.before.before.before.«open».new.1.1.1.0 ≡ length (take c.before.before.before.before.before.before.before.before.args.n c.before.before.before.before.before.before.before.before.args.records.now) = c.records.given.0 in
+    let long : length c.before.before.before.«open».new.1.1.1.0 ≡ c.before.before.before.before.before.before.before.before.args.n = same ∙ length-take-le c.before.before.before.before.before.before.before.before.args.n c.before.before.before.before.before.before.before.before.args.records.now c.before.before.before.before.before.before.before.before.requires in
+    (rw (take_at c.before.before.before.«open».new.1.1.1.0 (drop c.before.before.before.before.before.before.before.before.args.n c.before.before.before.before.before.before.before.before.args.records.now) c.before.before.before.before.before.before.before.before.args.n long) c.before.before.before.«open».ensures.0, c.before.before.before.«open».ensures.1)
 
 pub open_part_spec : {M : Type 1} → statement M
 open_part_spec =
@@ -38,5 +35,5 @@ open_part_spec =
     slice-aggregate-open
     open-requires
     same-length
-    same-length-2 same-length-3
+    same-length-2
     returns)

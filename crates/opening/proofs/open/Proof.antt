@@ -19,49 +19,40 @@ same-length c = search rules
 same-length-2 : tie.Need-same-length-2
 same-length-2 c = search rules
 
-same-length-3 : tie.Need-same-length-3
-same-length-3 c = search rules
-
 returns : tie.Need-returns
 returns c =
-    let d = c.before.before.before.before.before.before.before.before.before in
-    (refused _ _ _ _ _ d.args.workers.slots d.args.workers.count d.args.workers.number _ (c.before.before.open_answer.ensures d.args.workers.slots d.args.workers.number) _ c.before.accepted.ensures (not-true _ c.if1.true), record { same_count = refl; same_slots = refl })
+    let d = c.before.before.before.before.before.before.before in
+    (refused _ _ _ _ d.args.workers.slots d.args.workers.count d.args.workers.number _ (c.before.before.open_answer.ensures d.args.workers.slots d.args.workers.number) _ c.before.accepted.ensures (not-true _ c.if1.true), record { same_count = refl; same_slots = refl })
 
 fill_entries-requires : tie.Need-fill_entries-requires
 fill_entries-requires c κs = search rules
 
-fill_numbers-requires : tie.Need-fill_numbers-requires
-fill_numbers-requires c κs = search rules
-
 number_records-requires : tie.Need-number_records-requires
 number_records-requires c κs =
-    let d = c.before.before.before.before.before.before.before.before.before.before.before.before.before.before.before.before.before.before in
-    let k = checked_then _ _ _ _ _ d.args.workers.slots d.args.workers.count d.args.workers.number _ (c.before.before.before.before.before.before.before.before.before.before.before.open_answer.ensures d.args.workers.slots d.args.workers.number)
-    _ c.before.before.before.before.before.before.before.before.before.before.accepted.ensures (not-false _ c.before.before.before.before.before.before.before.before.before.if1.false) in
+    let d = c.before.before.before.before.before.before.before.before.before.before.before.before in
+    let k = checked_then _ _ _ _ d.args.workers.slots d.args.workers.count d.args.workers.number _ (c.before.before.before.before.before.before.before.open_answer.ensures d.args.workers.slots d.args.workers.number)
+    _ c.before.before.before.before.before.before.accepted.ensures (not-false _ c.before.before.before.before.before.if1.false) in
     (k.sizes, k.fit.records_fit)
 
 idle_workers-requires : tie.Need-idle_workers-requires
 idle_workers-requires c κs =
-    let d = c.before.before.before.before.before.before.before.before.before.before.before.before.before.before.before.before.before.before.before.before in
-    let k = checked_then _ _ _ _ _ d.args.workers.slots d.args.workers.count d.args.workers.number _ (c.before.before.before.before.before.before.before.before.before.before.before.before.before.open_answer.ensures d.args.workers.slots d.args.workers.number)
-    _ c.before.before.before.before.before.before.before.before.before.before.before.before.accepted.ensures (not-false _ c.before.before.before.before.before.before.before.before.before.before.before.if1.false) in
+    let d = c.before.before.before.before.before.before.before.before.before.before.before.before.before.before in
+    let k = checked_then _ _ _ _ d.args.workers.slots d.args.workers.count d.args.workers.number _ (c.before.before.before.before.before.before.before.before.before.open_answer.ensures d.args.workers.slots d.args.workers.number)
+    _ c.before.before.before.before.before.before.before.before.accepted.ensures (not-false _ c.before.before.before.before.before.before.before.if1.false) in
     omega (arith, k.counted, k.sizes.few_workers)
+
+same-length-3 : tie.Need-same-length-3
+same-length-3 c = search rules
 
 same-length-4 : tie.Need-same-length-4
 same-length-4 c = search rules
 
-same-length-5 : tie.Need-same-length-5
-same-length-5 c = search rules
-
-same-length-6 : tie.Need-same-length-6
-same-length-6 c = search rules
-
 returns-2 : tie.Need-returns-2
 returns-2 c =
-    let d = c.before.before.before.before.before.before.before.before.before.before.before.before.before.before.before.before.before.before.before.before.before in (
-      accepted _ _ _ _ _ d.args.workers.slots d.args.workers.count d.args.workers.number _ (c.before.before.before.before.before.before.before.before.before.before.before.before.before.before.open_answer.ensures d.args.workers.slots d.args.workers.number)
-          _ c.before.before.before.before.before.before.before.before.before.before.before.before.before.accepted.ensures (not-false _ c.before.before.before.before.before.before.before.before.before.before.before.before.if1.false)
-          _ _ _ _ _ _ _ _ refl c.before.before.before.before.before.before.before.before.before.before.fill_entries.ensures refl c.before.before.before.before.before.before.fill_numbers.ensures c.before.before.number_records.ensures c.idle_workers.ensures.0.0 c.idle_workers.ensures.0.1,
+    let d = c.before.before.before.before.before.before.before.before.before.before.before.before.before.before.before in (
+      accepted _ _ _ _ d.args.workers.slots d.args.workers.count d.args.workers.number _ (c.before.before.before.before.before.before.before.before.before.before.open_answer.ensures d.args.workers.slots d.args.workers.number)
+          _ c.before.before.before.before.before.before.before.before.before.accepted.ensures (not-false _ c.before.before.before.before.before.before.before.before.if1.false)
+          _ _ _ _ _ _ refl c.before.before.before.before.before.before.fill_entries.ensures c.before.before.number_records.ensures c.idle_workers.ensures.0.0 c.idle_workers.ensures.0.1,
       c.idle_workers.ensures.1,
     )
 
@@ -73,13 +64,10 @@ open_spec =
     accepted-requires
     same-length
     same-length-2
-    same-length-3
     returns
     fill_entries-requires
-    fill_numbers-requires
     number_records-requires
     idle_workers-requires
+    same-length-3
     same-length-4
-    same-length-5
-    same-length-6
     returns-2)

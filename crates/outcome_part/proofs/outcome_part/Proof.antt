@@ -6,7 +6,7 @@ use Rattle.outcome_part.proofs.outcome_part.Statement.{statement}
 use Rattle.outcome_part.proofs.outcome_part.Tie as tie
 
 slice-aggregate-outcome : tie.Need-slice-aggregate-outcome
-slice-aggregate-outcome c = sym (length-take-le _ c.before.before.before.before.args.records.now (search rules))
+slice-aggregate-outcome c = sym (length-take-le _ c.before.before.before.args.records.now (search rules))
 
 outcome-requires : tie.Need-outcome-requires
 outcome-requires c κs = search rules

@@ -7,10 +7,10 @@ use Rattle.play.proofs.play.Statement.{statement}
 use Rattle.play.proofs.play.Tie as tie
 
 abbrev invariant_loop : tie.invariant-loop
-invariant_loop text matrix₀ lists₀ slice₀ records₀ right₀ answers₀ out₀ lent₀ at₀ matrix lists slice records right answers out lent at = (length matrix ≡ length matrix₀) × (length lists ≡ length lists₀) × (length slice ≡ length slice₀) × (length records ≡ length records₀) × (length right ≡ length right₀) × (length answers ≡ length answers₀) × (length out ≡ length out₀)
+invariant_loop text matrix₀ lists₀ records₀ right₀ answers₀ out₀ lent₀ at₀ matrix lists records right answers out lent at = (length matrix ≡ length matrix₀) × (length lists ≡ length lists₀) × (length records ≡ length records₀) × (length right ≡ length right₀) × (length answers ≡ length answers₀) × (length out ≡ length out₀)
 
 abbrev decreases_loop : tie.decreases-loop
-decreases_loop text matrix₀ lists₀ slice₀ records₀ right₀ answers₀ out₀ lent₀ at₀ matrix lists slice records right answers out lent at = length text - at
+decreases_loop text matrix₀ lists₀ records₀ right₀ answers₀ out₀ lent₀ at₀ matrix lists records right answers out lent at = length text - at
 
 idle-requires : tie.Need-idle-requires invariant_loop decreases_loop
 idle-requires c κs = search rules
@@ -63,9 +63,6 @@ same-length-5 c = search rules
 same-length-6 : tie.Need-same-length-6 invariant_loop decreases_loop
 same-length-6 c = search rules
 
-same-length-7 : tie.Need-same-length-7 invariant_loop decreases_loop
-same-length-7 c = search rules
-
 returns : tie.Need-returns invariant_loop decreases_loop
 returns c = search rules
 
@@ -92,5 +89,4 @@ play_spec =
     same-length-4
     same-length-5
     same-length-6
-    same-length-7
     returns)

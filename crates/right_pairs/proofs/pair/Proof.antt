@@ -1,8 +1,7 @@
--- All panels of T-4(k,i): what is left from column a on, where a panel starts, is the whole. Assumes nothing.
+-- All columns of T-4(k,i): what is left from column c on is the whole. Assumes nothing.
 use mathlib.Core.Path.{◌≡◌, refl, ◌∙◌}
 use mathlib.Core.Bool.{true}
-use Prim.Native.Nat.{ℕ, ◌+◌, ◌-◌, ◌%◌, ◌≤◌}
-use native.Mathlib.Nat.{zero-mod}
+use Prim.Native.Nat.{ℕ, ◌-◌, ◌≤◌}
 use native.Mathlib.Omega.{arith}
 use lib.ListN.{length}
 use borrow.Author.Tests.{not-true, not-false}
@@ -10,60 +9,53 @@ use Rattle.model.specs.Tile.{all_finite}
 use Rattle.model.specs.Plan.{plan, plan_of}
 use Rattle.model.specs.Solve.{going, paired}
 use Rattle.progress.specs.Right.{passed_of, pair_all}
-use Rattle.progress.proofs.Turns.{Left, left_begins, left_leaps, leap_stops, left_ends, paired_keeps}
-use Rattle.right_pairs.proofs.Turns.{panel_room, panel_next}
+use Rattle.progress.proofs.Turns.{Left, left_begins, left_goes, left_stops, left_ends, paired_keeps}
 use Rattle.right_pairs.proofs.pair.Statement.{statement}
 use Rattle.right_pairs.proofs.pair.Tie as tie
 
 abbrev invariant_loop : tie.invariant-loop
-invariant_loop z matrix lists slice y₀ k i t b a₀ y a =
-    (a ≤ t) × (length y ≡ length y₀) × (all_finite y ≡ true) × (a % b ≡ 0)
-    × Left (paired (plan_of z) (record { matrix = matrix; lists = lists; slice = slice }) k i) (paired_keeps (plan_of z) (record { matrix = matrix; lists = lists; slice = slice }) k i) t a
-    (pair_all (plan_of z) (record { matrix = matrix; lists = lists; slice = slice }) k i (going y₀)) a y
+invariant_loop z matrix lists y₀ k i t c₀ y c =
+    (c ≤ t) × (length y ≡ length y₀) × (all_finite y ≡ true)
+    × Left (paired (plan_of z) (record { matrix = matrix; lists = lists }) k i) (paired_keeps (plan_of z) (record { matrix = matrix; lists = lists }) k i) t c
+    (pair_all (plan_of z) (record { matrix = matrix; lists = lists }) k i (going y₀)) c y
 
 abbrev decreases_loop : tie.decreases-loop
-decreases_loop z matrix lists slice y₀ k i t b a₀ y a = t - a
-
--- the panel that starts at column a ends before column t
-room : (c : tie.In-loop invariant_loop decreases_loop) → c.before.loop.a + c.before.before.before.before.before.before.args.z.block ≤ c.before.before.before.before.before.before.args.z.side
-room c = panel_room c.before.before.before.before.before.before.args.z.block c.before.loop.a c.before.before.before.before.before.before.args.z.side c.before.loop.invariant.3 c.before.before.before.before.before.before.requires.0.block.divides c.loop-test.true
+decreases_loop z matrix lists y₀ k i t c₀ y c = t - c
 
 loop-init : tie.Need-loop-init invariant_loop decreases_loop
 unfolding pair_all plan
-loop-init c = (omega arith, refl, c.before.before.before.before.requires.1.0.all_finite_lem, zero-mod _, left_begins _ _ _)
+loop-init c = (omega arith, refl, c.before.before.before.requires.1.0.all_finite_lem, left_begins _ _ _)
 
-pair_panel-requires : tie.Need-pair_panel-requires invariant_loop decreases_loop
-pair_panel-requires c κs =
+pair_right_column-requires : tie.Need-pair_right_column-requires invariant_loop decreases_loop
+pair_right_column-requires c κs =
     let i = c.before.before.loop.invariant in
-    let p = c.before.before.before.before.before.before.before.requires in
-    (p.0, (record { long = i.1 ∙ p.1.0.long; all_finite_lem = i.2 }, (p.1.1.0, p.1.1.1, room c.before, i.3)))
+    let p = c.before.before.before.before.before.before.requires in
+    (p.0, (record { long = i.1 ∙ p.1.0.long; all_finite_lem = i.2 }, (p.1.1.0, p.1.1.1, c.before.loop-test.true)))
 
 same-length : tie.Need-same-length invariant_loop decreases_loop
-same-length c = c.before.before.before.pair_panel.auto.1.1.1.1.0 ∙ c.before.before.before.before.before.before.loop.invariant.1
+same-length c = c.before.before.before.pair_right_column.auto.1.1.1.0 ∙ c.before.before.before.before.before.before.loop.invariant.1
 
 returns : tie.Need-returns invariant_loop decreases_loop
 unfolding passed_of
 returns c =
     let i = c.before.before.before.before.before.before.loop.invariant in
     record {
-      is = leap_stops _ (paired_keeps _ _ _ _) _ _ _ _ _ _ i.4 (room c.before.before.before.before.before) (c.before.before.before.pair_panel.ensures.stops (not-true _ c.if1.true));
+      is = left_stops _ (paired_keeps _ _ _ _) _ _ _ _ _ i.3 c.before.before.before.before.before.loop-test.true (c.before.before.before.pair_right_column.ensures.stops (not-true _ c.if1.true));
       finite_then = λ q. let x : ◌≡◌ {A = ℕ} 0 1 = cc in absurd (omega arith);
     }
 
-overflow_add-a : tie.Need-overflow_add-a invariant_loop decreases_loop
-overflow_add-a c = omega (arith, room c.before.before.before.before.before, c.before.before.before.before.before.before.before.before.before.before.before.requires.0.side_most)
+overflow_add-c : tie.Need-overflow_add-c invariant_loop decreases_loop
+overflow_add-c c = omega (arith, c.before.before.before.before.before.before.before.before.before.before.requires.0.side_most)
 
 loop-smaller : tie.Need-loop-smaller invariant_loop decreases_loop
-loop-smaller c = omega (arith, room c.before.before.before.before.before, c.before.before.before.before.before.before.before.before.before.before.before.requires.0.block.some_block)
+loop-smaller c = omega arith
 
 loop-preserved : tie.Need-loop-preserved invariant_loop decreases_loop
 loop-preserved c =
     let i = c.before.before.before.before.before.before.loop.invariant in
-    let e = c.before.before.before.pair_panel.ensures in
+    let e = c.before.before.before.pair_right_column.ensures in
     let on = not-false _ c.if1.false in
-    let r = room c.before.before.before.before.before in
-    let some = c.before.before.before.before.before.before.before.before.before.before.before.requires.0.block.some_block in
-    (r, c.before.before.before.pair_panel.auto.1.1.1.1.0 ∙ i.1, e.finite_then on, panel_next _ _ some i.3, left_leaps _ (paired_keeps _ _ _ _) _ _ _ _ _ _ i.4 r (e.goes on))
+    (omega arith, c.before.before.before.pair_right_column.auto.1.1.1.0 ∙ i.1, e.finite_then on, left_goes _ (paired_keeps _ _ _ _) _ _ _ _ _ i.3 c.before.before.before.before.before.loop-test.true (e.goes on))
 
 same-length-2 : tie.Need-same-length-2 invariant_loop decreases_loop
 same-length-2 c = c.before.loop.invariant.1
@@ -72,7 +64,7 @@ returns-2 : tie.Need-returns-2 invariant_loop decreases_loop
 unfolding passed_of
 returns-2 c =
     let i = c.before.loop.invariant in
-    record { is = left_ends _ (paired_keeps _ _ _ _) _ _ _ _ i.4 (omega arith); finite_then = λ q. i.2 }
+    record { is = left_ends _ (paired_keeps _ _ _ _) _ _ _ _ i.3 (omega arith); finite_then = λ q. i.2 }
 
 pub pair_spec : {M : Type 1} → statement M
 pair_spec =
@@ -81,10 +73,10 @@ pair_spec =
     invariant_loop
     decreases_loop
     loop-init
-    pair_panel-requires
+    pair_right_column-requires
     same-length
     returns
-    overflow_add-a
+    overflow_add-c
     loop-smaller
     loop-preserved
     same-length-2

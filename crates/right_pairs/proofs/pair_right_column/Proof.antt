@@ -13,11 +13,11 @@ use Rattle.right_pairs.proofs.pair_right_column.Statement.{statement}
 use Rattle.right_pairs.proofs.pair_right_column.Tie as tie
 
 -- where the tile and its list stand
-upper_row : (c : tie.After-tile_start) → c.before.before.before.before.before.args.k < c.before.before.before.before.before.args.z.tiles
-upper_row c = omega (arith, c.before.before.before.before.before.requires.1.1.0, c.before.before.before.before.before.requires.1.1.1)
+upper_row : (c : tie.After-tile_start) → c.before.before.before.before.args.k < c.before.before.before.before.args.z.tiles
+upper_row c = omega (arith, c.before.before.before.before.requires.1.1.0, c.before.before.before.before.requires.1.1.1)
 
-here : (c : tie.After-tile_start) → Ready c.before.before.before.before.before.args.z c.before.before.before.before.before.args.i c.before.before.before.before.before.args.k c.before.before.before.before.before.args.matrix.now c.before.before.before.before.before.args.lists.now
-here c = ready c.before.before.before.before.before.requires.0 c.before.before.before.before.before.args.i c.before.before.before.before.before.args.k c.before.before.before.before.before.requires.1.1.1 (upper_row c)
+here : (c : tie.After-tile_start) → Ready c.before.before.before.before.args.z c.before.before.before.before.args.i c.before.before.before.before.args.k c.before.before.before.before.args.matrix.now c.before.before.before.before.args.lists.now
+here c = ready c.before.before.before.before.requires.0 c.before.before.before.before.args.i c.before.before.before.before.args.k c.before.before.before.before.requires.1.1.1 (upper_row c)
 
 tile_start-requires : tie.Need-tile_start-requires
 tile_start-requires c κs = search rules
@@ -26,29 +26,29 @@ list_start-requires : tie.Need-list_start-requires
 list_start-requires c κs = search rules
 
 overflow_add-wide : tie.Need-overflow_add-wide
-overflow_add-wide c = let r = here c.before in omega (arith, r.list_room, r.lists_few, c.before.before.before.before.before.before.requires.1.1.2, c.list_start.ensures)
+overflow_add-wide c = let r = here c.before in omega (arith, r.list_room, r.lists_few, c.before.before.before.before.before.requires.1.1.2, c.list_start.ensures)
 
 shared-slice-read-wide : tie.Need-shared-slice-read-wide
-shared-slice-read-wide c = let r = here c.before.before in omega (arith, r.list_room, c.before.before.before.before.before.before.before.requires.1.1.2, c.before.list_start.ensures)
+shared-slice-read-wide c = let r = here c.before.before in omega (arith, r.list_room, c.before.before.before.before.before.before.requires.1.1.2, c.before.list_start.ensures)
 
 wide-requires : tie.Need-wide-requires
 wide-requires c κs = search rules
 
 -- the two parts of the right side
-upper_room : (c : tie.After-pair_right-arg) → c.before.before.before.before.before.before.before.before.before.args.k * c.before.before.before.before.before.before.before.before.before.args.z.side + c.before.before.before.before.before.before.before.before.before.args.z.side ≤ length c.before.before.before.before.before.before.before.before.before.args.y.now
-upper_room c = right_room c.before.before.before.before.before.before.before.before.before.args.z c.before.before.before.before.before.before.before.before.before.args.y.now c.before.before.before.before.before.before.before.before.before.requires.1.0.long c.before.before.before.before.before.before.before.before.before.args.k (upper_row c.before.before.before.before)
+upper_room : (c : tie.After-pair_right-arg) → c.before.before.before.before.before.before.before.before.args.k * c.before.before.before.before.before.before.before.before.args.z.side + c.before.before.before.before.before.before.before.before.args.z.side ≤ length c.before.before.before.before.before.before.before.before.args.y.now
+upper_room c = right_room c.before.before.before.before.before.before.before.before.args.z c.before.before.before.before.before.before.before.before.args.y.now c.before.before.before.before.before.before.before.before.requires.1.0.long c.before.before.before.before.before.before.before.before.args.k (upper_row c.before.before.before.before)
 
-lower_room : (c : tie.After-pair_right-arg) → c.before.before.before.before.before.before.before.before.before.args.i * c.before.before.before.before.before.before.before.before.before.args.z.side + c.before.before.before.before.before.before.before.before.before.args.z.side ≤ length c.before.before.before.before.before.before.before.before.before.args.y.now
-lower_room c = right_room c.before.before.before.before.before.before.before.before.before.args.z c.before.before.before.before.before.before.before.before.before.args.y.now c.before.before.before.before.before.before.before.before.before.requires.1.0.long c.before.before.before.before.before.before.before.before.before.args.i c.before.before.before.before.before.before.before.before.before.requires.1.1.1
+lower_room : (c : tie.After-pair_right-arg) → c.before.before.before.before.before.before.before.before.args.i * c.before.before.before.before.before.before.before.before.args.z.side + c.before.before.before.before.before.before.before.before.args.z.side ≤ length c.before.before.before.before.before.before.before.before.args.y.now
+lower_room c = right_room c.before.before.before.before.before.before.before.before.args.z c.before.before.before.before.before.before.before.before.args.y.now c.before.before.before.before.before.before.before.before.requires.1.0.long c.before.before.before.before.before.before.before.before.args.i c.before.before.before.before.before.before.before.before.requires.1.1.1
 
-few : (c : tie.After-pair_right-arg) → length c.before.before.before.before.before.before.before.before.before.args.y.now ≤ 256
-few c = right_few c.before.before.before.before.before.before.before.before.before.args.z c.before.before.before.before.before.before.before.before.before.args.y.now c.before.before.before.before.before.before.before.before.before.requires.1.0.long c.before.before.before.before.before.before.before.before.before.requires.0.tiles_most c.before.before.before.before.before.before.before.before.before.requires.0.side_most
+few : (c : tie.After-pair_right-arg) → length c.before.before.before.before.before.before.before.before.args.y.now ≤ 256
+few c = right_few c.before.before.before.before.before.before.before.before.args.z c.before.before.before.before.before.before.before.before.args.y.now c.before.before.before.before.before.before.before.before.requires.1.0.long c.before.before.before.before.before.before.before.before.requires.0.tiles_most c.before.before.before.before.before.before.before.before.requires.0.side_most
 
-apart : (c : tie.After-pair_right-arg) → Apart c.before.before.before.before.before.before.before.before.before.args.z.side (c.before.before.before.before.before.before.before.before.before.args.k * c.before.before.before.before.before.before.before.before.before.args.z.side) (c.before.before.before.before.before.before.before.before.before.args.i * c.before.before.before.before.before.before.before.before.before.args.z.side)
-apart c = slots_apart c.before.before.before.before.before.before.before.before.before.args.z.side c.before.before.before.before.before.before.before.before.before.args.k c.before.before.before.before.before.before.before.before.before.args.i c.before.before.before.before.before.before.before.before.before.requires.1.1.0
+apart : (c : tie.After-pair_right-arg) → Apart c.before.before.before.before.before.before.before.before.args.z.side (c.before.before.before.before.before.before.before.before.args.k * c.before.before.before.before.before.before.before.before.args.z.side) (c.before.before.before.before.before.before.before.before.args.i * c.before.before.before.before.before.before.before.before.args.z.side)
+apart c = slots_apart c.before.before.before.before.before.before.before.before.args.z.side c.before.before.before.before.before.before.before.before.args.k c.before.before.before.before.before.before.before.before.args.i c.before.before.before.before.before.before.before.before.requires.1.1.0
 
-entry : (c : tie.After-pair_right-arg) → c.before.wide.result ≤ c.before.before.before.before.before.before.before.before.before.args.z.side
-entry c = rw (c.before.wide.ensures, c.before.before.before.list_start.ensures) (c.before.before.before.before.before.before.before.before.before.requires.0.lower_entries c.before.before.before.before.before.before.before.before.before.args.i c.before.before.before.before.before.before.before.before.before.args.k c.before.before.before.before.before.before.before.before.before.args.c c.before.before.before.before.before.before.before.before.before.requires.1.1.0 c.before.before.before.before.before.before.before.before.before.requires.1.1.1 c.before.before.before.before.before.before.before.before.before.requires.1.1.2)
+entry : (c : tie.After-pair_right-arg) → c.before.wide.result ≤ c.before.before.before.before.before.before.before.before.args.z.side
+entry c = rw (c.before.wide.ensures, c.before.before.before.list_start.ensures) (c.before.before.before.before.before.before.before.before.requires.0.lower_entries c.before.before.before.before.before.before.before.before.args.i c.before.before.before.before.before.before.before.before.args.k c.before.before.before.before.before.before.before.before.args.c c.before.before.before.before.before.before.before.before.requires.1.1.0 c.before.before.before.before.before.before.before.before.requires.1.1.1 c.before.before.before.before.before.before.before.before.requires.1.1.2)
 
 overflow_mul-pair_right : tie.Need-overflow_mul-pair_right
 overflow_mul-pair_right c = omega (arith, upper_room c, few c)
@@ -58,8 +58,8 @@ overflow_mul-pair_right-2 c = omega (arith, lower_room c, few c)
 
 pair_right-requires : tie.Need-pair_right-requires
 pair_right-requires c κs =
-    let a = c.before.before.before.before.before.before.before.before.before.args in
-    let p = c.before.before.before.before.before.before.before.before.before.requires in
+    let a = c.before.before.before.before.before.before.before.before.args in
+    let p = c.before.before.before.before.before.before.before.before.requires in
     let t = a.z.side in
     let r = here c.before.before.before.before in
     let one : t * 1 ≡ t = omega arith in
@@ -74,11 +74,11 @@ same-length c = search rules
 
 returns : tie.Need-returns
 returns c =
-    let a = c.before.before.before.before.before.before.before.before.before.before.before.before.args in
-    let p = c.before.before.before.before.before.before.before.before.before.before.before.before.requires in
+    let a = c.before.before.before.before.before.before.before.before.before.before.before.args in
+    let p = c.before.before.before.before.before.before.before.before.before.before.before.requires in
     let r = here c.before.before.before.before.before.before.before in
     let f = c.before.before.before in
-    column_paired a.z p.1.1.3 a.matrix.now a.lists.now a.slice.now a.k a.i a.c a.y.now p.1.1.2 r.list_room _
+    column_paired a.z a.matrix.now a.lists.now a.k a.i a.c a.y.now p.1.1.2 r.list_room _
     (c.before.before.before.before.wide.ensures ∙ ap (λ x. get_or a.lists.now (x + a.c) 0) c.before.before.before.before.before.before.list_start.ensures)
     (upper_room f) (lower_room f) (apart f) _ c.before.before.before.before.before.before.before.tile_start.ensures _ _
     c.before.before.pair_right.ensures (entry f) p.1.0.all_finite_lem

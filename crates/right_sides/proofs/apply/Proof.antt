@@ -14,26 +14,26 @@ use Rattle.right_sides.proofs.apply.Statement.{statement}
 use Rattle.right_sides.proofs.apply.Tie as tie
 
 abbrev invariant_loop : tie.invariant-loop
-invariant_loop z matrix lists slice y₀ k t c₀ y c =
+invariant_loop z matrix lists y₀ k t c₀ y c =
     (c ≤ t) × (length y ≡ length y₀) × (all_finite y ≡ true)
-    × Left (applied (plan_of z) (record { matrix = matrix; lists = lists; slice = slice }) k) (applied_keeps (plan_of z) (record { matrix = matrix; lists = lists; slice = slice }) k) t c
-    (apply_all (plan_of z) (record { matrix = matrix; lists = lists; slice = slice }) k (going y₀)) c y
+    × Left (applied (plan_of z) (record { matrix = matrix; lists = lists }) k) (applied_keeps (plan_of z) (record { matrix = matrix; lists = lists }) k) t c
+    (apply_all (plan_of z) (record { matrix = matrix; lists = lists }) k (going y₀)) c y
 
 abbrev decreases_loop : tie.decreases-loop
-decreases_loop z matrix lists slice y₀ k t c₀ y c = t - c
+decreases_loop z matrix lists y₀ k t c₀ y c = t - c
 
 loop-init : tie.Need-loop-init invariant_loop decreases_loop
 unfolding apply_all plan
-loop-init c = (omega arith, refl, c.before.before.before.before.requires.1.0.all_finite_lem, left_begins _ _ _)
+loop-init c = (omega arith, refl, c.before.before.before.requires.1.0.all_finite_lem, left_begins _ _ _)
 
 apply_right_column-requires : tie.Need-apply_right_column-requires invariant_loop decreases_loop
 apply_right_column-requires c κs =
     let i = c.before.before.loop.invariant in
-    let p = c.before.before.before.before.before.before.before.requires in
+    let p = c.before.before.before.before.before.before.requires in
     (p.0, (record { long = i.1 ∙ p.1.0.long; all_finite_lem = i.2 }, (p.1.1, c.before.loop-test.true)))
 
 same-length : tie.Need-same-length invariant_loop decreases_loop
-same-length c = c.before.before.before.apply_right_column.auto.1.1.1.1.0 ∙ c.before.before.before.before.before.before.loop.invariant.1
+same-length c = c.before.before.before.apply_right_column.auto.1.1.1.0 ∙ c.before.before.before.before.before.before.loop.invariant.1
 
 returns : tie.Need-returns invariant_loop decreases_loop
 unfolding passed_of
@@ -45,7 +45,7 @@ returns c =
     }
 
 overflow_add-c : tie.Need-overflow_add-c invariant_loop decreases_loop
-overflow_add-c c = omega (arith, c.before.before.before.before.before.before.before.before.before.before.before.requires.0.side_most)
+overflow_add-c c = omega (arith, c.before.before.before.before.before.before.before.before.before.before.requires.0.side_most)
 
 loop-smaller : tie.Need-loop-smaller invariant_loop decreases_loop
 loop-smaller c = omega arith
@@ -55,7 +55,7 @@ loop-preserved c =
     let i = c.before.before.before.before.before.before.loop.invariant in
     let e = c.before.before.before.apply_right_column.ensures in
     let on = not-false _ c.if1.false in
-    (omega arith, c.before.before.before.apply_right_column.auto.1.1.1.1.0 ∙ i.1, e.finite_then on, left_goes _ (applied_keeps _ _ _) _ _ _ _ _ i.3 c.before.before.before.before.before.loop-test.true (e.goes on))
+    (omega arith, c.before.before.before.apply_right_column.auto.1.1.1.0 ∙ i.1, e.finite_then on, left_goes _ (applied_keeps _ _ _) _ _ _ _ _ i.3 c.before.before.before.before.before.loop-test.true (e.goes on))
 
 same-length-2 : tie.Need-same-length-2 invariant_loop decreases_loop
 same-length-2 c = c.before.loop.invariant.1

@@ -11,8 +11,8 @@ use Rattle.right_sides.proofs.apply_right_column.Statement.{statement}
 use Rattle.right_sides.proofs.apply_right_column.Tie as tie
 
 -- where the tile and its list stand
-here : (c : tie.After-list_start) → Ready c.before.before.before.before.before.before.args.z c.before.before.before.before.before.before.args.k c.before.before.before.before.before.before.args.k c.before.before.before.before.before.before.args.matrix.now c.before.before.before.before.before.before.args.lists.now
-here c = ready c.before.before.before.before.before.before.requires.0 c.before.before.before.before.before.before.args.k c.before.before.before.before.before.before.args.k c.before.before.before.before.before.before.requires.1.1.0 c.before.before.before.before.before.before.requires.1.1.0
+here : (c : tie.After-list_start) → Ready c.before.before.before.before.before.args.z c.before.before.before.before.before.args.k c.before.before.before.before.before.args.k c.before.before.before.before.before.args.matrix.now c.before.before.before.before.before.args.lists.now
+here c = ready c.before.before.before.before.before.requires.0 c.before.before.before.before.before.args.k c.before.before.before.before.before.args.k c.before.before.before.before.before.requires.1.1.0 c.before.before.before.before.before.requires.1.1.0
 
 tile_start-requires : tie.Need-tile_start-requires
 tile_start-requires c κs = search rules
@@ -25,8 +25,8 @@ overflow_mul-a c = search rules
 
 start_block-requires : tie.Need-start_block-requires
 start_block-requires c κs =
-    let a = c.before.before.before.before.before.before.before.args in
-    let p = c.before.before.before.before.before.before.before.requires in
+    let a = c.before.before.before.before.before.before.args in
+    let p = c.before.before.before.before.before.before.requires in
     let r = here c.before in
     rw c.before.list_start.ensures (
       record {
@@ -40,8 +40,8 @@ start_block-requires c κs =
 
 apply_right-requires : tie.Need-apply_right-requires
 apply_right-requires c κs =
-    let a = c.before.before.before.before.before.before.before.before.before.before.before.args in
-    let p = c.before.before.before.before.before.before.before.before.before.before.before.requires in
+    let a = c.before.before.before.before.before.before.before.before.before.before.args in
+    let p = c.before.before.before.before.before.before.before.before.before.before.requires in
     let r = here c.before.before.before.before.before in
     let t = a.z.side in
     let e = c.before.before.before.before.before.list_start.ensures in
@@ -65,10 +65,10 @@ same-length c = search rules
 
 returns : tie.Need-returns
 returns c =
-    let a = c.before.before.before.before.before.before.before.before.before.before.before.before.before.before.args in
-    let p = c.before.before.before.before.before.before.before.before.before.before.before.before.before.before.requires in
+    let a = c.before.before.before.before.before.before.before.before.before.before.before.before.before.args in
+    let p = c.before.before.before.before.before.before.before.before.before.before.before.before.before.requires in
     let r = here c.before.before.before.before.before.before.before.before in
-    column_applied a.z a.matrix.now a.lists.now a.slice.now a.k a.c a.y.now (right_room a.z a.y.now p.1.0.long a.k p.1.1.0) _ c.before.before.before.before.before.before.before.before.before.tile_start.ensures _ _ _
+    column_applied a.z a.matrix.now a.lists.now a.k a.c a.y.now (right_room a.z a.y.now p.1.0.long a.k p.1.1.0) _ c.before.before.before.before.before.before.before.before.before.tile_start.ensures _ _ _
     (rw c.before.before.before.before.before.before.before.before.list_start.ensures at c.before.before.before.before.before.before.start_block.ensures) c.before.before.apply_right.ensures r.list_room (λ i h. p.0.diagonal_entries a.k i p.1.1.0 h) p.1.0.all_finite_lem
 
 pub apply_right_column_spec : {M : Type 1} → statement M

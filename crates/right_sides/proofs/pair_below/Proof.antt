@@ -16,34 +16,34 @@ use Rattle.right_sides.proofs.pair_below.Statement.{statement}
 use Rattle.right_sides.proofs.pair_below.Tie as tie
 
 abbrev invariant_loop : tie.invariant-loop
-invariant_loop z matrix lists slice y₀ k n i₀ y i =
+invariant_loop z matrix lists y₀ k n i₀ y i =
     (i ≤ n) × (k < i) × (length y ≡ length y₀) × (all_finite y ≡ true)
-    × Left (pair_all (plan_of z) (record { matrix = matrix; lists = lists; slice = slice }) k) (pairs_keep (plan_of z) (record { matrix = matrix; lists = lists; slice = slice }) k) n i
-    (in_turn (pair_all (plan_of z) (record { matrix = matrix; lists = lists; slice = slice }) k) (after n k) (going y₀)) i y
+    × Left (pair_all (plan_of z) (record { matrix = matrix; lists = lists }) k) (pairs_keep (plan_of z) (record { matrix = matrix; lists = lists }) k) n i
+    (in_turn (pair_all (plan_of z) (record { matrix = matrix; lists = lists }) k) (after n k) (going y₀)) i y
 
 abbrev decreases_loop : tie.decreases-loop
-decreases_loop z matrix lists slice y₀ k n i₀ y i = n - i
+decreases_loop z matrix lists y₀ k n i₀ y i = n - i
 
 overflow_add-i : tie.Need-overflow_add-i invariant_loop decreases_loop
-overflow_add-i c = omega (arith, c.before.before.before.before.requires.0.tiles_most, c.before.before.before.before.requires.1.1)
+overflow_add-i c = omega (arith, c.before.before.before.requires.0.tiles_most, c.before.before.before.requires.1.1)
 
 loop-init : tie.Need-loop-init invariant_loop decreases_loop
 unfolding after
 loop-init c =
-    let s : c.before.before.before.before.args.k + 1 ≡ suc c.before.before.before.before.args.k = omega arith in
-    (omega (arith, c.before.before.before.before.requires.1.1), omega arith, refl, c.before.before.before.before.requires.1.0.all_finite_lem, rw s)
+    let s : c.before.before.before.args.k + 1 ≡ suc c.before.before.before.args.k = omega arith in
+    (omega (arith, c.before.before.before.requires.1.1), omega arith, refl, c.before.before.before.requires.1.0.all_finite_lem, rw s)
 
 pair-requires : tie.Need-pair-requires invariant_loop decreases_loop
 pair-requires c κs =
     let i = c.before.before.loop.invariant in
-    let p = c.before.before.before.before.before.before.before.requires in
+    let p = c.before.before.before.before.before.before.requires in
     (p.0, (record { long = i.2 ∙ p.1.0.long; all_finite_lem = i.3 }, (i.1, c.before.loop-test.true)))
 
 enum-known-p : tie.Need-enum-known-p invariant_loop decreases_loop
 enum-known-p c = search rules
 
 same-length : tie.Need-same-length invariant_loop decreases_loop
-same-length c = c.before.before.before.before.before.pair.auto.1.1.1.1.0 ∙ c.before.before.before.before.before.before.before.before.loop.invariant.2
+same-length c = c.before.before.before.before.before.pair.auto.1.1.1.0 ∙ c.before.before.before.before.before.before.before.before.loop.invariant.2
 
 returns : tie.Need-returns invariant_loop decreases_loop
 unfolding passed_of
@@ -58,7 +58,7 @@ enum-told : tie.Need-enum-told invariant_loop decreases_loop
 enum-told c = search rules
 
 overflow_add-i-2 : tie.Need-overflow_add-i-2 invariant_loop decreases_loop
-overflow_add-i-2 c = omega (arith, c.before.before.before.before.before.before.before.before.before.before.before.before.requires.0.tiles_most)
+overflow_add-i-2 c = omega (arith, c.before.before.before.before.before.before.before.before.before.before.before.requires.0.tiles_most)
 
 loop-smaller : tie.Need-loop-smaller invariant_loop decreases_loop
 loop-smaller c = omega arith
@@ -68,7 +68,7 @@ loop-preserved c =
     let i = c.before.before.before.before.before.before.before.loop.invariant in
     let e = c.before.before.before.before.pair.ensures in
     let on = c.enum_told.given.1 in
-    (omega arith, omega arith, c.before.before.before.before.pair.auto.1.1.1.1.0 ∙ i.2, e.finite_then on, left_goes _ (pairs_keep _ _ _) _ _ _ _ _ i.4 c.before.before.before.before.before.before.loop-test.true (went _ _ _ e.is on))
+    (omega arith, omega arith, c.before.before.before.before.pair.auto.1.1.1.0 ∙ i.2, e.finite_then on, left_goes _ (pairs_keep _ _ _) _ _ _ _ _ i.4 c.before.before.before.before.before.before.loop-test.true (went _ _ _ e.is on))
 
 same-length-2 : tie.Need-same-length-2 invariant_loop decreases_loop
 same-length-2 c = c.before.loop.invariant.2

@@ -34,8 +34,8 @@ enum-told c = search rules
 
 pair_below-requires : tie.Need-pair_below-requires
 pair_below-requires c κs =
-    let p = c.before.before.before.before.before.before.before.before.before.before.before.requires in
-    (p.0, (record { long = c.before.before.before.before.before.apply.auto.1.1.1.1.0 ∙ p.1.0.long; all_finite_lem = c.before.before.before.before.before.apply.ensures.finite_then c.before.enum_told.given.1 }, p.1.1))
+    let p = c.before.before.before.before.before.before.before.before.before.before.requires in
+    (p.0, (record { long = c.before.before.before.before.before.apply.auto.1.1.1.0 ∙ p.1.0.long; all_finite_lem = c.before.before.before.before.before.apply.ensures.finite_then c.before.enum_told.given.1 }, p.1.1))
 
 same-length-2 : tie.Need-same-length-2
 same-length-2 c = search rules

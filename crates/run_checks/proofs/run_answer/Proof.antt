@@ -1,7 +1,7 @@
 -- The answer is the first refusal that holds. Assumes nothing.
 use borrow.Author.Rules.{rules}
 use borrow.Author.Tests.{not-true, not-false}
-use Rattle.run_checks.proofs.Laws.{state_stops, element_stops, multiplier_stops, all_pass}
+use Rattle.run_checks.proofs.Laws.{state_stops, element_stops, all_pass}
 use Rattle.run_checks.proofs.run_answer.Statement.{statement}
 use Rattle.run_checks.proofs.run_answer.Tie as tie
 
@@ -12,28 +12,20 @@ accepted-requires : tie.Need-accepted-requires
 accepted-requires c κs = search rules
 
 returns : tie.Need-returns
-returns c = state_stops _ _ _ _ _ _ _ _ _ c.before.before.state_answer.ensures _ c.before.accepted.ensures (not-true _ c.if1.true)
+returns c = state_stops _ _ _ _ _ _ _ _ c.before.before.state_answer.ensures _ c.before.accepted.ensures (not-true _ c.if1.true)
 
 all_finite-requires : tie.Need-all_finite-requires
 all_finite-requires c κs = search rules
 
 returns-2 : tie.Need-returns-2
 returns-2 c =
-    element_stops _ _ _ _ _ _ _ _ _ c.before.before.before.before.state_answer.ensures _ c.before.before.before.accepted.ensures (not-false _ c.before.before.if1.false)
+    element_stops _ _ _ _ _ _ _ _ c.before.before.before.before.state_answer.ensures _ c.before.before.before.accepted.ensures (not-false _ c.before.before.if1.false)
     _ c.before.all_finite_lem.ensures (not-true _ c.if2.true)
-
-all_finite-requires-2 : tie.Need-all_finite-requires-2
-all_finite-requires-2 c κs = search rules
 
 returns-3 : tie.Need-returns-3
 returns-3 c =
-    multiplier_stops _ _ _ _ _ _ _ _ _ c.before.before.before.before.before.before.state_answer.ensures _ c.before.before.before.before.before.accepted.ensures (not-false _ c.before.before.before.before.if1.false)
-    _ c.before.before.before.all_finite_lem.ensures (not-false _ c.before.before.if2.false) _ c.before.all-finite2.ensures (not-true _ c.if3.true)
-
-returns-4 : tie.Need-returns-4
-returns-4 c =
-    all_pass _ _ _ _ _ _ _ _ _ c.before.before.before.before.before.before.state_answer.ensures _ c.before.before.before.before.before.accepted.ensures (not-false _ c.before.before.before.before.if1.false)
-    _ c.before.before.before.all_finite_lem.ensures (not-false _ c.before.before.if2.false) _ c.before.all-finite2.ensures (not-false _ c.if3.false)
+    all_pass _ _ _ _ _ _ _ _ c.before.before.before.before.state_answer.ensures _ c.before.before.before.accepted.ensures (not-false _ c.before.before.if1.false)
+    _ c.before.all_finite_lem.ensures (not-false _ c.if2.false)
 
 pub run_answer_spec : {M : Type 1} → statement M
 run_answer_spec =
@@ -44,6 +36,4 @@ run_answer_spec =
     returns
     all_finite-requires
     returns-2
-    all_finite-requires-2
-    returns-3
-    returns-4)
+    returns-3)

@@ -10,7 +10,7 @@ slice-relend-prefix-run : tie.Need-slice-relend-prefix-run
 slice-relend-prefix-run c = search rules
 
 slice-aggregate-run : tie.Need-slice-aggregate-run
-slice-aggregate-run c = sym (length-take-le _ c.before.before.before.before.before.before.before.args.records.now (search rules))
+slice-aggregate-run c = sym (length-take-le _ c.before.before.before.before.before.args.records.now (search rules))
 
 run-requires : tie.Need-run-requires
 run-requires c κs = search rules
@@ -24,14 +24,11 @@ same-length-2 c = search rules
 same-length-3 : tie.Need-same-length-3
 same-length-3 c = search rules
 
-same-length-4 : tie.Need-same-length-4
-same-length-4 c = search rules
-
 returns : tie.Need-returns
 returns c =
-    let same : length c.before.before.before.before.before.before.before.run.new.1.1.1.1.0 ≡ length (take c.before.before.before.before.before.before.before.before.before.before.before.before.before.before.before.args.n c.before.before.before.before.before.before.before.before.before.before.before.before.before.before.before.args.records.now) = c.records.given.0 in
-    let long : length c.before.before.before.before.before.before.before.run.new.1.1.1.1.0 ≡ c.before.before.before.before.before.before.before.before.before.before.before.before.before.before.before.args.n = same ∙ length-take-le c.before.before.before.before.before.before.before.before.before.before.before.before.before.before.before.args.n c.before.before.before.before.before.before.before.before.before.before.before.before.before.before.before.args.records.now c.before.before.before.before.before.before.before.before.before.before.before.before.before.before.before.requires in
-    (rw (take_at c.before.before.before.before.before.before.before.run.new.1.1.1.1.0 (drop c.before.before.before.before.before.before.before.before.before.before.before.before.before.before.before.args.n c.before.before.before.before.before.before.before.before.before.before.before.before.before.before.before.args.records.now) c.before.before.before.before.before.before.before.before.before.before.before.before.before.before.before.args.n long) c.before.before.before.before.before.before.before.run.ensures.0, c.before.before.before.before.before.before.before.run.ensures.1)
+    let same : length c.before.before.before.before.before.run.new.1.1.1.0 ≡ length (take c.before.before.before.before.before.before.before.before.before.before.before.args.n c.before.before.before.before.before.before.before.before.before.before.before.args.records.now) = c.records.given.0 in
+    let long : length c.before.before.before.before.before.run.new.1.1.1.0 ≡ c.before.before.before.before.before.before.before.before.before.before.before.args.n = same ∙ length-take-le c.before.before.before.before.before.before.before.before.before.before.before.args.n c.before.before.before.before.before.before.before.before.before.before.before.args.records.now c.before.before.before.before.before.before.before.before.before.before.before.requires in
+    (rw (take_at c.before.before.before.before.before.run.new.1.1.1.0 (drop c.before.before.before.before.before.before.before.before.before.before.before.args.n c.before.before.before.before.before.before.before.before.before.before.before.args.records.now) c.before.before.before.before.before.before.before.before.before.before.before.args.n long) c.before.before.before.before.before.run.ensures.0, c.before.before.before.before.before.run.ensures.1)
 
 pub run_part_spec : {M : Type 1} → statement M
 run_part_spec =
@@ -43,5 +40,4 @@ run_part_spec =
     same-length
     same-length-2
     same-length-3
-    same-length-4
     returns)

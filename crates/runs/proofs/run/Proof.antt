@@ -20,9 +20,6 @@ same-length-2 c = search rules
 same-length-3 : tie.Need-same-length-3
 same-length-3 c = search rules
 
-same-length-4 : tie.Need-same-length-4
-same-length-4 c = search rules
-
 returns : tie.Need-returns
 returns c = (refused _ _ _ _ c.before.before.before.run_answer.ensures _ _ c.before.answer.given.1, record { same_count = refl; same_slots = refl })
 
@@ -30,7 +27,10 @@ enum-told : tie.Need-enum-told
 enum-told c = search rules
 
 take_turns-requires : tie.Need-take_turns-requires
-take_turns-requires c κs = sym c.before.before.before.before.before.before.run_answer.ensures ∙ c.before.before.before.before.enum_told.given.1
+take_turns-requires c κs = sym c.before.before.before.before.before.run_answer.ensures ∙ c.before.before.before.enum_told.given.1
+
+same-length-4 : tie.Need-same-length-4
+same-length-4 c = search rules
 
 same-length-5 : tie.Need-same-length-5
 same-length-5 c = search rules
@@ -38,17 +38,11 @@ same-length-5 c = search rules
 same-length-6 : tie.Need-same-length-6
 same-length-6 c = search rules
 
-same-length-7 : tie.Need-same-length-7
-same-length-7 c = search rules
-
-same-length-8 : tie.Need-same-length-8
-same-length-8 c = search rules
-
 returns-2 : tie.Need-returns-2
 returns-2 c =
-    let t = c.before.before.before.before.before.before.before.take_turns in (
-      t.ensures.0 ∙ accepted _ _ _ _ c.before.before.before.before.before.before.before.before.before.before.before.before.before.before.run_answer.ensures
-          c.before.before.before.before.before.before.before.before.before.before.before.before.enum_told.given.1,
+    let t = c.before.before.before.before.before.take_turns in (
+      t.ensures.0 ∙ accepted _ _ _ _ c.before.before.before.before.before.before.before.before.before.before.before.run_answer.ensures
+          c.before.before.before.before.before.before.before.before.before.enum_told.given.1,
       t.ensures.1,
     )
 
@@ -61,12 +55,10 @@ run_spec =
     same-length
     same-length-2
     same-length-3
-    same-length-4
     returns
     enum-told
     take_turns-requires
+    same-length-4
     same-length-5
     same-length-6
-    same-length-7
-    same-length-8
     returns-2)

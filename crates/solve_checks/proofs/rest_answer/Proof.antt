@@ -11,9 +11,9 @@ enum-known-task : tie.Need-enum-known-task
 enum-known-task c = search rules
 
 returns : tie.Need-returns
-returns c = λ lists slice slots count number.
+returns c = λ lists slots count number.
     let a = c.before.before.before.before.before.before.args in
-    rest_8 a.z a.matrix.now lists slice a.records.now slots count number a.right.now c.before.before.before.before.before.before.requires.2 _ c.before.before.before.first_unfinished.ensures _ c.before.task.given.1
+    rest_8 a.z a.matrix.now lists a.records.now slots count number a.right.now c.before.before.before.before.before.before.requires.2 _ c.before.before.before.first_unfinished.ensures _ c.before.task.given.1
 
 enum-told : tie.Need-enum-told
 enum-told c = search rules
@@ -40,19 +40,19 @@ right_answer-requires : tie.Need-right_answer-requires
 right_answer-requires c κs = search rules
 
 returns-2 : tie.Need-returns-2
-returns-2 c = λ lists slice slots count number.
+returns-2 c = λ lists slots count number.
     let a = c.before.before.before.before.before.before.before.before.before.args in
-    rest_9 a.z a.matrix.now lists slice a.records.now slots count number a.right.now c.before.before.before.before.before.before.before.before.before.requires.2 _ c.before.before.before.before.before.before.first_unfinished.ensures c.before.before.before.before.enum_told.given.1 _ (c.before.before.before.outcome_of_lem.ensures lists slice) _ c.before.end.given.1
+    rest_9 a.z a.matrix.now lists a.records.now slots count number a.right.now c.before.before.before.before.before.before.before.before.before.requires.2 _ c.before.before.before.before.before.before.first_unfinished.ensures c.before.before.before.before.enum_told.given.1 _ (c.before.before.before.outcome_of_lem.ensures lists) _ c.before.end.given.1
 
 returns-3 : tie.Need-returns-3
-returns-3 c = λ lists slice slots count number.
+returns-3 c = λ lists slots count number.
     let a = c.before.before.before.before.before.before.before.before.before.args in
-    rest_10 a.z a.matrix.now lists slice a.records.now slots count number a.right.now c.before.before.before.before.before.before.before.before.before.requires.2 _ c.before.before.before.before.before.before.first_unfinished.ensures c.before.before.before.before.enum_told.given.1 _ (c.before.before.before.outcome_of_lem.ensures lists slice) _ c.before.end2.given.1
+    rest_10 a.z a.matrix.now lists a.records.now slots count number a.right.now c.before.before.before.before.before.before.before.before.before.requires.2 _ c.before.before.before.before.before.before.first_unfinished.ensures c.before.before.before.before.enum_told.given.1 _ (c.before.before.before.outcome_of_lem.ensures lists) _ c.before.end2.given.1
 
 returns-4 : tie.Need-returns-4
-returns-4 c = λ lists slice slots count number.
+returns-4 c = λ lists slots count number.
     let a = c.before.before.before.before.before.before.before.before.before.args in
-    rest_good a.z a.matrix.now lists slice a.records.now slots count number a.right.now c.before.before.before.before.before.before.before.before.before.requires.2 _ c.before.before.before.before.before.before.first_unfinished.ensures c.before.before.before.before.enum_told.given.1 _ (c.before.before.before.outcome_of_lem.ensures lists slice) c.before.enum-told2.given.1 _ c.right_answer.ensures
+    rest_good a.z a.matrix.now lists a.records.now slots count number a.right.now c.before.before.before.before.before.before.before.before.before.requires.2 _ c.before.before.before.before.before.before.first_unfinished.ensures c.before.before.before.before.enum_told.given.1 _ (c.before.before.before.outcome_of_lem.ensures lists) c.before.enum-told2.given.1 _ c.right_answer.ensures
 
 pub rest_answer_spec : {M : Type 1} → statement M
 rest_answer_spec =

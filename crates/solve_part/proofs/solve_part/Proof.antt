@@ -6,7 +6,7 @@ use Rattle.solve_part.proofs.solve_part.Statement.{statement}
 use Rattle.solve_part.proofs.solve_part.Tie as tie
 
 slice-aggregate-solve : tie.Need-slice-aggregate-solve
-slice-aggregate-solve c = sym (length-take-le _ c.before.before.before.before.before.before.args.records.now (search rules))
+slice-aggregate-solve c = sym (length-take-le _ c.before.before.before.before.before.args.records.now (search rules))
 
 solve-requires : tie.Need-solve-requires
 solve-requires c κs = search rules

@@ -26,9 +26,9 @@ slice-aggregate-solve_with c = search rules
 
 solve_with-requires : tie.Need-solve_with-requires
 solve_with-requires c κs =
-    let a = c.before.before.before.before.before.before.before.before.before.before.before.args in
-    let k = checked a.z a.matrix.now a.lists.now a.slice.now a.records.now a.workers.slots a.workers.count a.workers.number a.right.now a.answers.now (sym c.before.before.before.before.solve_answer.ensures ∙ c.before.before.enum_told.given.1) in
-    (k.solvable, (k.right, (k.answers_long, search rules)))
+    let a = c.before.before.before.before.before.before.before.before.before.before.args in
+    let k = checked a.z a.matrix.now a.lists.now a.records.now a.workers.slots a.workers.count a.workers.number a.right.now a.answers.now (sym c.before.before.before.before.solve_answer.ensures ∙ c.before.before.enum_told.given.1) in
+    (k.solvable, (k.right, (k.all_finite_lem, k.answers_long, search rules)))
 
 same-length-2 : tie.Need-same-length-2
 same-length-2 c = search rules

@@ -9,22 +9,22 @@ use Rattle.solving.proofs.solve_with.Statement.{statement}
 use Rattle.solving.proofs.solve_with.Tie as tie
 
 -- at most 256 numbers
-few : (c : tie.After-solve_in-arg) → c.before.before.before.before.before.before.before.before.args.z.tiles * c.before.before.before.before.before.before.before.before.args.z.side ≤ 256
-few c = mul-le-mul c.before.before.before.before.before.before.before.before.requires.0.tiles_most c.before.before.before.before.before.before.before.before.requires.0.side_most
+few : (c : tie.After-solve_in-arg) → c.before.before.before.before.before.before.before.args.z.tiles * c.before.before.before.before.before.before.before.args.z.side ≤ 256
+few c = mul-le-mul c.before.before.before.before.before.before.before.requires.0.tiles_most c.before.before.before.before.before.before.before.requires.0.side_most
 
 overflow_mul-order : tie.Need-overflow_mul-order
 overflow_mul-order c = search rules
 
 slice-relend-prefix-solve_in : tie.Need-slice-relend-prefix-solve_in
-slice-relend-prefix-solve_in c = omega (arith, few c, c.before.before.before.before.before.before.before.before.requires.1.1.1)
+slice-relend-prefix-solve_in c = omega (arith, few c, c.before.before.before.before.before.before.before.requires.1.1.2)
 
 slice-aggregate-solve_in : tie.Need-slice-aggregate-solve_in
-slice-aggregate-solve_in c = sym (length-take-le _ _ (omega (arith, few c.before, c.before.before.before.before.before.before.before.before.before.requires.1.1.1)))
+slice-aggregate-solve_in c = sym (length-take-le _ _ (omega (arith, few c.before, c.before.before.before.before.before.before.before.before.requires.1.1.2)))
 
 solve_in-requires : tie.Need-solve_in-requires
 solve_in-requires c κs =
-    let p = c.before.before.before.before.before.before.before.before.before.requires in
-    (p.0, (p.1.0, (p.1.1.0, length-take-le _ _ (omega (arith, few c.before, p.1.1.1)))))
+    let p = c.before.before.before.before.before.before.before.before.requires in
+    (p.0, (p.1.0, (p.1.1.0, p.1.1.1, length-take-le _ _ (omega (arith, few c.before, p.1.1.2)))))
 
 same-length : tie.Need-same-length
 same-length c = search rules

@@ -3,9 +3,8 @@ use mathlib.Core.Path.{◌≡◌}
 use mathlib.Core.List.{List}
 use Prim.Native.Nat.{ℕ, suc, ◌+◌, ◌-◌, ◌*◌, ◌≤◌}
 use native.Mathlib.Omega.{arith}
-use lib.Ieee.{Float}
 use Rattle.model.specs.Lists.{run}
-use Rattle.model.specs.Plan.{plan_with}
+use Rattle.model.specs.Plan.{plan}
 use Rattle.model.specs.Solve.{row_left}
 use Rattle.subtractions.proofs.Places.{Placed, placed}
 use Rattle.subtractions.proofs.Tiles.{tiles_more, tiles_end}
@@ -14,8 +13,8 @@ use Rattle.subtractions.proofs.subtract_tiles.Tie as tie
 
 abbrev invariant_loop : tie.invariant-loop
 invariant_loop matrix y i r d n t left₀ j₀ left j =
-    (j ≤ n) × ((b : ℕ) (lists : List ℕ) (slice : List Float) → row_left (plan_with n t b) (record { matrix = matrix; lists = lists; slice = slice }) (i * t + r) y (run (j * t) (n * t - j * t)) left
-    ≡ row_left (plan_with n t b) (record { matrix = matrix; lists = lists; slice = slice }) (i * t + r) y (run (suc i * t) (n * t - suc i * t)) d)
+    (j ≤ n) × ((lists : List ℕ) → row_left (plan n t) (record { matrix = matrix; lists = lists }) (i * t + r) y (run (j * t) (n * t - j * t)) left
+    ≡ row_left (plan n t) (record { matrix = matrix; lists = lists }) (i * t + r) y (run (suc i * t) (n * t - suc i * t)) d)
 
 abbrev decreases_loop : tie.decreases-loop
 decreases_loop matrix y i r d n t left₀ j₀ left j = n - j
@@ -28,7 +27,7 @@ overflow_add-j : tie.Need-overflow_add-j invariant_loop decreases_loop
 overflow_add-j c = omega (arith, c.before.before.requires.0.tiles_most, c.before.before.requires.1.0)
 
 loop-init : tie.Need-loop-init invariant_loop decreases_loop
-loop-init c = let e : c.before.before.args.i + 1 ≡ suc c.before.before.args.i = omega arith in (omega (arith, c.before.before.requires.1.0), λ b lists slice. rw e)
+loop-init c = let e : c.before.before.args.i + 1 ≡ suc c.before.before.args.i = omega arith in (omega (arith, c.before.before.requires.1.0), λ lists. rw e)
 
 tile_start-requires : tie.Need-tile_start-requires invariant_loop decreases_loop
 tile_start-requires c κs = (c.before.before.before.before.requires.0.tiles_most, c.before.before.before.before.requires.0.side_most, c.before.before.before.before.requires.1.0, c.loop-test.true)
@@ -56,14 +55,14 @@ loop-preserved c =
     let a = c.before.before.before.before.before.before.args in
     let e = c.before.tile_start.ensures in (
       omega (arith, c.before.before.loop-test.true),
-      λ b lists slice. tiles_more a.z b a.matrix.now lists slice a.y.now a.i a.r c.before.before.before.before.before.before.requires.1.1 _ _ _ _ c.before.before.loop-test.true (here c.before) (c.before.before.before.loop.invariant.1 b lists slice)
+      λ lists. tiles_more a.z a.matrix.now lists a.y.now a.i a.r c.before.before.before.before.before.before.requires.1.1 _ _ _ _ c.before.before.loop-test.true (here c.before) (c.before.before.before.loop.invariant.1 lists)
           (rw e at c.subtract.ensures),
     )
 
 returns : tie.Need-returns invariant_loop decreases_loop
 returns c =
     let a = c.before.before.before.before.args in
-    λ lists slice. tiles_end a.z a.z.block a.matrix.now lists slice a.y.now a.i a.r c.before.before.before.before.requires.1.1 _ _ _ c.before.loop.invariant.0 (omega arith) (c.before.loop.invariant.1 a.z.block lists slice)
+    λ lists. tiles_end a.z a.matrix.now lists a.y.now a.i a.r c.before.before.before.before.requires.1.1 _ _ _ c.before.loop.invariant.0 (omega arith) (c.before.loop.invariant.1 lists)
 
 pub subtract_tiles_spec : {M : Type 1} → statement M
 subtract_tiles_spec =

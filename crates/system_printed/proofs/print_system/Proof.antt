@@ -1,9 +1,8 @@
 -- `system_printed::print_system` meets its contract. Assumes nothing.
 use borrow.Author.Rules.{rules}
-use mathlib.Core.Path.{refl, sym, ◌∙◌}
+use mathlib.Core.Path.{sym, ◌∙◌}
 use native.Mathlib.Omega.{arith}
 use lib.Seq.{length-take-le}
-use Rattle.model.specs.Buffer.{slice_length}
 use Rattle.task_counts.proofs.Laws.{few_tasks}
 use Rattle.system_printed.proofs.Checked.{checked, small_sizes}
 use Rattle.system_printed.proofs.print_system.Statement.{statement}
@@ -52,7 +51,6 @@ slice-aggregate-print_worked-3 : tie.Need-slice-aggregate-print_worked-3
 slice-aggregate-print_worked-3 c = let s = small_sizes (checked _ _ _ c.before.before.before.before.before.before.before.before.before.requires) in let k = few_tasks _ s.tiles.1 in sym (length-take-le _ _ (omega (arith, c.before.before.before.before.blank_records.ensures, c.before.before.before.task_count_lem.ensures)))
 
 print_worked-requires : tie.Need-print_worked-requires
-unfolding slice_length
 print_worked-requires c κs =
     let p = c.before.before.before.before.before.before.before.before.before.before.requires in
     let s = small_sizes (checked _ _ _ p) in
@@ -63,7 +61,6 @@ print_worked-requires c κs =
           matrix_fits = length-take-le _ _ (omega (arith, c.before.before.before.before.before.before.before.blank_numbers.ensures));
           lists_fit = length-take-le _ _ (omega (arith, c.before.before.before.before.before.before.blank_entries.ensures));
         };
-        slice_fits = refl;
         records_fit = length-take-le _ _ (omega (arith, c.before.before.before.before.before.blank_records.ensures, c.before.before.before.before.task_count_lem.ensures)) ∙ c.before.before.before.before.task_count_lem.ensures;
       },
     )

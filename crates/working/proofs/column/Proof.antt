@@ -21,18 +21,18 @@ same-length-2 c = search rules
 same-length-3 : tie.Need-same-length-3
 same-length-3 c = search rules
 
-same-length-4 : tie.Need-same-length-4
-same-length-4 c = search rules
-
 returns : tie.Need-returns
 returns c =
-    let d = c.before.before.before.before.before.before.before.before.before.before in
-    (refused d.args.z _ _ _ _ d.args.workers.slots d.args.workers.count d.args.workers.number _ _ c.before.before.column_answer.ensures _ c.before.accepted.ensures (not-true _ c.if1.true), record { same_count = refl; same_slots = refl })
+    let d = c.before.before.before.before.before.before.before.before in
+    (refused d.args.z _ _ _ d.args.workers.slots d.args.workers.count d.args.workers.number _ _ c.before.before.column_answer.ensures _ c.before.accepted.ensures (not-true _ c.if1.true), record { same_count = refl; same_slots = refl })
 
 advance_worker-requires : tie.Need-advance_worker-requires
 advance_worker-requires c κs =
-    let d = c.before.before.before.before.before.before.before.before.before.before.before.before.before.before in
-    works_then d.args.z _ _ _ _ d.args.workers.slots d.args.workers.count d.args.workers.number _ _ c.before.before.before.before.before.before.column_answer.ensures _ c.before.before.before.before.before.accepted.ensures (not-false _ c.before.before.before.before.if1.false)
+    let d = c.before.before.before.before.before.before.before.before.before.before.before in
+    works_then d.args.z _ _ _ d.args.workers.slots d.args.workers.count d.args.workers.number _ _ c.before.before.before.before.before.column_answer.ensures _ c.before.before.before.before.accepted.ensures (not-false _ c.before.before.before.if1.false)
+
+same-length-4 : tie.Need-same-length-4
+same-length-4 c = search rules
 
 same-length-5 : tie.Need-same-length-5
 same-length-5 c = search rules
@@ -40,16 +40,10 @@ same-length-5 c = search rules
 same-length-6 : tie.Need-same-length-6
 same-length-6 c = search rules
 
-same-length-7 : tie.Need-same-length-7
-same-length-7 c = search rules
-
-same-length-8 : tie.Need-same-length-8
-same-length-8 c = search rules
-
 returns-2 : tie.Need-returns-2
 returns-2 c =
-    let d = c.before.before.before.before.before.before.before.before.before.before.before.before.before.before.before.before.before.before.before.before.before.before in
-    (worked d.args.z _ _ _ _ d.args.workers.slots d.args.workers.count d.args.workers.number _ _ c.before.before.before.before.before.before.before.before.before.before.before.before.before.before.column_answer.ensures _ c.before.before.before.before.before.before.before.before.before.before.before.before.before.accepted.ensures (not-false _ c.before.before.before.before.before.before.before.before.before.before.before.before.if1.false) _ c.before.before.before.before.before.before.before.advance_worker.ensures.0, c.before.before.before.before.before.before.before.advance_worker.ensures.1)
+    let d = c.before.before.before.before.before.before.before.before.before.before.before.before.before.before.before.before.before in
+    (worked d.args.z _ _ _ d.args.workers.slots d.args.workers.count d.args.workers.number _ _ c.before.before.before.before.before.before.before.before.before.before.before.column_answer.ensures _ c.before.before.before.before.before.before.before.before.before.before.accepted.ensures (not-false _ c.before.before.before.before.before.before.before.before.before.if1.false) _ c.before.before.before.before.before.advance_worker.ensures.0, c.before.before.before.before.before.advance_worker.ensures.1)
 
 pub column_spec : {M : Type 1} → statement M
 column_spec =
@@ -60,11 +54,9 @@ column_spec =
     same-length
     same-length-2
     same-length-3
-    same-length-4
     returns
     advance_worker-requires
+    same-length-4
     same-length-5
     same-length-6
-    same-length-7
-    same-length-8
     returns-2)

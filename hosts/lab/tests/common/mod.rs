@@ -111,7 +111,7 @@ impl Drop for Folder {
 
 /// A random system of a family, and the result that the old loops of the reference program leave.
 pub fn random(seed: u64, family: usize, tiles: usize, side: usize) -> (String, String) {
-    let shape = Shape::of(tiles, side);
+    let shape = Shape { tiles, side };
     let matrix = numbers(&mut Rng::new(seed), family, shape.matrix_length());
     let last = old_loops(shape, &matrix);
     (system_text(shape, &matrix), result_text(shape, &last.matrix, &last.lists, last.outcome))
@@ -119,5 +119,5 @@ pub fn random(seed: u64, family: usize, tiles: usize, side: usize) -> (String, S
 
 /// A system of one number a tile.
 pub fn system_of(tiles: usize, matrix: &[f64]) -> String {
-    system_text(Shape::of(tiles, 1), matrix)
+    system_text(Shape { tiles, side: 1 }, matrix)
 }

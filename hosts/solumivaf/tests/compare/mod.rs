@@ -25,8 +25,7 @@ fn record_of(theirs: &reference::lent::Record) -> Record {
 
 /// What the reference has lent, in the library's buffers.
 pub fn lent_of(theirs: &reference::lent::Lent) -> Lent {
-    let (matrix, lists, slice) = (theirs.matrix.clone(), theirs.lists.clone(), theirs.slice.clone());
-    let mut ours = Lent { matrix, lists, slice, ..Lent::default() };
+    let mut ours = Lent { matrix: theirs.matrix.clone(), lists: theirs.lists.clone(), ..Lent::default() };
     ours.records = theirs.records.iter().map(record_of).collect();
     ours.workers.count = theirs.count as usize;
     ours.workers.number = theirs.run_number;
@@ -42,7 +41,6 @@ fn same_state(ours: &Lent, theirs: &reference::lent::Lent) -> bool {
     let other = lent_of(theirs);
     bits(&ours.matrix) == bits(&other.matrix)
         && ours.lists == other.lists
-        && bits(&ours.slice) == bits(&other.slice)
         && ours.records == other.records
         && ours.workers == other.workers
 }
@@ -90,14 +88,12 @@ impl Players {
             tiles: fields.take(16),
             side: fields.take(16),
             workers: fields.take(16),
-            block: fields.take(16),
         };
         (
             Sizes {
                 tiles: theirs.tiles as usize,
                 side: theirs.side as usize,
                 workers: theirs.workers as usize,
-                block: theirs.block as usize,
             },
             theirs,
         )
@@ -184,7 +180,7 @@ fn calls_in(script: &str) -> usize {
 
 /// Plays the script of a seed.
 pub fn calls_of(seed: u64, calls: usize) -> usize {
-    calls_in(&script(Options { seed, calls, max_bytes: 3_750_000 }))
+    calls_in(&script(Options { seed, calls, max_bytes: 3_300_000 }))
 }
 
 /// Plays the single columns of a seed.

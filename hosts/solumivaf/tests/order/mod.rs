@@ -1,7 +1,7 @@
 //! What the tests of the order of work share: systems at their opening and at their end, and what the records of a finished run tell, whatever the
 //! order was.
 
-pub use reference::numbers::bits;
+use reference::numbers::bits;
 use reference::tasks::table;
 use solumivaf::{Error, Lent, Record, Refusal, Sizes, Workers};
 
@@ -37,8 +37,8 @@ pub fn history(lent: &Lent) -> Vec<(u8, u32, u32)> {
 }
 
 /// Everything lent, by its bits.
-pub fn everything(lent: &Lent) -> (Vec<u64>, Vec<u8>, Vec<u64>, Vec<Record>, Workers) {
-    (bits(&lent.matrix), lent.lists.clone(), bits(&lent.slice), lent.records.clone(), lent.workers.clone())
+pub fn everything(lent: &Lent) -> (Vec<u64>, Vec<u8>, Vec<Record>, Workers) {
+    (bits(&lent.matrix), lent.lists.clone(), lent.records.clone(), lent.workers.clone())
 }
 
 /// Two tiles of two rows a side, of which the first overflows in its first column.

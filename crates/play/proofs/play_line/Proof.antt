@@ -1,10 +1,13 @@
--- `play::play_fronts` meets its contract. Assumes nothing.
+-- `play::play_line` meets its contract. Assumes nothing.
 use mathlib.Core.Path.{sym}
 use native.Mathlib.Omega.{arith}
 use lib.Seq.{length-take-le}
 use borrow.Author.Rules.{rules}
-use Rattle.play.proofs.play_fronts.Statement.{statement}
-use Rattle.play.proofs.play_fronts.Tie as tie
+use Rattle.play.proofs.play_line.Statement.{statement}
+use Rattle.play.proofs.play_line.Tie as tie
+
+lend-requires : tie.Need-lend-requires
+lend-requires c κs = search rules
 
 at_most-requires : tie.Need-at_most-requires
 at_most-requires c κs = search rules
@@ -14,9 +17,6 @@ at_most-requires-2 c κs = search rules
 
 at_most-requires-3 : tie.Need-at_most-requires-3
 at_most-requires-3 c κs = search rules
-
-at_most-requires-4 : tie.Need-at_most-requires-4
-at_most-requires-4 c κs = search rules
 
 slice-relend-prefix-answer_line : tie.Need-slice-relend-prefix-answer_line
 slice-relend-prefix-answer_line c = search rules
@@ -35,12 +35,6 @@ slice-relend-prefix-answer_line-3 c = search rules
 
 slice-aggregate-answer_line-3 : tie.Need-slice-aggregate-answer_line-3
 slice-aggregate-answer_line-3 c = sym (length-take-le _ _ (omega arith))
-
-slice-relend-prefix-answer_line-4 : tie.Need-slice-relend-prefix-answer_line-4
-slice-relend-prefix-answer_line-4 c = search rules
-
-slice-aggregate-answer_line-4 : tie.Need-slice-aggregate-answer_line-4
-slice-aggregate-answer_line-4 c = sym (length-take-le _ _ (omega arith))
 
 answer_line-requires : tie.Need-answer_line-requires
 answer_line-requires c κs = search rules
@@ -63,28 +57,23 @@ same-length-5 c = search rules
 same-length-6 : tie.Need-same-length-6
 same-length-6 c = search rules
 
-same-length-7 : tie.Need-same-length-7
-same-length-7 c = search rules
-
 returns : tie.Need-returns
 returns c = search rules
 
-pub play_fronts_spec : {M : Type 1} → statement M
-play_fronts_spec =
+pub play_line_spec : {M : Type 1} → statement M
+play_line_spec =
     tie.close
     (tie.spec
+    lend-requires
     at_most-requires
     at_most-requires-2
     at_most-requires-3
-    at_most-requires-4
     slice-relend-prefix-answer_line
     slice-aggregate-answer_line
     slice-relend-prefix-answer_line-2
     slice-aggregate-answer_line-2
     slice-relend-prefix-answer_line-3
     slice-aggregate-answer_line-3
-    slice-relend-prefix-answer_line-4
-    slice-aggregate-answer_line-4
     answer_line-requires
     same-length
     same-length-2
@@ -92,5 +81,4 @@ play_fronts_spec =
     same-length-4
     same-length-5
     same-length-6
-    same-length-7
     returns)

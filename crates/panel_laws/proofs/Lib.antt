@@ -1,3 +1,0 @@
-pub mod Panels
-pub mod Ready
-pub mod Paired
