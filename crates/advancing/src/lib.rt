@@ -1,4 +1,6 @@
 // A busy worker does the next column of the task it holds.
+#![tactic(auto)]
+
 ghost use Rattle.std.specs.Prelude.{◌≡◌, ◌<◌};
 ghost use Rattle.model.specs.Limits.{most_workers};
 ghost use Rattle.model.specs.Plan.{plan_of};

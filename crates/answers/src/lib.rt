@@ -1,4 +1,6 @@
 // Answers of calls. The proofs have the laws of a chain of refusals.
+#![tactic(auto)]
+
 ghost use Rattle.std.specs.Prelude.{◌≡◌};
 ghost use Rattle.answers.specs.Answers.{accepts};
 

@@ -1,4 +1,6 @@
 // The backward rows of a solve, from last to first.
+#![tactic(auto)]
+
 ghost use Rattle.std.specs.Prelude.{◌≡◌, List, ℕ, ◌+◌, ◌*◌, ◌<◌, ◌≤◌};
 ghost use Rattle.model.specs.Plan.{plan_of};
 ghost use Rattle.model.specs.Solve.{going};

@@ -1,4 +1,6 @@
 // One backward row of a solve: the number that it computes, or that some number on the way is not finite.
+#![tactic(auto)]
+
 ghost use Rattle.std.specs.Prelude.{◌≡◌, List, ℕ, ◌+◌, ◌*◌, ◌<◌};
 ghost use Rattle.model.specs.Plan.{plan_of};
 ghost use Rattle.model.specs.Solve.{row as row_of};

@@ -1,5 +1,7 @@
 // What bench/ calls from Rust besides the library for hosts: a column of each of the four steps. Each answers the mark that its task has
 // afterwards, and the column's ties.
+#![tactic(auto)]
+
 ghost use Rattle.std.specs.Prelude.{◌≡◌, ◌+◌, ◌*◌};
 ghost use Rattle.model.specs.Task.{t_1, t_2, T-3, t_4};
 ghost use Rattle.model.specs.Plan.{sizes, plan_of};

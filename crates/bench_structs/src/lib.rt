@@ -1,5 +1,7 @@
 // What bench/ and a test of hosts/ call from Rust over task records that are structs: an opening, a take, a column, a run, the outcome and a solve.
 // Workers are made here: all idle, or one that holds a task.
+#![tactic(auto)]
+
 ghost use Rattle.std.specs.Prelude.{◌≡◌};
 ghost use Rattle.model.specs.Refusal.{answer_number, open_call, take_call, column_call, run_call, outcome_call};
 ghost use Rattle.model.specs.Solve.{solve_call};

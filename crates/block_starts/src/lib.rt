@@ -1,5 +1,7 @@
 // What T-2's columns find in a block of one slice, given by where it starts: before column 0 the exchanges of a row list are made.
 // A tile is a block of width t, a right side one of width 1.
+#![tactic(auto)]
+
 ghost use Rattle.std.specs.Prelude.{◌≡◌, ℕ, ◌+◌, ◌*◌, ◌<◌, ◌≤◌, length, get_or};
 ghost use Rattle.model.specs.Lists.{part, with_part};
 ghost use Rattle.model.specs.Column.{permuted, apply_start};

@@ -1,5 +1,7 @@
 // Plays a script of calls from standard input and prints the answers: the script in stdin and the answers in stdout come from the
 // reference program. Right side and answers of a solve have at most 300 numbers.
+#![tactic(auto)]
+
 ghost use Rattle.std.specs.Prelude.{◌≡◌, length};
 
 use records::{RECORD, Record};

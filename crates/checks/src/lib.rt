@@ -1,4 +1,6 @@
 // Refusals 1 and 2, and what later checks may count on.
+#![tactic(auto)]
+
 ghost use Rattle.std.specs.Prelude.{◌≡◌, List, ℕ};
 ghost use Rattle.worker.specs.declared.Worker.{Worker as SomeWorker};
 ghost use Rattle.model.specs.Plan.{plan_of};

@@ -1,5 +1,7 @@
 // A worker does the next column of its task, over task records that are lent as a slice of structs. The records that the call looks at are copied, the call works on the
 // copies, and those that it may have changed are copied back.
+#![tactic(auto)]
+
 ghost use Rattle.std.specs.Prelude.{◌≡◌, get_or};
 ghost use Rattle.worker.specs.Holding.{idle};
 ghost use Rattle.model.specs.Refusal.{column_call};

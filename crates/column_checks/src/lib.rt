@@ -1,4 +1,6 @@
 // The refusals of a column call.
+#![tactic(auto)]
+
 ghost use Rattle.std.specs.Prelude.{◌≡◌};
 ghost use Rattle.model.specs.Refusal.{column_answer};
 ghost use Rattle.records.specs.Records.{all_lent};

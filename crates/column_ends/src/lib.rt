@@ -1,4 +1,6 @@
 // The end of a column that computed only finite numbers.
+#![tactic(auto)]
+
 ghost use Rattle.std.specs.Prelude.{◌<◌};
 ghost use Rattle.model.specs.Buffer.{Completed};
 

@@ -1,4 +1,6 @@
 // Around a column: whether the marks spoil its task, the mark and the ties that its end gives, and what that makes of the worker.
+#![tactic(auto)]
+
 ghost use Rattle.std.specs.Prelude.{◌≡◌, ◌&&◌, cond, suc, ◌<◌, eqb};
 ghost use Rattle.model.specs.Task.{tasks};
 ghost use Rattle.model.specs.Links.{spoils, finished};

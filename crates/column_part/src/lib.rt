@@ -1,4 +1,6 @@
 // A column call over the first task records of a slice.
+#![tactic(auto)]
+
 ghost use Rattle.std.specs.Prelude.{◌≡◌, ◌≤◌, length, take as up_to};
 ghost use Rattle.model.specs.Refusal.{column_call};
 ghost use Rattle.records.specs.Records.{all_lent, OthersKept};

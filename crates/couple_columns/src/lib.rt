@@ -1,4 +1,6 @@
 // A column of T-3, on the lent matrix and row lists where they lie.
+#![tactic(auto)]
+
 ghost use Rattle.std.specs.Prelude.{◌≡◌};
 ghost use Rattle.model.specs.Task.{T-3};
 ghost use Rattle.model.specs.Plan.{plan_of};

@@ -1,4 +1,6 @@
 // What a failed T-3 leaves, on two tiles of one slice and a row list, given by where they start.
+#![tactic(auto)]
+
 ghost use Rattle.std.specs.Prelude.{◌≡◌, ◌+◌, ◌*◌, ◌≤◌, length, replicate};
 ghost use Rattle.model.specs.Limits.{most_side};
 ghost use Rattle.model.specs.Lists.{part, with_part};

@@ -1,4 +1,6 @@
 // A column of T-3 on two tiles of one slice, given by where they start.
+#![tactic(auto)]
+
 ghost use Rattle.std.specs.Prelude.{◌≡◌, true, ℕ, ◌*◌, ◌<◌, ◌≤◌};
 ghost use Rattle.model.specs.Lists.{part};
 ghost use Rattle.model.specs.Num.{finite, quotient};

@@ -1,4 +1,6 @@
 // A cursor in a text goes past the line that is due, which is checked, or is stopped by its refusal.
+#![tactic(auto)]
+
 ghost use Rattle.std.specs.Prelude.{◌≡◌, ◌≤◌};
 ghost use Rattle.model.specs.Limits.{most_side};
 ghost use Rattle.model.specs.Read.{line_length};
@@ -9,14 +11,14 @@ use lines_read::{Due, line_answer};
 use model::Answer;
 
 // A place in a text that a line starts at, and the line's number from 1.
-#[derive(Drop)]
+#[derive(Clone, Copy)]
 pub struct Cursor {
     pub at: usize,
     pub line: usize,
 }
 
 // The cursor after what was read, or a refusal's number and place.
-#[derive(Drop)]
+#[derive(Clone, Copy)]
 pub enum Step {
     Next(Cursor),
     Stopped(u8, usize),

@@ -1,4 +1,6 @@
 // Refusal 4 but for elements: records and the run's number, what the workers hold, and list entries.
+#![tactic(auto)]
+
 ghost use Rattle.std.specs.Prelude.{◌≡◌, ◌&&◌, ◌||◌, not, List, eqb, leb, ltb, Float, length, ◌+◌, ◌-◌, ◌<◌};
 ghost use Rattle.model.specs.Lengths.{ListsFit, RecordsFit};
 ghost use Rattle.model.specs.Lists.{below, some};

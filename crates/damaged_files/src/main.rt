@@ -1,5 +1,7 @@
 // Judges texts from standard input, damaged ones among them, as systems and as results. The lines and their answers are as the reference has
 // them: what a text is read as (2 digits), its count of bytes (8 digits), then its bytes (2 digits each).
+#![tactic(auto)]
+
 ghost use Rattle.std.specs.Prelude.{◌≡◌, length};
 
 use judge::{decode, judge_result, judge_system};

@@ -1,4 +1,6 @@
 // The elimination of the pivot row from other rows of one slice, T-1's and T-3's.
+#![tactic(auto)]
+
 ghost use Rattle.std.specs.Prelude.{◌≡◌, true, ℕ, ◌+◌, ◌*◌, ◌<◌, get_or};
 ghost use Rattle.std.specs.Float.{nan};
 ghost use Rattle.model.specs.Lists.{part};

@@ -1,4 +1,6 @@
 // Refusal 4's test of the row lists.
+#![tactic(auto)]
+
 ghost use Rattle.std.specs.Prelude.{◌≡◌, ◌+◌, ◌*◌, ◌≤◌, ◌<◌, ltb, length, get_or};
 ghost use Rattle.model.specs.Lengths.{ListsFit};
 ghost use Rattle.model.specs.Limits.{most_side};

@@ -1,4 +1,6 @@
 // The row lists' entries out of the lines of a text that was checked, into the lent lists.
+#![tactic(auto)]
+
 ghost use Rattle.std.specs.Prelude.{◌≡◌, suc, ◌*◌, ◌≤◌, ◌<◌, length, replicate};
 ghost use Rattle.model.specs.Limits.{most_tiles, most_side};
 ghost use Rattle.model.specs.Read.{entries_in};

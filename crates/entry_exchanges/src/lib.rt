@@ -1,5 +1,7 @@
 // The exchange that a list entry asks for, T-3's and T-4's, on two blocks of one slice, given by where they start.
 // A tile is a block of width t, a right side one of width 1.
+#![tactic(auto)]
+
 ghost use Rattle.std.specs.Prelude.{◌≡◌, ◌*◌, ◌<◌, ◌≤◌};
 ghost use Rattle.column_laws.specs.Steps.{upper_at, lower_at, with_two};
 ghost use Rattle.column_laws.specs.Room.{TwoBlocks};

@@ -1,4 +1,6 @@
 // The exchange of two runs of numbers of one slice, given by where they start.
+#![tactic(auto)]
+
 ghost use Rattle.std.specs.Prelude.{◌≡◌, ◌⊎◌, ◌+◌, ◌≤◌, length};
 ghost use Rattle.laws.specs.Apart.{Apart};
 ghost use Rattle.exchanges.specs.Exchanged.{exchanged_parts};

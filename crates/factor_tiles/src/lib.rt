@@ -1,4 +1,6 @@
 // A column of T-1 on a tile of one slice, given by where it starts.
+#![tactic(auto)]
+
 ghost use Rattle.std.specs.Prelude.{◌≡◌, true, ℕ, ◌*◌, ◌<◌};
 ghost use Rattle.model.specs.Lists.{part};
 ghost use Rattle.model.specs.Num.{finite, quotient};

@@ -1,4 +1,6 @@
 // What decides the outcome of a finished system: failed tasks and zeros on the diagonal, the lowest of each.
+#![tactic(auto)]
+
 ghost use Rattle.std.specs.Prelude.{◌≡◌, List, ℕ, ◌*◌, ◌<◌};
 ghost use Rattle.model.specs.Lengths.{MatrixFits, RecordsFit};
 ghost use Rattle.model.specs.Lists.{first_or};

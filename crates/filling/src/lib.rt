@@ -1,4 +1,6 @@
 // What a failed or spoiled task leaves: +0 in its tiles, 0 in its lists.
+#![tactic(auto)]
+
 ghost use Rattle.std.specs.Prelude.{◌≡◌, ◌*◌, ◌<◌, replicate};
 ghost use Rattle.model.specs.Lengths.{MatrixFits, ListsFit};
 ghost use Rattle.model.specs.Tile.{zeros, upper_filled};

@@ -1,4 +1,6 @@
 // Filling parts of the lent slices with +0 and 0.
+#![tactic(auto)]
+
 ghost use Rattle.std.specs.Prelude.{◌≡◌, ◌+◌, ◌≤◌, length, replicate};
 ghost use Rattle.model.specs.Lists.{with_part};
 ghost use Rattle.model.specs.Tile.{zeros};

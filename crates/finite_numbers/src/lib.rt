@@ -1,4 +1,6 @@
 // Numbers that aren't finite: whether there are any, and the lowest of them. Refusals 3 and 4 test elements by this.
+#![tactic(auto)]
+
 ghost use Rattle.std.specs.Prelude.{◌≡◌, cond};
 ghost use Rattle.model.specs.Tile.{all_finite};
 ghost use Rattle.model.specs.Refusal.{first_not_finite};
@@ -7,7 +9,7 @@ ghost use Rattle.finite_numbers.specs.declared.Lowest.TheVariants.{None, At};
 use numbers::is_finite;
 
 // The lowest that a search finds (an offset, a task or a row), or none.
-#[derive(Drop)]
+#[derive(Clone, Copy)]
 pub enum Lowest {
     None,
     At(usize),

@@ -1,4 +1,6 @@
 // A text's frames in order: a cursor goes past the lines that are due, each checked, and stops at the first refusal.
+#![tactic(auto)]
+
 ghost use Rattle.std.specs.Prelude.{◌≡◌, ◌≤◌};
 ghost use Rattle.model.specs.Limits.{most_side};
 ghost use Rattle.model.specs.Read.{tile_frames, list_frames};

@@ -1,4 +1,6 @@
 // Line 1 of a text: the header.
+#![tactic(auto)]
+
 ghost use Rattle.std.specs.Prelude.{◌≡◌, ◌||◌, ◌*◌, ltb};
 ghost use Rattle.model.specs.Text.{bad_shape};
 ghost use Rattle.header_read.specs.Heads.{header_of, sizes_in, Foretells};
@@ -9,7 +11,7 @@ use model::{MOST_ORDER, ReadAnswer};
 use shapes::bad_shape;
 
 // N and t of an accepted header, or a refusal's number and place.
-#[derive(Drop)]
+#[derive(Clone, Copy)]
 pub enum Header {
     Shape(usize, usize),
     Unread(u8, usize),

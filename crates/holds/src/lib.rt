@@ -1,4 +1,6 @@
 // Refusal 4's limits of a task, by its mark and the workers that hold it.
+#![tactic(auto)]
+
 ghost use Rattle.std.specs.Prelude.{◌≡◌, List, [], ℕ, ◌*◌, ◌≤◌, length};
 ghost use Rattle.worker.specs.declared.Worker.{Worker as SomeWorker};
 ghost use Rattle.model.specs.Limits.{most_workers};
@@ -13,14 +15,14 @@ use model::Sizes;
 use worker::Slots;
 
 // How many workers hold a task, and the sum of their next columns.
-#[derive(Drop)]
+#[derive(Clone, Copy)]
 pub struct Holders {
     pub count: usize,
     pub column: usize,
 }
 
 // Whether a task is held as its mark says, the most that its tie sum may be, and the most accepted calls that it can have had.
-#[derive(Drop)]
+#[derive(Clone, Copy)]
 pub struct Limits {
     pub held: bool,
     pub ties: usize,

@@ -1,4 +1,6 @@
 // What the calls tell a host: answers and outcomes as numbers.
+#![tactic(auto)]
+
 ghost use Rattle.std.specs.Prelude.{◌≡◌};
 ghost use Rattle.model.specs.declared.OutcomeAnswer.TheVariants.{Known};
 ghost use Rattle.model.specs.declared.ReadAnswer.TheVariants.{ResultRead};
@@ -8,7 +10,7 @@ use model::{Answer, Outcome, OutcomeAnswer, ReadAnswer, RunAnswer, WriteAnswer};
 
 // What a call tells a host: a refusal's number and place, both 0 where there is none; and by the call a kind, a place and a count.
 #[repr(C)]
-#[derive(Drop)]
+#[derive(Clone, Copy)]
 pub struct Told {
     pub place: usize,
     pub count: u64,
@@ -18,7 +20,7 @@ pub struct Told {
 
 // What a reading tells a host: a refusal's number and place; N and t; and a result's outcome, its kind and the task or row that it stands at.
 #[repr(C)]
-#[derive(Drop)]
+#[derive(Clone, Copy)]
 pub struct ReadTold {
     pub place: usize,
     pub tiles: usize,

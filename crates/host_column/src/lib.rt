@@ -1,4 +1,6 @@
 // A column call, for hosts. hosts/solumivaf.h declares it.
+#![tactic(auto)]
+
 ghost use Rattle.model.specs.Refusal.{column_call};
 ghost use Rattle.model.specs.Plan.{sizes};
 ghost use Rattle.host_calls.specs.Hosted.{hosted, Called};

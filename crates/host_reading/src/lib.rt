@@ -1,4 +1,6 @@
 // Reading system and result files, for hosts. hosts/solumivaf.h declares them.
+#![tactic(auto)]
+
 ghost use Rattle.std.specs.Prelude.{◌≡◌};
 ghost use Rattle.model.specs.Read.{read_system, read_result};
 ghost use Rattle.header_read.specs.Heads.{sizes_in};

@@ -1,4 +1,6 @@
 // The whole run, for hosts. hosts/solumivaf.h declares it.
+#![tactic(auto)]
+
 ghost use Rattle.model.specs.Refusal.{run_call};
 ghost use Rattle.model.specs.Plan.{sizes};
 ghost use Rattle.host_calls.specs.Hosted.{hosted, Ran};

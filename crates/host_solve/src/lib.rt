@@ -1,4 +1,6 @@
 // The outcome and a solve, for hosts. hosts/solumivaf.h declares them.
+#![tactic(auto)]
+
 ghost use Rattle.std.specs.Prelude.{◌≡◌};
 ghost use Rattle.model.specs.Refusal.{outcome_call};
 ghost use Rattle.model.specs.Solve.{solve_call};

@@ -1,4 +1,6 @@
 // The interface's version, the opening and a take, for hosts. hosts/solumivaf.h declares them.
+#![tactic(auto)]
+
 ghost use Rattle.std.specs.Prelude.{◌≡◌};
 ghost use Rattle.model.specs.Refusal.{open_call, take_call};
 ghost use Rattle.model.specs.Plan.{sizes};

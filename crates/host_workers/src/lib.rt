@@ -1,4 +1,6 @@
 // The workers of a host: their slots in three arrays, their count, and the run's number.
+#![tactic(auto)]
+
 ghost use Rattle.std.specs.Prelude.{◌≡◌};
 ghost use Rattle.host_workers.specs.Workers.{slots_in, workers_in, byte_left, bytes_left};
 

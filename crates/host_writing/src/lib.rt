@@ -1,4 +1,6 @@
 // Writing system and result files, for hosts. hosts/solumivaf.h declares them.
+#![tactic(auto)]
+
 ghost use Rattle.std.specs.Prelude.{◌≡◌};
 ghost use Rattle.model.specs.Text.{write_system, write_result};
 ghost use Rattle.host_answers.specs.Answers.{write_told, outcome_from};

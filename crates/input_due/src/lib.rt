@@ -1,4 +1,6 @@
 // How much of its input the program has to read.
+#![tactic(auto)]
+
 ghost use Rattle.std.specs.Prelude.{◌≡◌, List, ℕ, ◌≤◌, take};
 ghost use Rattle.model.specs.Read.{program};
 ghost use Rattle.input_due.specs.Due.{bytes_due};

@@ -1,4 +1,6 @@
 // For the test of damaged texts: what the readers answer for a text, as a line of digits.
+#![tactic(auto)]
+
 ghost use Rattle.std.specs.Prelude.{◌≤◌, length};
 
 use header_read::{Header, check_header};
@@ -9,7 +11,7 @@ use script::{mixed_bytes, mixed_numbers, number, put, set_byte, wide};
 use system_file::read_system;
 
 // How many numbers and entries are lent for a text.
-#[derive(Drop)]
+#[derive(Clone, Copy)]
 pub struct Lengths {
     pub numbers: usize,
     pub entries: usize,

@@ -1,4 +1,6 @@
 // A column of a task by its record's kind.
+#![tactic(auto)]
+
 ghost use Rattle.std.specs.Prelude.{◌≡◌};
 ghost use Rattle.model.specs.Plan.{plan_of};
 ghost use Rattle.model.specs.Buffer.{ended_with, column_ends};

@@ -1,4 +1,6 @@
 // The tests of one line: refusals 12, 13 and 3. The line is as long as the kind that is due says.
+#![tactic(auto)]
+
 ghost use Rattle.std.specs.Prelude.{◌≡◌, ◌+◌, ◌*◌, ◌≤◌, length};
 ghost use Rattle.model.specs.declared.Answer.TheVariants.{Accepted};
 ghost use Rattle.model.specs.Limits.{most_side};
@@ -9,7 +11,7 @@ use digits_read::{all_digits, field_at, finite_at};
 use model::Answer;
 
 // The frame that is due on a line: its kind, and its I and J where it has them.
-#[derive(Drop)]
+#[derive(Clone, Copy)]
 pub struct Due {
     pub kind: usize,
     pub i: usize,

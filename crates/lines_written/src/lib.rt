@@ -1,4 +1,6 @@
 // One line of a file, the frame of each kind, written into a lent text from a place on; the rest of the text stays.
+#![tactic(auto)]
+
 ghost use Rattle.std.specs.Prelude.{◌≡◌, map, ◌++◌, ◌+◌, ◌*◌, ◌≤◌, length};
 ghost use Rattle.model.specs.Lists.{joined, part, with_part};
 ghost use Rattle.model.specs.Text.{hex, bits, line, outcome_frame, refusal_frame};

@@ -1,4 +1,6 @@
 // The row lists with I ≥ J, written row by row into a lent text.
+#![tactic(auto)]
+
 ghost use Rattle.std.specs.Prelude.{◌≡◌, ◌+◌, ◌*◌, ◌<◌, ◌≤◌, length};
 ghost use Rattle.model.specs.Limits.{most_tiles, most_side};
 ghost use Rattle.model.specs.Lists.{with_part};

@@ -1,4 +1,6 @@
 // Copies task records from a lent slice of structs to a slice of RECORD bytes each.
+#![tactic(auto)]
+
 ghost use Rattle.std.specs.Prelude.{◌≡◌, ◌≤◌, length};
 ghost use Rattle.records.specs.Records.{records_from};
 ghost use Rattle.task_records.specs.Copies.{copied};

@@ -1,4 +1,6 @@
 // Tests of a task's mark.
+#![tactic(auto)]
+
 ghost use Rattle.std.specs.Prelude.{◌≡◌};
 ghost use Rattle.model.specs.Links.{finished, broken};
 

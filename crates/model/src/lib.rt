@@ -1,4 +1,6 @@
 // The types that the definitions in specs/ and the code share. The definitions are document 01's, section by section.
+#![tactic(auto)]
+
 use worker::Workers;
 
 // The largest N, t and N·t. The largest W is worker::SLOTS.
@@ -16,7 +18,7 @@ pub const MOST_TASKS: usize = 1496;
 
 // What a call is told of a system: N tiles a side, each tile t numbers a side, and W workers.
 #[repr(C)]
-#[derive(Drop)]
+#[derive(Clone, Copy)]
 pub struct Sizes {
     pub tiles: usize,
     pub side: usize,
@@ -26,7 +28,7 @@ pub struct Sizes {
 // What is lent for a task: kind 1 to 4, k, i and j (0 where unused), its mark, the worker that finished it, the sum of the ties of the columns that it
 // completed, and the numbers of the calls that took and that ended it. In this order it has no gap, and copies of it as bytes are quicker to make.
 #[repr(C)]
-#[derive(Drop)]
+#[derive(Clone, Copy)]
 pub struct TaskRecord {
     pub kind: u8,
     pub k: u8,
@@ -41,7 +43,7 @@ pub struct TaskRecord {
 
 // What a pivot search carries along and tells: the winner's place, its magnitude, and its ties, which are the other candidates with that magnitude.
 // Among candidates the place counts from 0; what is told of a column is the row that the row list records.
-#[derive(Drop)]
+#[derive(Clone, Copy)]
 pub struct Pivot {
     pub place: usize,
     pub magnitude: f64,
@@ -49,7 +51,7 @@ pub struct Pivot {
 }
 
 // How a column ends: with the ties of its pivot where it is completed and its task goes on or is done, and else with a failed or a spoiled task.
-#[derive(Drop)]
+#[derive(Clone, Copy)]
 pub enum ColumnEnd {
     GoesOn(u16),
     Done(u16),
@@ -58,14 +60,14 @@ pub enum ColumnEnd {
 }
 
 // What a call answers: that it was accepted, or a refusal's number and place.
-#[derive(Drop)]
+#[derive(Clone, Copy)]
 pub enum Answer {
     Accepted,
     Refused(u8, usize),
 }
 
 // What a whole run answers: finished or spent, with the count of its calls, or a refusal's number and place.
-#[derive(Drop)]
+#[derive(Clone, Copy)]
 pub enum RunAnswer {
     Finished(u64),
     Spent(u64),
@@ -73,7 +75,7 @@ pub enum RunAnswer {
 }
 
 // The outcome: good, overflow at a task, or singular at a row.
-#[derive(Drop)]
+#[derive(Clone, Copy)]
 pub enum Outcome {
     Good,
     Overflow(u16),
@@ -81,7 +83,7 @@ pub enum Outcome {
 }
 
 // What the outcome call answers: the outcome, the lowest task that is unfinished, or a refusal's number and place.
-#[derive(Drop)]
+#[derive(Clone, Copy)]
 pub enum OutcomeAnswer {
     Known(Outcome),
     Unfinished(usize),
@@ -89,21 +91,21 @@ pub enum OutcomeAnswer {
 }
 
 // What a backward row of a solve gives: a number, or that some number on the way is not finite.
-#[derive(Drop)]
+#[derive(Clone, Copy)]
 pub enum Row {
     Number(f64),
     NotFinite,
 }
 
 // What a writer answers: the length written, or a refusal's number and place.
-#[derive(Drop)]
+#[derive(Clone, Copy)]
 pub enum WriteAnswer {
     Written(usize),
     WriteRefused(u8, usize),
 }
 
 // What a reader answers: N and t of a system; N, t and the outcome of a result; or a refusal's number and place.
-#[derive(Drop)]
+#[derive(Clone, Copy)]
 pub enum ReadAnswer {
     SystemRead(usize, usize),
     ResultRead(usize, usize, Outcome),
@@ -111,14 +113,14 @@ pub enum ReadAnswer {
 }
 
 // What an opening, a take or a column hands back: its answer, and the workers.
-#[derive(Drop)]
+#[derive(Clone, Copy)]
 pub struct CallReply {
     pub answer: Answer,
     pub workers: Workers,
 }
 
 // What a whole run hands back: its answer, and the workers.
-#[derive(Drop)]
+#[derive(Clone, Copy)]
 pub struct RunReply {
     pub answer: RunAnswer,
     pub workers: Workers,

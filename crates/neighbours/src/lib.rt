@@ -1,5 +1,7 @@
 // The marks of the tasks that are linked to a task: at most three, and each stands at a number that follows from the task's own. Inside, a task
 // is a triple: T-1(k) is (k,k,k), T-2(k,j) is (k,k,j), T-3(k,i) is (k,i,k), T-4(k,i,j) is (k,i,j).
+#![tactic(auto)]
+
 ghost use Rattle.std.specs.Prelude.{◌≡◌, max};
 ghost use Rattle.links.specs.Closed.{key, back_mark, above_mark, left_mark};
 ghost use Rattle.records.specs.Records.{marks_from};
@@ -9,7 +11,7 @@ ghost use Rattle.neighbours.specs.Linked.{Placed, link_marks};
 use records::{Record, mark_of};
 
 // The marks of the task one stage back at the same tile, of the one above in its column, and of the first of its row.
-#[derive(Drop)]
+#[derive(Clone, Copy)]
 pub struct LinkMarks {
     pub back: u8,
     pub above: u8,

@@ -1,4 +1,6 @@
 // The task that is next in a run: the lowest ready one, where the search for it begins, and how a worker takes it.
+#![tactic(auto)]
+
 ghost use Rattle.std.specs.Prelude.{◌≡◌, cond, suc, min, ◌<◌, length};
 ghost use Rattle.worker.specs.Holding.{holding};
 ghost use Rattle.model.specs.Calls.{with_take, changed};

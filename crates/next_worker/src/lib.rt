@@ -1,4 +1,6 @@
 // The worker that is next in a run, counting round.
+#![tactic(auto)]
+
 ghost use Rattle.std.specs.Prelude.{◌≡◌, suc, ◌%◌, ◌<◌};
 
 // The worker after v, of `count`.

@@ -1,11 +1,13 @@
 // The tasks in number order, one after the other, as triples: T-1(k) is (k,k,k), T-2(k,j) is (k,k,j), T-3(k,i) is (k,i,k), T-4(k,i,j) is (k,i,j).
 // Task 0 is (0,0,0).
+#![tactic(auto)]
+
 ghost use Rattle.std.specs.Prelude.{◌≡◌, ◌+◌, ◌≤◌, ◌<◌, length};
 ghost use Rattle.model.specs.Limits.{most_tiles};
 ghost use Rattle.model.specs.Task.{tasks};
 ghost use Rattle.links.specs.Closed.{key, In, number};
 
-#[derive(Drop)]
+#[derive(Clone, Copy)]
 pub struct Triple {
     pub k: u8,
     pub i: u8,

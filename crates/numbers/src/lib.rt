@@ -1,4 +1,6 @@
 // Single numbers.
+#![tactic(auto)]
+
 ghost use Rattle.std.specs.Prelude.{◌≡◌};
 ghost use Rattle.model.specs.Num.{finite, magnitude, update as updated};
 

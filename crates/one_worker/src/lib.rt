@@ -1,4 +1,6 @@
 // One worker's whole run of a system, from its opening to its outcome.
+#![tactic(auto)]
+
 ghost use Rattle.std.specs.Prelude.{◌≡◌, map};
 ghost use Rattle.model.specs.Plan.{plan};
 ghost use Rattle.model.specs.Calls.{without_calls};

@@ -1,5 +1,7 @@
 // Opening a system, over task records that are lent as a slice of structs. The records that the call looks at are copied, the call works on the
 // copies, and those that it may have changed are copied back.
+#![tactic(auto)]
+
 ghost use Rattle.std.specs.Prelude.{◌≡◌};
 ghost use Rattle.model.specs.Refusal.{open_call};
 ghost use Rattle.records.specs.Records.{OthersKept};

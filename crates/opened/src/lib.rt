@@ -1,4 +1,6 @@
 // The records and the workers of a system that was just opened.
+#![tactic(auto)]
+
 ghost use Rattle.std.specs.Prelude.{◌≡◌, map, ◌≤◌, replicate};
 ghost use Rattle.model.specs.Lengths.{RecordsFit};
 ghost use Rattle.model.specs.Limits.{most_workers};

@@ -1,4 +1,6 @@
 // Opening a system: everything is checked, then the lists, the records and the workers are set.
+#![tactic(auto)]
+
 ghost use Rattle.std.specs.Prelude.{◌≡◌};
 ghost use Rattle.model.specs.Refusal.{open_call};
 ghost use Rattle.records.specs.Records.{all_lent, OthersKept};

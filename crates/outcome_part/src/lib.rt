@@ -1,4 +1,6 @@
 // The outcome of a system over the first task records of a slice.
+#![tactic(auto)]
+
 ghost use Rattle.std.specs.Prelude.{◌≡◌, ◌≤◌, length, take as up_to};
 ghost use Rattle.model.specs.Refusal.{outcome_call};
 ghost use Rattle.records.specs.Records.{all_lent};

@@ -1,4 +1,6 @@
 // The outcome of a result's last line.
+#![tactic(auto)]
+
 ghost use Rattle.std.specs.Prelude.{◌≡◌, length};
 ghost use Rattle.model.specs.Read.{outcome_in};
 ghost use Rattle.lines_read.specs.Line.{LineOfDigits};

@@ -1,4 +1,6 @@
 // The outcome of a system.
+#![tactic(auto)]
+
 ghost use Rattle.std.specs.Prelude.{◌≡◌};
 ghost use Rattle.model.specs.Refusal.{outcome_call};
 ghost use Rattle.records.specs.Records.{all_lent};

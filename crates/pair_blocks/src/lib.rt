@@ -1,4 +1,6 @@
 // A column of T-4 on two blocks of one slice, given by where they start. A tile is a block of width t, a right side one of width 1.
+#![tactic(auto)]
+
 ghost use Rattle.std.specs.Prelude.{◌≡◌, true, ◌+◌, ◌*◌, ◌<◌, ◌≤◌};
 ghost use Rattle.model.specs.Lists.{part};
 ghost use Rattle.model.specs.Tile.{at, all_finite};

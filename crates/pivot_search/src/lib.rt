@@ -1,4 +1,6 @@
 // The pivot search, on a slice with offsets.
+#![tactic(auto)]
+
 ghost use Rattle.std.specs.Prelude.{◌≡◌, true, ◌+◌, ◌*◌, ◌<◌, ◌≤◌, length};
 ghost use Rattle.model.specs.Limits.{most_side};
 ghost use Rattle.model.specs.Num.{magnitude};

@@ -1,4 +1,6 @@
 // The pivot of a column of T-1 and of T-3, on tiles of one slice, given by where they start.
+#![tactic(auto)]
+
 ghost use Rattle.std.specs.Prelude.{◌≡◌, true, ◌*◌, ◌<◌};
 ghost use Rattle.model.specs.Lists.{part};
 ghost use Rattle.model.specs.Tile.{all_finite};

@@ -1,4 +1,6 @@
 // Where tiles and row lists stand in the lent slices, and a list entry as an index.
+#![tactic(auto)]
+
 ghost use Rattle.std.specs.Prelude.{◌≡◌, ◌<◌, ◌≤◌};
 ghost use Rattle.model.specs.Limits.{most_tiles, most_side};
 ghost use Rattle.column_laws.specs.Steps.{tile_start, list_start};

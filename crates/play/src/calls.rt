@@ -21,7 +21,7 @@ const SOLVE: u8 = 21;
 const OUTCOME: u8 = 22;
 
 // What a call leaves: the workers, and what it tells.
-#[derive(Drop)]
+#[derive(Clone, Copy)]
 struct Played {
     workers: Workers,
     told: Told,

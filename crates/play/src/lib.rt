@@ -1,5 +1,7 @@
 // For test programs: plays a script of calls, one a line, and answers each with a line (reference/README.md has the format). The buffers
 // lent are the fronts of the slices given; what a line lends beyond them is dropped.
+#![tactic(auto)]
+
 mod calls;
 mod solves;
 

@@ -1,4 +1,6 @@
 // For test programs: answers as digits, and the digest of everything lent (reference/README.md has the format).
+#![tactic(auto)]
+
 ghost use Rattle.std.specs.Prelude.{◌≤◌, length};
 
 use host_answers::Told;

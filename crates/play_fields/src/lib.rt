@@ -1,4 +1,6 @@
 // For test programs: the fields of a line of a script (reference/README.md has the format).
+#![tactic(auto)]
+
 ghost use Rattle.std.specs.Prelude.{◌≤◌, length};
 
 use model::{Sizes, TaskRecord};
@@ -25,7 +27,7 @@ fn argument(line: &[u8], k: usize) -> u64
 }
 
 // What a line of a call says: its kind, the sizes told, and two numbers more: a worker and a task, or a budget.
-#[derive(Drop)]
+#[derive(Clone, Copy)]
 pub struct Call {
     pub kind: u8,
     pub sizes: Sizes,

@@ -1,4 +1,6 @@
 // For test programs: what a line of a script lends (reference/README.md has the format).
+#![tactic(auto)]
+
 ghost use Rattle.std.specs.Prelude.{◌≤◌, length};
 
 use play_fields::{at_most, read_bytes, read_numbers, read_records, read_workers, two};

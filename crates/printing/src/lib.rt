@@ -1,4 +1,6 @@
 // What the program prints for a text: the result of one worker's whole run, or the line of a refusal.
+#![tactic(auto)]
+
 ghost use Rattle.std.specs.Prelude.{◌≡◌, ◌≤◌, length};
 ghost use Rattle.model.specs.Read.{program};
 ghost use Rattle.system_printed.specs.Print.{print_result};

@@ -1,4 +1,6 @@
 // Readiness of tasks over the lent records: for one answer the marks of at most three other tasks are read.
+#![tactic(auto)]
+
 ghost use Rattle.std.specs.Prelude.{◌≡◌};
 ghost use Rattle.model.specs.Task.{tasks};
 ghost use Rattle.model.specs.Links.{ready};

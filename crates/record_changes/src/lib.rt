@@ -1,4 +1,6 @@
 // Changes of task records in a slice that the caller lends, RECORD bytes each.
+#![tactic(auto)]
+
 ghost use Rattle.std.specs.Prelude.{◌≡◌, ◌+◌, ◌<◌, length, get_or, set};
 ghost use Rattle.model.specs.Calls.{with_take, with_column, changed};
 ghost use Rattle.records.specs.Records.{records_from, ties_from, four_bytes};

@@ -1,4 +1,6 @@
 // Task records in a slice that the caller lends, RECORD bytes each. Only these functions and those of record_changes look inside the bytes.
+#![tactic(auto)]
+
 ghost use Rattle.std.specs.Prelude.{◌≡◌, ◌<◌, length, get_or};
 ghost use Rattle.model.specs.Links.{mark as markAt};
 ghost use Rattle.records.specs.Records.{records_from, marks_from, blank, two_bytes, four_bytes};

@@ -1,4 +1,6 @@
 // Writing the line of a refusal into a lent text: its front is filled, the length told, the rest left.
+#![tactic(auto)]
+
 ghost use Rattle.std.specs.Prelude.{◌≡◌};
 ghost use Rattle.refusal_written.specs.Refusal.{write_refusal};
 

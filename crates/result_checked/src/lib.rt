@@ -1,4 +1,6 @@
 // Checking the lines of a result file after its accepted header.
+#![tactic(auto)]
+
 ghost use Rattle.std.specs.Prelude.{◌≡◌, ◌≤◌, length};
 ghost use Rattle.model.specs.Limits.{most_side};
 ghost use Rattle.model.specs.Read.{result_frames};

@@ -1,4 +1,6 @@
 // Reading result files. The whole text is checked first, and the lent buffers are written only where nothing is refused.
+#![tactic(auto)]
+
 ghost use Rattle.std.specs.Prelude.{◌≡◌};
 ghost use Rattle.model.specs.Read.{no_limit, read_result};
 ghost use Rattle.system_checked.specs.Files.{Headed};

@@ -1,4 +1,6 @@
 // The tiles, the lists and the outcome of a result's checked text, into the lent buffers.
+#![tactic(auto)]
+
 ghost use Rattle.std.specs.Prelude.{◌≡◌, ◌*◌, length};
 ghost use Rattle.result_loaded.specs.Results.{ResultLines, loaded_result};
 

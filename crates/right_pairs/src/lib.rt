@@ -1,4 +1,6 @@
 // T-4 on the right side, as one more tile column, of width 1.
+#![tactic(auto)]
+
 ghost use Rattle.std.specs.Prelude.{◌<◌};
 ghost use Rattle.model.specs.Plan.{plan_of};
 ghost use Rattle.model.specs.Solve.{going, paired};

@@ -1,4 +1,6 @@
 // Every T-2 and T-4 done to the right side, which is for them a tile column with one column of numbers.
+#![tactic(auto)]
+
 ghost use Rattle.std.specs.Prelude.{◌≡◌, ◌<◌, length};
 ghost use Rattle.model.specs.Lists.{in_turn};
 ghost use Rattle.model.specs.Plan.{plan_of};

@@ -1,5 +1,7 @@
 // The update of rows of one slice by multipliers and another row. Four numbers are computed, stored and tested together, which compilers make
 // packed instructions of; those that are over come first, one by one.
+#![tactic(auto)]
+
 ghost use Rattle.std.specs.Prelude.{◌≡◌, true, ◌⊎◌, ◌+◌, ◌*◌, ◌≤◌, ◌<◌, length, get_or};
 ghost use Rattle.std.specs.Float.{nan};
 ghost use Rattle.model.specs.Limits.{most_side};

@@ -1,4 +1,6 @@
 // The tiles, written row by row into a lent text; the lengths of what writers write.
+#![tactic(auto)]
+
 pub mod sizes;
 
 ghost use Rattle.std.specs.Prelude.{◌≡◌, ◌+◌, ◌*◌, ◌<◌, ◌≤◌, length};

@@ -1,4 +1,6 @@
 // The refusals of a run.
+#![tactic(auto)]
+
 ghost use Rattle.std.specs.Prelude.{◌≡◌};
 ghost use Rattle.model.specs.Refusal.{run_answer};
 ghost use Rattle.records.specs.Records.{all_lent};

@@ -1,4 +1,6 @@
 // The whole run: refusals 1, 2 and 4 are checked once, then workers take turns.
+#![tactic(auto)]
+
 ghost use Rattle.std.specs.Prelude.{◌≡◌};
 ghost use Rattle.model.specs.Refusal.{run_call};
 ghost use Rattle.records.specs.Records.{all_lent, OthersKept};

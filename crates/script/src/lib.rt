@@ -1,5 +1,7 @@
 // For test programs: fields of fixed width in lines of hexadecimal digits, a digest, and bytes to print. Every function is total: what
 // is read past the end is 0, and what is written past the end is dropped. What they compute is not stated: it is matched with the reference program.
+#![tactic(auto)]
+
 ghost use Rattle.std.specs.Prelude.{◌<◌};
 
 // The byte k places after at.

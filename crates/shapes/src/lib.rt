@@ -1,4 +1,6 @@
 // The test of N and t that calls, readers and writers share.
+#![tactic(auto)]
+
 ghost use Rattle.std.specs.Prelude.{◌≡◌};
 ghost use Rattle.model.specs.Text.{bad_shape};
 

@@ -1,5 +1,7 @@
 // The program: reads a system on standard input, runs it with one worker and prints the result, or the line of a refusal. Every decision is
 // in printing and input_due; here bytes are only moved, and what cannot be moved is said on standard error.
+#![tactic(auto)]
+
 ghost use Rattle.std.specs.Prelude.{◌≤◌, length};
 ghost use Rattle.solumivaf.specs.Input.{Within};
 
@@ -9,7 +11,7 @@ use model::WriteAnswer;
 use printing::print_result;
 
 // What was read: how many bytes, or that a read failed.
-#[derive(Drop)]
+#[derive(Clone, Copy)]
 pub enum Input {
     Bytes(usize),
     Lost,

@@ -1,4 +1,6 @@
 // The solution for one right side, of a system that a solve has checked.
+#![tactic(auto)]
+
 ghost use Rattle.std.specs.Prelude.{◌≡◌, true, ◌*◌, length};
 ghost use Rattle.model.specs.declared.Answer.TheVariants.{Accepted};
 ghost use Rattle.model.specs.Tile.{all_finite};

@@ -1,4 +1,6 @@
 // A solve, over task records that are lent as a slice of structs. The call works on copies of them.
+#![tactic(auto)]
+
 ghost use Rattle.std.specs.Prelude.{◌≡◌};
 ghost use Rattle.model.specs.Solve.{solve_call};
 ghost use Rattle.copies.specs.Whole.{whole};

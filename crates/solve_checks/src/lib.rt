@@ -1,4 +1,6 @@
 // What a solve checks before it computes: refusals 1, 2, 4, 8, 9, 10 and 3, in this order.
+#![tactic(auto)]
+
 ghost use Rattle.std.specs.Prelude.{◌≡◌, not, List, ℕ};
 ghost use Rattle.worker.specs.declared.Worker.{Worker as SomeWorker};
 ghost use Rattle.model.specs.declared.Answer.TheVariants.{Accepted};

@@ -1,4 +1,6 @@
 // A solve over the first task records of a slice.
+#![tactic(auto)]
+
 ghost use Rattle.std.specs.Prelude.{◌≡◌, ◌≤◌, length, take as up_to};
 ghost use Rattle.model.specs.Solve.{solve_call};
 ghost use Rattle.records.specs.Records.{all_lent};

@@ -1,4 +1,6 @@
 // Refusals 1, 2 and 4 but for elements: what a take, a column and a run look at first.
+#![tactic(auto)]
+
 ghost use Rattle.std.specs.Prelude.{◌≡◌};
 ghost use Rattle.records.specs.Records.{all_lent};
 ghost use Rattle.states.specs.States.{state_answer};

@@ -1,4 +1,6 @@
 // Copies task records from a slice of RECORD bytes each back to a lent slice of structs.
+#![tactic(auto)]
+
 ghost use Rattle.std.specs.Prelude.{◌≡◌, ◌-◌, ◌≤◌, length};
 ghost use Rattle.records.specs.Records.{records_from};
 ghost use Rattle.task_records.specs.Copies.{copied};

@@ -1,4 +1,6 @@
 // Checking system files: the whole text, and nothing is lent.
+#![tactic(auto)]
+
 ghost use Rattle.std.specs.Prelude.{◌≡◌, ◌≤◌, length};
 ghost use Rattle.model.specs.Limits.{most_side};
 ghost use Rattle.model.specs.Read.{system_frames};

@@ -1,4 +1,6 @@
 // Reading system files. The whole text is checked first, and the lent matrix is written only where nothing is refused.
+#![tactic(auto)]
+
 ghost use Rattle.std.specs.Prelude.{◌≡◌};
 ghost use Rattle.model.specs.Read.{no_limit, read_system};
 ghost use Rattle.system_checked.specs.Files.{Headed};

@@ -1,4 +1,6 @@
 // What the program prints for a checked system: the result of one worker's whole run.
+#![tactic(auto)]
+
 ghost use Rattle.std.specs.Prelude.{◌≡◌, ◌≤◌, length};
 ghost use Rattle.model.specs.Plan.{sizes};
 ghost use Rattle.model.specs.Lengths.{LentFits};

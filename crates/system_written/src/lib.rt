@@ -1,4 +1,6 @@
 // Writing system files into a lent text: its front is filled, the length told, the rest left.
+#![tactic(auto)]
+
 ghost use Rattle.std.specs.Prelude.{◌≡◌, [], ◌*◌, ◌≤◌, length};
 ghost use Rattle.model.specs.Limits.{most_tiles, most_side};
 ghost use Rattle.model.specs.Lists.{with_part};

@@ -1,4 +1,6 @@
 // The refusals of a take.
+#![tactic(auto)]
+
 ghost use Rattle.std.specs.Prelude.{◌≡◌};
 ghost use Rattle.model.specs.Refusal.{take_answer};
 ghost use Rattle.records.specs.Records.{all_lent};

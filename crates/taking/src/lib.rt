@@ -1,4 +1,6 @@
 // A worker takes a task.
+#![tactic(auto)]
+
 ghost use Rattle.std.specs.Prelude.{◌≡◌};
 ghost use Rattle.model.specs.Refusal.{take_call};
 ghost use Rattle.records.specs.Records.{all_lent, OthersKept};

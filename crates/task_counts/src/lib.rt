@@ -1,4 +1,6 @@
 // The count of a system's tasks.
+#![tactic(auto)]
+
 ghost use Rattle.std.specs.Prelude.{◌≡◌, ◌+◌, ◌≤◌, length};
 ghost use Rattle.model.specs.Limits.{most_tiles};
 ghost use Rattle.model.specs.Task.{tasks};

@@ -1,5 +1,7 @@
 // Task records as a lent slice of structs, of which the calls work on copies in a slice of RECORD bytes each. Only the functions of
 // loading and storing look inside the structs.
+#![tactic(auto)]
+
 ghost use Rattle.std.specs.Prelude.{◌≡◌, cond, ◌+◌, ltb};
 ghost use Rattle.model.specs.Limits.{most_tasks};
 

@@ -1,4 +1,6 @@
 // Refusal 4's test of the tiles that a task touches: an element that isn't finite.
+#![tactic(auto)]
+
 ghost use Rattle.std.specs.Prelude.{◌≡◌, not, ◌&&◌, List, ℕ, ◌<◌};
 ghost use Rattle.model.specs.Lengths.{MatrixFits};
 ghost use Rattle.model.specs.Tile.{all_finite};

@@ -1,4 +1,6 @@
 // A tile as a part of the matrix.
+#![tactic(auto)]
+
 ghost use Rattle.std.specs.Prelude.{◌≡◌, ◌*◌, ◌<◌, ◌≤◌};
 ghost use Rattle.model.specs.Lengths.{MatrixFits};
 ghost use Rattle.model.specs.Limits.{most_tiles, most_side};

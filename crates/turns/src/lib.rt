@@ -1,4 +1,6 @@
 // The turns of a run, once what is lent passed the refusals.
+#![tactic(auto)]
+
 ghost use Rattle.std.specs.Prelude.{◌≡◌};
 ghost use Rattle.model.specs.declared.Answer.TheVariants.{Accepted};
 ghost use Rattle.model.specs.Plan.{plan_of};

@@ -1,4 +1,6 @@
 // The turns of a run, from any of them on.
+#![tactic(auto)]
+
 ghost use Rattle.std.specs.Prelude.{◌≡◌, ◌-◌};
 ghost use Rattle.model.specs.Plan.{plan_of};
 ghost use Rattle.model.specs.Calls.{run_from};

@@ -1,4 +1,6 @@
 // The lowest unfinished task, whether there is one, and what a run answers by that.
+#![tactic(auto)]
+
 ghost use Rattle.std.specs.Prelude.{◌≡◌, cond, not, length};
 ghost use Rattle.model.specs.declared.RunAnswer.TheVariants.{Finished, Spent};
 ghost use Rattle.model.specs.Lists.{below, every, keep, first_or};

@@ -1,4 +1,6 @@
 // Filling the upper part of a tile with +0.
+#![tactic(auto)]
+
 ghost use Rattle.std.specs.Prelude.{◌≡◌, ◌+◌, ◌*◌, ◌≤◌, length};
 ghost use Rattle.model.specs.Limits.{most_side};
 ghost use Rattle.model.specs.Lists.{part, with_part};

@@ -1,4 +1,6 @@
 // The record of a waiting task, by its triple.
+#![tactic(auto)]
+
 ghost use Rattle.std.specs.Prelude.{◌≡◌};
 ghost use Rattle.model.specs.Calls.{record_of};
 ghost use Rattle.links.specs.Closed.{key, task_at};

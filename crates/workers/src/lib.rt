@@ -1,4 +1,6 @@
 // Refusal 4's test of what each worker holds.
+#![tactic(auto)]
+
 ghost use Rattle.std.specs.Prelude.{◌≡◌};
 ghost use Rattle.model.specs.Lengths.{RecordsFit};
 ghost use Rattle.model.specs.Lists.{some};

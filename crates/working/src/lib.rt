@@ -1,4 +1,6 @@
 // A worker does the next column of its task.
+#![tactic(auto)]
+
 ghost use Rattle.std.specs.Prelude.{◌≡◌};
 ghost use Rattle.model.specs.Refusal.{column_call};
 ghost use Rattle.records.specs.Records.{all_lent, OthersKept};
