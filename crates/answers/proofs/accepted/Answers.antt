@@ -1,0 +1,15 @@
+-- Each variant tells. Assumes nothing.
+use mathlib.Core.Path.{sym, ap}
+use borrow.Author.Rules.{rules}
+use Rattle.answers.specs.Answers.{accepts}
+use Rattle.answers.proofs.accepted.Goals as goal
+
+pub returns-in-Accepted : goal.returns-in-Accepted
+unfolding accepts
+returns-in-Accepted c =
+    sym (ap accepts c.enum_told-1.given.1)
+
+pub returns-in-Refused : goal.returns-in-Refused
+unfolding accepts
+returns-in-Refused c =
+    sym (ap accepts c.enum_told-in-Refused-1.given.1)

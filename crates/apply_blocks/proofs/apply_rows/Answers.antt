@@ -1,0 +1,56 @@
+-- `apply_rows` meets its contract: the rows below row c stand in the tile. Assumes nothing.
+use borrow.Author.Rules.{rules}
+use mathlib.Core.Path.{◌≡◌, refl}
+use mathlib.Core.Logic.{inl}
+use Prim.Native.Nat.{suc, ◌+◌, ◌-◌, ◌*◌}
+use native.Mathlib.Omega.{arith}
+use Rattle.column_laws.proofs.Finite.{finite_part}
+use Rattle.column_laws.proofs.Updates.{below_read, rows_applied}
+use Rattle.laws.proofs.Blocks.{row_end, square_most}
+use Rattle.apply_blocks.proofs.apply_rows.Goals as goal
+
+pub overflow_mul-c : goal.overflow_mul-c
+overflow_mul-c c =
+    let a = c.args in omega (arith, c.requires.block, row_end a.c a.t a.t c.requires.c_lt_t.0, square_most a.t c.requires.block.rows_most)
+
+pub overflow_add-a : goal.overflow_add-a
+overflow_add-a c =
+    let a = c.args in omega (arith, c.requires.block, row_end a.c a.t a.t c.requires.c_lt_t.0, square_most a.t c.requires.block.rows_most)
+
+pub overflow_mul-c-2 : goal.overflow_mul-c-2
+overflow_mul-c-2 c =
+    let a = c.args in omega (arith, c.requires.block, row_end a.c a.t a.t c.requires.c_lt_t.0, square_most a.t c.requires.block.rows_most)
+
+pub overflow_add-a-2 : goal.overflow_add-a-2
+overflow_add-a-2 c =
+    let a = c.args in omega (arith, c.requires.block, row_end a.c a.t a.t c.requires.c_lt_t.0, square_most a.t c.requires.block.rows_most)
+
+pub overflow_mul-c-3 : goal.overflow_mul-c-3
+overflow_mul-c-3 c =
+    let a = c.args in omega (arith, c.requires.block, row_end a.c a.t a.t c.requires.c_lt_t.0, square_most a.t c.requires.block.rows_most)
+
+pub overflow_add-c-4 : goal.overflow_add-c-4
+overflow_add-c-4 c =
+    let a = c.args in omega (arith, c.requires.block, row_end a.c a.t a.t c.requires.c_lt_t.0, square_most a.t c.requires.block.rows_most)
+
+pub overflow_add-f : goal.overflow_add-f
+overflow_add-f c =
+    let a = c.args in omega (arith, c.requires.block, row_end a.c a.t a.t c.requires.c_lt_t.0, square_most a.t c.requires.block.rows_most)
+
+pub update_rows-requires : goal.update_rows-requires
+update_rows-requires c =
+    let a = c.args in
+    let b = c.requires.block in
+    let h = c.requires.c_lt_t in
+    let ends : suc a.c + (a.t - (a.c + 1)) ≡ a.t = omega (arith, h.0) in
+    let split : (suc a.c + (a.t - (a.c + 1))) * a.t ≡ a.t * a.t = rw ends in record { w_le_most_side = omega (arith, b, split); fact = inl (omega arith); w_in_bounds = (omega (arith, b, split, h), inl (omega (arith, split, h))); m_value = finite_part a.a (a.t * a.t) (a.a + (a.c + 1) * a.t) ((a.t - (a.c + 1)) * a.t) a.m.now b.room (omega arith) (omega (arith, split)) h.2 }
+
+pub returns : goal.returns
+returns c =
+    let a = c.args in
+    let b = c.requires.block in
+    let h = c.requires.c_lt_t in
+    let k = a.t - (a.c + 1) in
+    let ends : suc a.c + k ≡ a.t = omega (arith, h.0) in
+    rows_applied a.t a.t a.c k a.a (a.a + (a.c + 1) * a.t) _ a.m.now b.room ends (omega arith) refl _ _
+    (below_read a.t a.c (a.f + ((a.c + 1) * a.t + a.c)) a.f k a.m.now ends (omega arith) (omega (arith, b, h))) _ _ c.update_rows.auto.0 c.update_rows.ensures

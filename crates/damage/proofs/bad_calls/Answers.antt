@@ -1,0 +1,8 @@
+-- The fields' tests are those of the contract. Assumes nothing.
+use mathlib.Core.Path.{refl}
+use borrow.Author.Rules.{rules}
+use Rattle.damage.proofs.bad_calls.Goals as goal
+
+pub returns : goal.returns
+returns c =
+    refl

@@ -1,0 +1,10 @@
+-- `digits_written::put_hex` meets its contract: the digits are written from the lowest on. Assumes nothing.
+use native.Mathlib.Omega.{arith}
+use Rattle.digits_written.proofs.Put.{Hexed, hexed_none, hexed_more, hexed_all, put_length}
+use Rattle.digits_written.proofs.put_hex.Given as goal
+
+abbrev pub invariant-loop-left : goal.invariant-loop-left
+invariant-loop-left l = Hexed l.at l.count l.value l.initial.text l.left l.rest l.text
+
+abbrev pub decreases-loop-left : goal.decreases-loop-left
+decreases-loop-left l = l.left

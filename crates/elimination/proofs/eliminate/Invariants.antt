@@ -1,0 +1,31 @@
+-- `eliminate` meets its contract: what the loop over rows has done is `RowsGone`, that over a row's numbers `RowDone`. Assumes nothing.
+use mathlib.Core.Path.{◌≡◌, refl, ◌∙◌}
+use mathlib.Core.Bool.{true}
+use Prim.Native.Nat.{ℕ, ◌+◌, ◌*◌, ◌-◌, ◌%◌, ◌≤◌}
+use native.Mathlib.Omega.{arith}
+use lib.Ieee.{of_bits}
+use borrow.Author.Tests.{not-true, not-false}
+use Rattle.laws.proofs.Blocks.{row_end}
+use Rattle.model.specs.Num.{quotient, is_zero}
+use Rattle.row_updates.proofs.Done.{done_none}
+use Rattle.row_updates.proofs.Updated.{RowDone, row_unchanged, row_more, row_join, top_clear}
+use Rattle.elimination.proofs.Eliminated.{RowsGone, gone_none, divided_long, divided_finite, row_finite, gone_more, all_gone, gone_stop}
+use Rattle.elimination.proofs.eliminate.Given as goal
+
+abbrev pub invariant-loop-q : goal.invariant-loop-q
+invariant-loop-q l = (l.c + 1 ≤ l.q) × (l.q ≤ l.fours) × (l.ok ≡ true) × RowDone (l.c + 1) (l.start + l.r * l.t) l.top l.by l.q l.initial.m l.m
+
+abbrev pub decreases-loop-q : goal.decreases-loop-q
+decreases-loop-q l = l.fours - l.q
+
+abbrev pub invariant-loop-q-2 : goal.invariant-loop-q-2
+invariant-loop-q-2 l = (l.initial.q ≤ l.q) × (l.q ≤ l.t) × (l.ok ≡ true) × ((l.t - l.q) % 4 ≡ 0) × RowDone l.initial.q (l.start + l.r * l.t) l.top l.by l.q l.initial.m l.m
+
+abbrev pub decreases-loop-q-2 : goal.decreases-loop-q-2
+decreases-loop-q-2 l = l.t - l.q
+
+abbrev pub invariant-rows : goal.invariant-rows
+invariant-rows l = (l.r ≤ l.rows) × (l.ok ≡ true) × RowsGone l.rows l.t l.c l.start l.top l.initial.m l.r l.m
+
+abbrev pub decreases-rows : goal.decreases-rows
+decreases-rows l = l.rows - l.r

@@ -1,0 +1,18 @@
+-- `entries_read::load_entries` meets its contract: after x turns the first x entries are written. Assumes nothing.
+use Prim.Native.Nat.{ℕ, ◌≤◌, ◌-◌, ◌+◌, ◌*◌}
+use mathlib.Core.Path.{◌≡◌, refl, ap, ◌∙◌}
+use mathlib.Core.List.{List}
+use native.Mathlib.Omega.{arith}
+use lib.ListN.{length, set, length-set}
+use Rattle.model.specs.Read.{field, entries_in}
+use Rattle.digits_read.specs.Digits.{FieldOfDigits}
+use Rattle.digits_read.proofs.Fields.{field_lt}
+use Rattle.lines_read.proofs.Tested.{field_in}
+use Rattle.numbers_read.proofs.Filled.{written, written_none, written_next, written_all}
+use Rattle.entries_read.proofs.load_entries.Given as goal
+
+abbrev pub invariant-loop-x : goal.invariant-loop-x
+invariant-loop-x l = (l.x ≤ length l.initial.list) × (length l.list ≡ length l.initial.list) × (l.list ≡ written (entry l.line) l.initial.list l.x)
+
+abbrev pub decreases-loop-x : goal.decreases-loop-x
+decreases-loop-x l = length l.initial.list - l.x

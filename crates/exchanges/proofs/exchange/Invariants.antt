@@ -1,0 +1,13 @@
+-- `exchange` meets its contract: after i turns the first i pairs are exchanged. Assumes nothing.
+use Prim.Native.Nat.{◌≤◌, ◌-◌}
+use mathlib.Core.Path.{◌≡◌}
+use native.Mathlib.Omega.{arith}
+use lib.ListN.{length-set}
+use Rattle.exchanges.proofs.Swapped.{Swapped, swapped_none, swapped_more, swapped_is}
+use Rattle.exchanges.proofs.exchange.Given as goal
+
+abbrev pub invariant-loop-i : goal.invariant-loop-i
+invariant-loop-i l = (l.i ≤ l.n) × Swapped l.a l.b l.i l.initial.m l.m
+
+abbrev pub decreases-loop-i : goal.decreases-loop-i
+decreases-loop-i l = l.n - l.i

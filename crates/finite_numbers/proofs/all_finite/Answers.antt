@@ -1,0 +1,30 @@
+-- The flag is the test of the numbers passed. Assumes nothing.
+use Prim.Native.Nat.{◌≤◌, ◌-◌}
+use mathlib.Core.Path.{◌≡◌, refl, ap, ◌∙◌}
+use native.Mathlib.Numerals.{add-one}
+use native.Mathlib.Omega.{arith}
+use lib.Ieee.{nan}
+use lib.ListN.{length, take}
+use lib.Seq.{take_all}
+use borrow.Author.Rules.{rules}
+use Rattle.model.specs.Lists.{every}
+use Rattle.model.specs.Num.{finite}
+use Rattle.model.specs.Tile.{all_finite}
+use Rattle.laws.proofs.Every.{every_more}
+use Rattle.finite_numbers.proofs.all_finite.Goals as goal
+
+pub loop-k-init : goal.loop-k-init
+unfolding every
+loop-k-init c =
+    (omega arith, refl)
+
+pub loop-k-preserved : goal.loop-k-preserved
+loop-k-preserved c =
+    let k = c.loop-k.k in
+    let numbers = c.args.numbers.now in
+    (omega arith, rw add-one (cc (every_more finite numbers k nan (omega arith))))
+
+pub returns : goal.returns
+unfolding all_finite
+returns c =
+    c.loop-k.invariant.1 ∙ ap (every finite) (take_all c.loop-k.k c.args.numbers.now (omega arith))

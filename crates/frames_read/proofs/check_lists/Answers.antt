@@ -1,0 +1,66 @@
+-- `frames_read::check_lists` meets its contract. The loop's invariant: following what is left from here is following all lists. Assumes nothing.
+use borrow.Author.Rules.{rules}
+use Prim.Native.Nat.{ℕ, suc, ◌+◌, ◌-◌, ◌≤◌}
+use mathlib.Core.Path.{◌≡◌, sym, ap, ◌∙◌}
+use mathlib.Core.List.{List, map}
+use native.Mathlib.Numerals.{add-one}
+use native.Mathlib.Omega.{arith}
+use Rattle.model.specs.Lists.{below, run, joined}
+use Rattle.model.specs.Read.{Frame, list_frames}
+use Rattle.lines_read.proofs.Runs.{up_to}
+use Rattle.cursors.specs.declared.Cursor.{Cursor}
+use Rattle.cursors.specs.declared.Step.{Step}
+use Rattle.cursors.specs.Steps.{CursorFits}
+use Rattle.frames_read.specs.Follow.{follow, row_frames}
+use Rattle.frames_read.proofs.Rows.{follow_placed, rows_none, rows_stop, rows_go_on}
+use Rattle.frames_read.proofs.check_lists.Goals as goal
+
+-- the lists of row i
+
+abbrev lists : ℕ → List Frame
+lists i = row_frames 3 (suc i) i
+
+whole : (t : ℕ) (text : List ℕ) (n : ℕ) (c : Cursor) → follow t text (joined (map lists (up_to 0 n))) c ≡ follow t text (list_frames n) c
+unfolding list_frames below
+whole t text n c = ap (λ (m : ℕ). follow t text (joined (map lists (run 0 m))) c) (omega arith)
+
+row_of : (t : ℕ) (text : List ℕ) (i : ℕ) (c : Cursor) (r : Step) → r ≡ follow t text (row_frames 3 (i + 1) i) c → r ≡ follow t text (lists i) c
+row_of t text i c r e = e ∙ ap (λ (m : ℕ). follow t text (row_frames 3 m i) c) (add-one i)
+
+pub loop-i-init : goal.loop-i-init
+loop-i-init c =
+    (omega arith, c.requires.cursor_fits, whole _ _ _ _)
+
+pub overflow_add-i : goal.overflow_add-i
+overflow_add-i c =
+    omega arith
+
+pub check_row-requires : goal.check_row-requires
+check_row-requires c =
+    record { cursor_fits = c.loop-i.invariant.1; t_le_most_side = c.requires.t_le_most_side }
+
+pub returns-in-Stopped : goal.returns-in-Stopped
+returns-in-Stopped c =
+    let l = c.loop-i in
+    rows_stop _ _ c.args.tiles l.i l.here c.loop-i-test.true lists l.invariant.2 (row_of _ _ _ _ _ c.check_row.ensures) c.n-1.given.1
+
+pub overflow_add-i-in-loop-i : goal.overflow_add-i-in-loop-i
+overflow_add-i-in-loop-i c =
+    omega arith
+
+pub loop-i-smaller : goal.loop-i-smaller
+loop-i-smaller c =
+    omega arith
+
+pub loop-i-preserved : goal.loop-i-preserved
+loop-i-preserved c =
+    let l = c.loop-i in (
+      omega arith,
+      follow_placed _ _ _ _ _ l.invariant.1 (sym c.check_row.ensures ∙ c.next-1.given.1),
+      rows_go_on _ _ c.args.tiles l.i l.here c.loop-i-test.true lists l.invariant.2 (row_of _ _ _ _ _ c.check_row.ensures) c.next-1.given.1,
+    )
+
+pub returns : goal.returns
+returns c =
+    let l = c.loop-i in
+    sym (rows_none _ _ lists l.i c.args.tiles l.here c.loop-i-test.false) ∙ l.invariant.2

@@ -1,0 +1,56 @@
+-- `frames_read::check_row` meets its contract. The loop's invariant: following what is left from here is following the row. Assumes nothing.
+use borrow.Author.Rules.{rules}
+use Prim.Native.Nat.{ℕ, ◌-◌, ◌≤◌}
+use mathlib.Core.Path.{◌≡◌, sym, ap, ◌∙◌}
+use mathlib.Core.List.{List, map}
+use native.Mathlib.Omega.{arith}
+use Rattle.model.specs.Lists.{below, run}
+use Rattle.model.specs.Read.{Frame}
+use Rattle.lines_read.proofs.Runs.{up_to}
+use Rattle.cursors.specs.declared.Cursor.{Cursor}
+use Rattle.cursors.specs.Steps.{CursorFits}
+use Rattle.frames_read.specs.Follow.{follow, row_frames}
+use Rattle.cursors.proofs.Steps.{step_placed}
+use Rattle.frames_read.proofs.Rows.{row_none, row_stops, row_goes_on}
+use Rattle.frames_read.proofs.check_row.Goals as goal
+
+abbrev frame : ℕ → ℕ → ℕ → Frame
+frame kind i j = record { kind = kind; i = i; j = j }
+
+whole : (t : ℕ) (text : List ℕ) (kind i n : ℕ) (c : Cursor) → follow t text (map (frame kind i) (up_to 0 n)) c ≡ follow t text (row_frames kind n i) c
+unfolding below
+whole t text kind i n c = ap (λ (m : ℕ). follow t text (map (frame kind i) (run 0 m)) c) (omega arith)
+
+pub loop-j-init : goal.loop-j-init
+loop-j-init c =
+    (omega arith, c.requires.cursor_fits, whole _ _ _ _ _ _)
+
+pub check_line-requires : goal.check_line-requires
+check_line-requires c =
+    record { cursor_fits = c.loop-j.invariant.1; t_le_most_side = c.requires.t_le_most_side }
+
+pub returns-in-Stopped : goal.returns-in-Stopped
+returns-in-Stopped c =
+    let l = c.loop-j in
+    row_stops _ _ c.args.count l.j l.here c.loop-j-test.true (frame c.args.kind c.args.i) l.invariant.2 c.check_line.ensures c.n-1.given.1
+
+pub overflow_add-j : goal.overflow_add-j
+overflow_add-j c =
+    omega arith
+
+pub loop-j-smaller : goal.loop-j-smaller
+loop-j-smaller c =
+    omega arith
+
+pub loop-j-preserved : goal.loop-j-preserved
+loop-j-preserved c =
+    let l = c.loop-j in (
+      omega arith,
+      step_placed _ _ _ _ _ l.invariant.1 (sym c.check_line.ensures ∙ c.next-1.given.1),
+      row_goes_on _ _ c.args.count l.j l.here c.loop-j-test.true (frame c.args.kind c.args.i) l.invariant.2 c.check_line.ensures c.next-1.given.1,
+    )
+
+pub returns : goal.returns
+returns c =
+    let l = c.loop-j in
+    sym (row_none _ _ (frame c.args.kind c.args.i) l.j c.args.count l.here c.loop-j-test.false) ∙ l.invariant.2

@@ -1,0 +1,21 @@
+-- `frames_read::check_row` meets its contract. The loop's invariant: following what is left from here is following the row. Assumes nothing.
+use borrow.Author.Rules.{rules}
+use Prim.Native.Nat.{ℕ, ◌-◌, ◌≤◌}
+use mathlib.Core.Path.{◌≡◌, sym, ap, ◌∙◌}
+use mathlib.Core.List.{List, map}
+use native.Mathlib.Omega.{arith}
+use Rattle.model.specs.Lists.{below, run}
+use Rattle.model.specs.Read.{Frame}
+use Rattle.lines_read.proofs.Runs.{up_to}
+use Rattle.cursors.specs.declared.Cursor.{Cursor}
+use Rattle.cursors.specs.Steps.{CursorFits}
+use Rattle.frames_read.specs.Follow.{follow, row_frames}
+use Rattle.cursors.proofs.Steps.{step_placed}
+use Rattle.frames_read.proofs.Rows.{row_none, row_stops, row_goes_on}
+use Rattle.frames_read.proofs.check_row.Given as goal
+
+abbrev pub invariant-loop-j : goal.invariant-loop-j
+invariant-loop-j l = (l.j ≤ l.count) × CursorFits l.text l.here × (follow l.t l.text (map (frame l.kind l.i) (up_to l.j l.count)) l.here ≡ follow l.t l.text (row_frames l.kind l.count l.i) l.initial.here)
+
+abbrev pub decreases-loop-j : goal.decreases-loop-j
+decreases-loop-j l = l.count - l.j

@@ -1,0 +1,13 @@
+-- Each variant tells. Assumes nothing.
+use mathlib.Core.Path.{sym, ap}
+use borrow.Author.Rules.{rules}
+use Rattle.host_answers.specs.Answers.{told}
+use Rattle.host_answers.proofs.tell.Goals as goal
+
+pub returns-in-Accepted : goal.returns-in-Accepted
+returns-in-Accepted c =
+    sym (ap told c.enum_told-1.given.1)
+
+pub returns-in-Refused : goal.returns-in-Refused
+returns-in-Refused c =
+    sym (ap told c.answer-1.given.1)

@@ -1,0 +1,19 @@
+-- Each variant tells. Assumes nothing.
+use mathlib.Core.Path.{sym, ap}
+use borrow.Author.Rules.{rules}
+use Rattle.model.specs.declared.Outcome.{Outcome}
+use Rattle.model.specs.declared.OutcomeAnswer.TheVariants.{Known}
+use Rattle.host_answers.specs.Answers.{outcome_told}
+use Rattle.host_answers.proofs.tell_known.Goals as goal
+
+pub returns-in-Good : goal.returns-in-Good
+returns-in-Good c =
+    sym (ap (λ (o : Outcome). outcome_told (Known o)) c.enum_told-1.given.1)
+
+pub returns-in-Overflow : goal.returns-in-Overflow
+returns-in-Overflow c =
+    sym (ap (λ (o : Outcome). outcome_told (Known o)) c.outcome-1.given.1)
+
+pub returns-in-Singular : goal.returns-in-Singular
+returns-in-Singular c =
+    sym (ap (λ (o : Outcome). outcome_told (Known o)) c.outcome-in-Singular-1.given.1)

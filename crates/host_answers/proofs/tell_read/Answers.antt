@@ -1,0 +1,17 @@
+-- Each variant tells. Assumes nothing.
+use mathlib.Core.Path.{sym, ap, ◌∙◌}
+use borrow.Author.Rules.{rules}
+use Rattle.host_answers.specs.Answers.{read_told}
+use Rattle.host_answers.proofs.tell_read.Goals as goal
+
+pub returns-in-SystemRead : goal.returns-in-SystemRead
+returns-in-SystemRead c =
+    sym (ap read_told c.answer-1.given.1)
+
+pub returns-in-ResultRead : goal.returns-in-ResultRead
+returns-in-ResultRead c =
+    c.tell_result.ensures ∙ sym (ap read_told c.answer-in-ResultRead-1.given.1)
+
+pub returns-in-ReadRefused : goal.returns-in-ReadRefused
+returns-in-ReadRefused c =
+    sym (ap read_told c.answer-in-ReadRefused-1.given.1)

@@ -1,0 +1,17 @@
+-- Each variant tells. Assumes nothing.
+use mathlib.Core.Path.{sym, ap}
+use borrow.Author.Rules.{rules}
+use Rattle.host_answers.specs.Answers.{run_told}
+use Rattle.host_answers.proofs.tell_run.Goals as goal
+
+pub returns-in-Finished : goal.returns-in-Finished
+returns-in-Finished c =
+    sym (ap run_told c.answer-1.given.1)
+
+pub returns-in-Spent : goal.returns-in-Spent
+returns-in-Spent c =
+    sym (ap run_told c.answer-in-Spent-1.given.1)
+
+pub returns-in-RunRefused : goal.returns-in-RunRefused
+returns-in-RunRefused c =
+    sym (ap run_told c.answer-in-RunRefused-1.given.1)

@@ -1,0 +1,13 @@
+-- Each variant tells. Assumes nothing.
+use mathlib.Core.Path.{sym, ap}
+use borrow.Author.Rules.{rules}
+use Rattle.host_answers.specs.Answers.{write_told}
+use Rattle.host_answers.proofs.tell_written.Goals as goal
+
+pub returns-in-Written : goal.returns-in-Written
+returns-in-Written c =
+    sym (ap write_told c.answer-1.given.1)
+
+pub returns-in-WriteRefused : goal.returns-in-WriteRefused
+returns-in-WriteRefused c =
+    sym (ap write_told c.answer-in-WriteRefused-1.given.1)

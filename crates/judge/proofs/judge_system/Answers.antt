@@ -1,0 +1,14 @@
+-- `judge::judge_system` meets its contract. Assumes nothing.
+use mathlib.Core.Path.{sym}
+use native.Mathlib.Omega.{arith}
+use lib.Seq.{length-take-le}
+use borrow.Author.Rules.{rules}
+use Rattle.judge.proofs.judge_system.Goals as goal
+
+pub slice_bounds-read_system-end-2 : goal.slice_bounds-read_system-end-2
+slice_bounds-read_system-end-2 c =
+    sym (length-take-le _ _ (omega arith))
+
+pub slice_bounds-mixed_numbers-end-2 : goal.slice_bounds-mixed_numbers-end-2
+slice_bounds-mixed_numbers-end-2 c =
+    sym (length-take-le _ _ (omega arith))

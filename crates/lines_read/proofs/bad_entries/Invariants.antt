@@ -1,0 +1,21 @@
+-- `lines_read::bad_entries` meets its contract. The loop's invariant: what is left to test answers for the whole. Assumes nothing.
+use Prim.Native.Nat.{ℕ, ◌+◌, ◌-◌, ◌*◌, ◌≤◌, ◌<◌}
+use mathlib.Core.Path.{◌≡◌, sym, ap, ◌∙◌}
+use mathlib.Core.Bool.{Bool, false, ◌||◌}
+use mathlib.Core.List.{List, map}
+use native.Mathlib.Omega.{arith}
+use lib.Dec.{ltb}
+use lib.ListN.{length}
+use borrow.Author.Tests.{lt-ltb, le-ltb}
+use Rattle.model.specs.Lists.{run, below, some}
+use Rattle.model.specs.Read.{field, entries_in}
+use Rattle.lines_read.specs.Line.{bad_entries}
+use Rattle.lines_read.proofs.Runs.{up_to, some_next, some_none}
+use Rattle.lines_read.proofs.Tested.{field_in, other_size, right_size}
+use Rattle.lines_read.proofs.bad_entries.Given as goal
+
+abbrev pub invariant-loop-x : goal.invariant-loop-x
+invariant-loop-x l = (l.x ≤ l.t) × (length l.line ≡ 7 + 2 * l.t) × (exceeds l.t l.line l.x ≡ bad_entries l.t l.line)
+
+abbrev pub decreases-loop-x : goal.decreases-loop-x
+decreases-loop-x l = l.t - l.x

@@ -1,0 +1,44 @@
+-- `lines_written::put_outcome` meets its contract. Assumes nothing.
+use native.Mathlib.Omega.{arith}
+use Rattle.model.specs.Text.{outcome_frame}
+use borrow.Author.Rules.{rules}
+use Rattle.lines_written.proofs.put_outcome.Goals as goal
+
+pub put_short-requires : goal.put_short-requires
+put_short-requires c =
+    omega arith
+
+pub put_short-requires-in-Overflow : goal.put_short-requires-in-Overflow
+put_short-requires-in-Overflow c =
+    omega arith
+
+pub put_short-requires-in-Singular : goal.put_short-requires-in-Singular
+put_short-requires-in-Singular c =
+    omega arith
+
+pub shape_of-text-in-Good : goal.shape_of-text-in-Good
+shape_of-text-in-Good c =
+    omega arith
+
+pub returns-in-Good : goal.returns-in-Good
+unfolding outcome_frame
+returns-in-Good c =
+    rw c.enum_told-1.given.1 c.put_short.ensures
+
+pub shape_of-text-in-Overflow : goal.shape_of-text-in-Overflow
+shape_of-text-in-Overflow c =
+    omega arith
+
+pub returns-in-Overflow : goal.returns-in-Overflow
+unfolding outcome_frame
+returns-in-Overflow c =
+    rw c.outcome-1.given.1 c.put_short-in-Overflow.ensures
+
+pub shape_of-text-in-Singular : goal.shape_of-text-in-Singular
+shape_of-text-in-Singular c =
+    omega arith
+
+pub returns-in-Singular : goal.returns-in-Singular
+unfolding outcome_frame
+returns-in-Singular c =
+    rw c.outcome-in-Singular-1.given.1 c.put_short-in-Singular.ensures

@@ -1,0 +1,14 @@
+-- `lists_written::put_lists` meets its contract: after i turns the first i rows are written. Assumes nothing.
+use Prim.Native.Nat.{◌+◌, ◌-◌, ◌*◌}
+use native.Mathlib.Nat.{zero-mul}
+use native.Mathlib.Omega.{arith}
+use Rattle.digits_written.proofs.Put.{put_length}
+use Rattle.rows_written.specs.Rows.{list_row, list_rows, triangle}
+use Rattle.rows_written.proofs.Turns.{Row, row_none, row_room, row_more, row_all, lists_more, lists_fit, length_list_row}
+use Rattle.lists_written.proofs.put_lists.Given as goal
+
+abbrev pub invariant-loop-i : goal.invariant-loop-i
+invariant-loop-i l = Row (list_row l.n l.t l.l) (λ k. triangle k * (7 + l.t * 2)) l.at l.n l.initial.text l.place l.i l.text
+
+abbrev pub decreases-loop-i : goal.decreases-loop-i
+decreases-loop-i l = l.n - l.i

@@ -1,0 +1,18 @@
+-- The next triple of the row, of the next row or of the next stage has the next number. Assumes nothing.
+use native.Mathlib.Omega.{arith}
+use borrow.Author.Rules.{rules}
+use Rattle.numbering.proofs.Laws.{next_column_lem, next_row, next_stage, next_inside}
+use Rattle.numbering.proofs.next.Goals as goal
+
+pub returns-then-a-n : goal.returns-then-a-n
+returns-then-a-n c =
+    record { j_value = next_column_lem _ _ _ _ c.requires.1; fact = λ h. record { row = omega arith; column = omega arith; row_fits = omega arith; column_fits = omega arith } }
+
+pub returns-then-a-n-2 : goal.returns-then-a-n-2
+returns-then-a-n-2 c =
+    record { j_value = next_row _ _ _ _ c.requires.1 (omega arith); fact = λ h. record { row = omega arith; column = omega arith; row_fits = omega arith; column_fits = omega arith } }
+
+pub returns : goal.returns
+returns c =
+    let e = next_stage _ _ _ _ c.requires.1 (omega arith) (omega arith) in
+    record { j_value = e; fact = λ h. next_inside _ _ _ (omega arith) e h }

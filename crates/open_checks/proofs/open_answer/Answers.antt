@@ -1,0 +1,31 @@
+-- The answer is the first refusal that holds. Assumes nothing.
+use mathlib.Core.Path.{sym, ◌∙◌}
+use borrow.Author.Rules.{rules}
+use Rattle.checks.proofs.Laws.{sized}
+use Rattle.open_checks.proofs.Laws.{answer_1, answer_2, answer_3, answer_4}
+use Rattle.open_checks.proofs.open_answer.Goals as goal
+
+pub returns-then-bad_sizes : goal.returns-then-bad_sizes
+returns-then-bad_sizes c =
+    λ slots number. answer_1 _ _ _ _ slots _ number _ c.bad_sizes.ensures c.if-bad_sizes.true
+
+pub bad_lengths-requires : goal.bad_lengths-requires
+bad_lengths-requires c =
+    sized _ (sym c.bad_sizes.ensures ∙ c.if-bad_sizes.false)
+
+pub returns-then-bad_lengths : goal.returns-then-bad_lengths
+returns-then-bad_lengths c =
+    λ slots number. answer_2 _ _ _ _ slots _ number _ c.bad_sizes.ensures c.if-bad_sizes.false
+    _ (c.bad_lengths.ensures slots number) c.if-bad_lengths.true
+
+pub returns-in-At : goal.returns-in-At
+returns-in-At c =
+    λ slots number. answer_3 _ _ _ _ slots _ number _ c.bad_sizes.ensures c.if-bad_sizes.false
+    _ (c.bad_lengths.ensures slots number) c.if-bad_lengths.false
+    _ _ c.first_not_finite-found.ensures c.found-1.given.1
+
+pub returns-in-None : goal.returns-in-None
+returns-in-None c =
+    λ slots number. answer_4 _ _ _ _ slots _ number _ c.bad_sizes.ensures c.if-bad_sizes.false
+    _ (c.bad_lengths.ensures slots number) c.if-bad_lengths.false
+    _ c.first_not_finite-found.ensures c.enum_told-1.given.1

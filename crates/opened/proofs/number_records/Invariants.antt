@@ -1,0 +1,18 @@
+-- After p turns the first p records are the numbering's, and the triple in hand is task p's. Assumes nothing.
+use Prim.Native.Nat.{ℕ, ◌+◌, ◌-◌, ◌≤◌, ◌<◌}
+use mathlib.Core.Path.{◌≡◌, refl, ap, ◌∙◌}
+use native.Mathlib.Omega.{arith}
+use borrow.Author.Rules.{rules}
+use lib.ListN.{length}
+use Rattle.records.specs.Records.{records_from}
+use Rattle.records.proofs.Laws.{length_records}
+use Rattle.links.specs.Closed.{key, In, number}
+use Rattle.opened.proofs.Laws.{Numbered, number_first, in_first, numbered_step, numbered_all}
+use Rattle.opened.proofs.number_records.Given as goal
+
+abbrev pub invariant-loop-p : goal.invariant-loop-p
+invariant-loop-p l = (l.p ≤ l.count) × (length l.records ≡ length l.initial.records) × (number l.n (key l.a.k l.a.i l.a.j) ≡ l.p) × (l.p < l.count → In l.n (key l.a.k l.a.i l.a.j))
+    × Numbered l.n (records_from l.records) l.p
+
+abbrev pub decreases-loop-p : goal.decreases-loop-p
+decreases-loop-p l = l.count - l.p

@@ -1,0 +1,36 @@
+-- The first refusal that holds, else what was found. Assumes nothing.
+use mathlib.Core.Path.{sym, ◌∙◌}
+use borrow.Author.Rules.{rules}
+use Rattle.checks.proofs.Laws.{sized}
+use Rattle.outcomes.proofs.Laws.{answer_1, answer_2, answer_3, answer_4, fits}
+use Rattle.outcomes.proofs.outcome.Goals as goal
+
+pub returns-then-bad_sizes : goal.returns-then-bad_sizes
+returns-then-bad_sizes c =
+    answer_1 _ _ _ _ _ _ _ _ c.bad_sizes.ensures c.if-bad_sizes.true
+
+pub bad_lengths-requires : goal.bad_lengths-requires
+bad_lengths-requires c =
+    sized _ (sym c.bad_sizes.ensures ∙ c.if-bad_sizes.false)
+
+pub returns-then-bad_lengths : goal.returns-then-bad_lengths
+returns-then-bad_lengths c =
+    answer_2 _ _ _ _ _ _ _ _ c.bad_sizes.ensures c.if-bad_sizes.false _ (c.bad_lengths.ensures c.args.workers.slots c.args.workers.number) c.if-bad_lengths.true
+
+pub outcome_of-requires : goal.outcome_of-requires
+outcome_of-requires c =
+    let f = fits _ _ _ _ c.args.workers.slots c.args.workers.count c.args.workers.number _ c.bad_sizes.ensures c.if-bad_sizes.false
+    _ (c.bad_lengths.ensures c.args.workers.slots c.args.workers.number) c.if-bad_lengths.false in
+    (sized _ (sym c.bad_sizes.ensures ∙ c.if-bad_sizes.false), f.buffers.matrix_fits, f.records_fit)
+
+pub returns-in-At : goal.returns-in-At
+returns-in-At c =
+    answer_3 _ _ _ _ _ _ _ _ c.bad_sizes.ensures c.if-bad_sizes.false
+    _ (c.bad_lengths.ensures c.args.workers.slots c.args.workers.number) c.if-bad_lengths.false
+    _ c.first_unfinished-task.ensures _ c.task-1.given.1
+
+pub returns-in-None : goal.returns-in-None
+returns-in-None c =
+    answer_4 _ _ _ _ _ _ _ _ c.bad_sizes.ensures c.if-bad_sizes.false
+    _ (c.bad_lengths.ensures c.args.workers.slots c.args.workers.number) c.if-bad_lengths.false
+    _ c.first_unfinished-task.ensures _ c.enum_told-1.given.1 (c.outcome_of.ensures _)

@@ -1,0 +1,18 @@
+-- `printing::print_result` meets its contract. Assumes nothing.
+use borrow.Author.Rules.{rules}
+use mathlib.Core.Path.{sym, ◌∙◌}
+use Rattle.printing.proofs.Refused.{no_result, refusal_printed, refusal_short}
+use Rattle.printing.proofs.print_result.Goals as goal
+
+pub print_system-requires : goal.print_system-requires
+print_system-requires c =
+    sym c.tiles-1.given.1 ∙ c.check_system.ensures
+
+pub returns-in-ReadRefused : goal.returns-in-ReadRefused
+returns-in-ReadRefused c =
+    let e = sym c.n-1.given.1 ∙ c.check_system.ensures in
+    record { out_after = c.write_refusal.ensures ∙ refusal_printed _ _ _ _ e; text_len_bound = refusal_short _ _ _ e }
+
+pub returns-in-ResultRead : goal.returns-in-ResultRead
+returns-in-ResultRead c =
+    absurd (no_result _ _ _ _ (sym c.tiles-in-ResultRead-1.given.1 ∙ c.check_system.ensures))

@@ -1,0 +1,32 @@
+-- T-2(k), then T-4(k,i) for i rising. Assumes nothing.
+use borrow.Author.Rules.{rules}
+use mathlib.Core.Path.{◌≡◌, sym, ap, ◌∙◌}
+use Prim.Native.Nat.{ℕ}
+use native.Mathlib.Omega.{arith}
+use Rattle.model.specs.Lists.{in_turn}
+use Rattle.model.specs.Task.{after}
+use Rattle.model.specs.Plan.{plan}
+use Rattle.progress.specs.Right.{passed_of, pair_all, stage_passed}
+use Rattle.progress.proofs.Turns.{turns_stop, pairs_keep, went, halted}
+use Rattle.right_sides.proofs.stage.Goals as goal
+
+pub returns-in-Stopped : goal.returns-in-Stopped
+unfolding passed_of stage_passed plan
+returns-in-Stopped c =
+    let e = halted _ _ _ c.apply-p.ensures.is _ c.p-1.given.1 in
+    record {
+      is = sym (turns_stop (pair_all _ _ _) (pairs_keep _ _ _) (after _ _) _) ∙ ap (in_turn (pair_all _ _ _) (after _ _)) e;
+      finite_then = λ q. let x : ◌≡◌ {A = ℕ} 0 1 = cc in absurd (omega arith);
+    }
+
+pub pair_below-requires : goal.pair_below-requires
+pair_below-requires c =
+    let p = (c.requires.solvable, (c.requires.right_side, c.requires.k_lt_tiles)) in
+    record { solvable = p.0; right_side = record { long = c.apply-p.auto.1.1.1.0 ∙ p.1.0.long; all_finite_lem = c.apply-p.ensures.finite_then c.enum_told-1.given.1 }; k_lt_tiles = p.1.1 }
+
+pub returns : goal.returns
+unfolding stage_passed plan
+returns c =
+    let e = went _ _ _ c.apply-p.ensures.is c.enum_told-1.given.1 in
+    let r = c.pair_below.ensures in
+    record { is = r.is ∙ ap (in_turn (pair_all _ _ _) (after _ _)) e; finite_then = r.finite_then }

@@ -1,0 +1,25 @@
+-- `update_column` meets its contract: what its loops have done is `ColumnDone`. Assumes nothing.
+use mathlib.Core.Path.{◌≡◌, ◌∙◌}
+use mathlib.Core.Logic.{⊎_elim}
+use Prim.Native.Nat.{◌+◌, ◌-◌, ◌%◌, ◌≤◌}
+use native.Mathlib.Nat.{add-mul}
+use native.Mathlib.Omega.{arith}
+use lib.ListN.{get_or}
+use lib.Ieee.{nan}
+use borrow.Author.Tests.{not-true, not-false}
+use Rattle.laws.proofs.Blocks.{row_end}
+use Rattle.row_updates.proofs.Done.{done_none}
+use Rattle.row_updates.proofs.Column.{ColumnDone, column_more, column_join, column_all, column_stop, place_one, place_more}
+use Rattle.row_updates.proofs.update_column.Given as goal
+
+abbrev pub invariant-loop-r : goal.invariant-loop-r
+invariant-loop-r l = (l.r ≤ l.ones) × (l.ones ≤ l.rows) × ((l.rows - l.ones) % 4 ≡ 0) × ColumnDone 0 l.start l.first l.stride l.upper l.l l.r l.initial.y l.y
+
+abbrev pub decreases-loop-r : goal.decreases-loop-r
+decreases-loop-r l = l.ones - l.r
+
+abbrev pub invariant-loop-r-2 : goal.invariant-loop-r-2
+invariant-loop-r-2 l = (l.initial.r ≤ l.r) × (l.r ≤ l.rows) × ((l.rows - l.r) % 4 ≡ 0) × ColumnDone l.initial.r l.start l.first l.stride l.upper l.l l.r l.initial.y l.y
+
+abbrev pub decreases-loop-r-2 : goal.decreases-loop-r-2
+decreases-loop-r-2 l = l.rows - l.r

@@ -1,0 +1,31 @@
+-- `update_rows` meets its contract: what the loop over rows has done is `RowsDone`, that over a row's numbers `RowDone`. Assumes nothing.
+use mathlib.Core.Path.{◌≡◌, refl, ◌∙◌}
+use mathlib.Core.Bool.{true}
+use Prim.Native.Nat.{◌+◌, ◌*◌, ◌-◌, ◌%◌, ◌≤◌}
+use native.Mathlib.Omega.{arith}
+use lib.ListN.{get_or}
+use lib.Ieee.{nan, of_bits}
+use borrow.Author.Tests.{not-true, not-false}
+use Rattle.laws.proofs.Blocks.{row_end}
+use Rattle.model.specs.Num.{is_zero}
+use Rattle.row_updates.proofs.Done.{done_none}
+use Rattle.row_updates.proofs.Updated.{RowDone, RowsDone, row_more, row_join, rows_none, rows_more, row_zero, rows_all, rows_stop, top_kept, top_clear, multiplier_same}
+use Rattle.row_updates.proofs.update_rows.Given as goal
+
+abbrev pub invariant-loop-q : goal.invariant-loop-q
+invariant-loop-q l = (l.f ≤ l.q) × (l.q ≤ l.fours) × (l.ok ≡ true) × RowDone l.f (l.start + l.r * l.w) l.top l.by l.q l.initial.m l.m
+
+abbrev pub decreases-loop-q : goal.decreases-loop-q
+decreases-loop-q l = l.fours - l.q
+
+abbrev pub invariant-loop-q-2 : goal.invariant-loop-q-2
+invariant-loop-q-2 l = (l.initial.q ≤ l.q) × (l.q ≤ l.w) × (l.ok ≡ true) × ((l.w - l.q) % 4 ≡ 0) × RowDone l.initial.q (l.start + l.r * l.w) l.top l.by l.q l.initial.m l.m
+
+abbrev pub decreases-loop-q-2 : goal.decreases-loop-q-2
+decreases-loop-q-2 l = l.w - l.q
+
+abbrev pub invariant-rows : goal.invariant-rows
+invariant-rows l = (l.r ≤ l.rows) × (l.ok ≡ true) × RowsDone l.w l.f l.start l.top (λ i. get_or l.initial.m (l.first + i * l.w) nan) l.r l.initial.m l.m
+
+abbrev pub decreases-rows : goal.decreases-rows
+decreases-rows l = l.rows - l.r

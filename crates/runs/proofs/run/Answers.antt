@@ -1,0 +1,18 @@
+-- A refusal leaves everything; else the turns are the whole run. Assumes nothing.
+use mathlib.Core.Path.{refl, sym, ◌∙◌}
+use borrow.Author.Rules.{rules}
+use Rattle.runs.proofs.Replies.{refused, accepted}
+use Rattle.runs.proofs.run.Goals as goal
+
+pub returns-in-Refused : goal.returns-in-Refused
+returns-in-Refused c =
+    record { workers_after = refused _ _ _ _ c.run_answer-answer.ensures _ _ c.answer-1.given.1; others_kept = record { same_count = refl; same_slots = refl } }
+
+pub take_turns-requires : goal.take_turns-requires
+take_turns-requires c =
+    sym c.run_answer-answer.ensures ∙ c.enum_told-1.given.1
+
+pub returns : goal.returns
+returns c =
+    let t = c.take_turns in record { workers_after = t.ensures.0 ∙ accepted _ _ _ _ c.run_answer-answer.ensures
+          c.enum_told-1.given.1; others_kept = t.ensures.1 }

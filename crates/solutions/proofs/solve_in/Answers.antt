@@ -1,0 +1,39 @@
+-- Forward, then backward; each may stop. Assumes nothing.
+use mathlib.Core.Path.{sym, ◌∙◌}
+use borrow.Author.Rules.{rules}
+use Rattle.solutions.proofs.Laws.{stops_forward, stops_back, all_answered, answered_as}
+use Rattle.solutions.proofs.solve_in.Goals as goal
+
+pub copy-requires : goal.copy-requires
+copy-requires c =
+    c.requires.matrix_value.2 ∙ sym c.requires.right_side.long
+
+pub pass-forward-requires : goal.pass-forward-requires
+pass-forward-requires c =
+    record { solvable = c.requires.solvable; right_side = rw c.copy.ensures c.requires.right_side }
+
+pub returns-in-Stopped : goal.returns-in-Stopped
+returns-in-Stopped c =
+    stops_forward c.args.z _ _ _ _ _ (rw c.copy.ensures at c.pass-forward.ensures.passing.is) _ c.forward-1.given.1
+
+pub back_rows-back-requires : goal.back_rows-back-requires
+back_rows-back-requires c =
+    let s = c.requires.solvable in
+    record {
+      tiles_most = s.tiles_most;
+      side_most = s.side_most;
+      matrix_fits = s.lengths.matrix_fits;
+      all_finite_lem = c.requires.matrix_value.0;
+      long = c.pass-forward.auto.1.1.1.0 ∙ c.copy.auto.1.0 ∙ c.requires.matrix_value.2;
+    }
+
+pub returns-in-Stopped-back : goal.returns-in-Stopped-back
+returns-in-Stopped-back c =
+    stops_back c.args.z _ _ _ _ _ (rw c.copy.ensures at c.pass-forward.ensures.passing.is) c.enum_told-1.given.1
+    _ _ (c.back_rows-back.ensures.by_index c.args.lists.now) _ c.back-1.given.1
+
+pub returns : goal.returns
+returns c =
+    answered_as _ _ _ c.copy-2.ensures
+    (all_answered c.args.z _ _ _ _ _ (rw c.copy.ensures at c.pass-forward.ensures.passing.is) c.enum_told-1.given.1
+    _ _ (c.back_rows-back.ensures.by_index c.args.lists.now) c.enum_told-in_default-back-1.given.1)

@@ -1,0 +1,28 @@
+-- The first refusal that holds, in the table's order. Assumes nothing.
+use borrow.Author.Rules.{rules}
+use Rattle.solve_checks.proofs.Laws.{rest_8, rest_9, rest_10, rest_good}
+use Rattle.solve_checks.proofs.rest_answer.Goals as goal
+
+pub returns-in-At : goal.returns-in-At
+returns-in-At c =
+    λ lists slots count number.
+    let a = c.args in
+    rest_8 a.z a.matrix.now lists a.records.now slots count number a.right.now c.requires.2 _ c.first_unfinished-task.ensures _ c.task-1.given.1
+
+pub returns-in-Overflow : goal.returns-in-Overflow
+returns-in-Overflow c =
+    λ lists slots count number.
+    let a = c.args in
+    rest_9 a.z a.matrix.now lists a.records.now slots count number a.right.now c.requires.2 _ c.first_unfinished-task.ensures c.enum_told-1.given.1 _ (c.outcome_of-end.ensures lists) _ c.end-1.given.1
+
+pub returns-in-Singular : goal.returns-in-Singular
+returns-in-Singular c =
+    λ lists slots count number.
+    let a = c.args in
+    rest_10 a.z a.matrix.now lists a.records.now slots count number a.right.now c.requires.2 _ c.first_unfinished-task.ensures c.enum_told-1.given.1 _ (c.outcome_of-end.ensures lists) _ c.end-in-Singular-1.given.1
+
+pub returns-in-Good : goal.returns-in-Good
+returns-in-Good c =
+    λ lists slots count number.
+    let a = c.args in
+    rest_good a.z a.matrix.now lists a.records.now slots count number a.right.now c.requires.2 _ c.first_unfinished-task.ensures c.enum_told-1.given.1 _ (c.outcome_of-end.ensures lists) c.enum_told-in-Good-1.given.1 _ c.right_answer.ensures

@@ -1,0 +1,12 @@
+-- Whether a number isn't finite, and where. Assumes nothing.
+use borrow.Author.Rules.{rules}
+use Rattle.solve_checks.proofs.Laws.{right_3, right_0}
+use Rattle.solve_checks.proofs.right_answer.Goals as goal
+
+pub returns-in-At : goal.returns-in-At
+returns-in-At c =
+    right_3 _ _ c.first_not_finite-offset.ensures _ c.offset-1.given.1
+
+pub returns-in-None : goal.returns-in-None
+returns-in-None c =
+    right_0 _ _ c.first_not_finite-offset.ensures c.enum_told-1.given.1

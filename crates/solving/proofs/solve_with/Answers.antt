@@ -1,0 +1,21 @@
+-- The order fits the work slice. Assumes nothing.
+use mathlib.Core.Path.{sym}
+use borrow.Author.Rules.{rules}
+use Prim.Native.Nat.{◌*◌, ◌≤◌}
+use native.Mathlib.Nat.{mul-le-mul}
+use native.Mathlib.Omega.{arith}
+use lib.Seq.{length-take-le}
+use Rattle.solving.proofs.solve_with.Goals as goal
+
+pub slice_bounds-solve_in-end : goal.slice_bounds-solve_in-end
+slice_bounds-solve_in-end c =
+    let few : c.args.z.tiles * c.args.z.side ≤ 256 = mul-le-mul c.requires.solvable.tiles_most c.requires.solvable.side_most in omega (arith, few, c.requires.matrix_value.2)
+
+pub slice_bounds-solve_in-end-2 : goal.slice_bounds-solve_in-end-2
+slice_bounds-solve_in-end-2 c =
+    let few : c.args.z.tiles * c.args.z.side ≤ 256 = mul-le-mul c.requires.solvable.tiles_most c.requires.solvable.side_most in sym (length-take-le _ _ (omega (arith, few, c.requires.matrix_value.2)))
+
+pub solve_in-requires : goal.solve_in-requires
+solve_in-requires c =
+    let few : c.args.z.tiles * c.args.z.side ≤ 256 = mul-le-mul c.requires.solvable.tiles_most c.requires.solvable.side_most in let p = (c.requires.solvable, (c.requires.right_side, c.requires.matrix_value)) in
+    record { solvable = p.0; right_side = p.1.0; matrix_value = (p.1.1.0, p.1.1.1, length-take-le _ _ (omega (arith, few, p.1.1.2))) }

@@ -1,0 +1,13 @@
+-- The whole run is what is done from the first turn on. Assumes nothing.
+use borrow.Author.Rules.{rules}
+use Rattle.turns.proofs.Starts.{starts, whole}
+use Rattle.turns.proofs.take_turns.Goals as goal
+
+pub turns_from-requires : goal.turns_from-requires
+turns_from-requires c =
+    starts _ _ _ _ _ c.args.workers c.requires
+
+pub returns : goal.returns
+returns c =
+    let t = (c.turns_from.ensures.workers_after, c.turns_from.ensures.others_kept) in
+    record { workers_after = whole _ _ _ _ t.0; others_kept = t.1 }

@@ -1,0 +1,14 @@
+-- The search tells whether every task is finished. Assumes nothing.
+use mathlib.Core.Bool.{not}
+use mathlib.Core.Path.{sym, ap, ◌∙◌}
+use borrow.Author.Rules.{rules}
+use Rattle.unfinished.proofs.Finished.{is_found, none_found}
+use Rattle.unfinished.proofs.all_finished.Goals as goal
+
+pub returns-in-None : goal.returns-in-None
+returns-in-None c =
+    ap (λ x. not (is_found x)) (sym c.enum_told-1.given.1) ∙ none_found _ _ c.first_unfinished-task.ensures
+
+pub returns-in-At : goal.returns-in-At
+returns-in-At c =
+    ap (λ x. not (is_found x)) (sym c.enum_told-in-At-1.given.1) ∙ none_found _ _ c.first_unfinished-task.ensures
