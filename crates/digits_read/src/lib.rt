@@ -17,7 +17,7 @@ pub fn is_digit(b: u8) -> bool
 }
 
 // The low four bits of '0' to '9' are the value, those of 'A' to 'F' are 9 less.
-pub fn digit_value_lem(b: u8) -> usize
+pub fn digit_value(b: u8) -> usize
     requires { is_digit b ≡ true }
     ensures { result ≡ digit_value b }
 {
@@ -45,7 +45,7 @@ pub fn field_at(line: &[u8], p: usize, n: usize) -> usize
     let mut v = 0;
     let mut k = 0;
     while k < n {
-        v = v * 16 + digit_value_lem(line[p + k]);
+        v = v * 16 + digit_value(line[p + k]);
         k += 1;
     }
     v

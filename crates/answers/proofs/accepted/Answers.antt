@@ -7,9 +7,9 @@ use Rattle.answers.proofs.accepted.Goals as goal
 pub returns-in-Accepted : goal.returns-in-Accepted
 unfolding accepts
 returns-in-Accepted c =
-    sym (ap accepts c.enum_told-1.given.1)
+    sym (ap accepts c.in-Accepted.is)
 
 pub returns-in-Refused : goal.returns-in-Refused
 unfolding accepts
 returns-in-Refused c =
-    sym (ap accepts c.enum_told-in-Refused-1.given.1)
+    sym (ap accepts c.in-Refused.is)

@@ -33,7 +33,7 @@ returns-in-Stopped c =
     let k = c.loop-i.i in
     let i = c.loop-i.invariant in
     let t = (c.back_tile-p.ensures.by_index, (c.back_tile-p.ensures.result_bound, c.back_tile-p.ensures.by_index_2)) in
-    let stops = c.p-1.given.1 in
+    let stops = c.in-Stopped.is in
     let one : suc (k - 1) ≡ k = omega (arith, c.loop-i-test.true) in
     let e : (k - 1) * a.z.side + a.z.side ≡ k * a.z.side = omega (arith, ap (λ (k : ℕ). k * a.z.side) one) in record { by_index = λ lists. tile_stops _ _ _ _ _ _ (rw e at (t.0 lists)) _ stops ∙ i.2 lists; by_index_2 = λ lists. tile_between _ _ _ _ _ _ _ _ (rw (stops, e, lowest_done) at t.1.0) (mul-le-mul i.0 (omega arith)) (i.3 lists) (rw (stops, e, lowest_done) at (t.1.1 lists)) }
 

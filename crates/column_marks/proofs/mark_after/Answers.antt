@@ -6,16 +6,16 @@ use Rattle.column_marks.proofs.mark_after.Goals as goal
 
 pub returns-in-GoesOn : goal.returns-in-GoesOn
 returns-in-GoesOn c =
-    sym (ap mark_after c.enum_told-1.given.1)
+    sym (ap mark_after c.in-GoesOn.is)
 
 pub returns-in-Done : goal.returns-in-Done
 returns-in-Done c =
-    sym (ap mark_after c.enum_told-in-Done-1.given.1)
+    sym (ap mark_after c.in-Done.is)
 
 pub returns-in-Failed : goal.returns-in-Failed
 returns-in-Failed c =
-    sym (ap mark_after c.enum_told-in-Failed-1.given.1)
+    sym (ap mark_after c.in-Failed.is)
 
 pub returns-in-Spoiled : goal.returns-in-Spoiled
 returns-in-Spoiled c =
-    sym (ap mark_after c.enum_told-in-Spoiled-1.given.1)
+    sym (ap mark_after c.in-Spoiled.is)

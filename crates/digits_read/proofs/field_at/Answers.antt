@@ -19,7 +19,7 @@ overflow_mul-v c =
 pub overflow_add-v : goal.overflow_add-v
 overflow_add-v c =
     let room : c.loop-k.v < 2 ^ 60 = rw c.loop-k.invariant.1 (field_room _ _ _ _ c.requires c.loop-k-test.true) in let d = c.requires.digits _ c.loop-k-test.true in
-    omega (arith, room, value_lt _ d, c.digit_value_lem.ensures)
+    omega (arith, room, value_lt _ d, c.digit_value.ensures)
 
 pub overflow_add-k : goal.overflow_add-k
 overflow_add-k c =

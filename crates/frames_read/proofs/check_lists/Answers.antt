@@ -42,7 +42,7 @@ check_row-requires c =
 pub returns-in-Stopped : goal.returns-in-Stopped
 returns-in-Stopped c =
     let l = c.loop-i in
-    rows_stop _ _ c.args.tiles l.i l.here c.loop-i-test.true lists l.invariant.2 (row_of _ _ _ _ _ c.check_row.ensures) c.n-1.given.1
+    rows_stop _ _ c.args.tiles l.i l.here c.loop-i-test.true lists l.invariant.2 (row_of _ _ _ _ _ c.check_row.ensures) c.in-Stopped.is
 
 pub overflow_add-i-in-loop-i : goal.overflow_add-i-in-loop-i
 overflow_add-i-in-loop-i c =

@@ -32,7 +32,7 @@ check_line-requires c =
 pub returns-in-Stopped : goal.returns-in-Stopped
 returns-in-Stopped c =
     let l = c.loop-j in
-    row_stops _ _ c.args.count l.j l.here c.loop-j-test.true (frame c.args.kind c.args.i) l.invariant.2 c.check_line.ensures c.n-1.given.1
+    row_stops _ _ c.args.count l.j l.here c.loop-j-test.true (frame c.args.kind c.args.i) l.invariant.2 c.check_line.ensures c.in-Stopped.is
 
 pub overflow_add-j : goal.overflow_add-j
 overflow_add-j c =

@@ -29,7 +29,7 @@ pub returns-in-Stopped : goal.returns-in-Stopped
 returns-in-Stopped c =
     let l = c.loop-i in
     let n = c.args.tiles in
-    rows_stop _ _ n l.i l.here c.loop-i-test.true (row_frames 2 n) l.invariant.2 c.check_row.ensures c.n-1.given.1
+    rows_stop _ _ n l.i l.here c.loop-i-test.true (row_frames 2 n) l.invariant.2 c.check_row.ensures c.in-Stopped.is
 
 pub overflow_add-i : goal.overflow_add-i
 overflow_add-i c =

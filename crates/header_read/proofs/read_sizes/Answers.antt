@@ -6,8 +6,8 @@ use Rattle.header_read.proofs.read_sizes.Goals as goal
 
 pub returns-in-Shape : goal.returns-in-Shape
 returns-in-Shape c =
-    let e = sym c.tiles-1.given.1 ∙ c.check_header.ensures in record { value = sizes_alone _ _ e; foretells = foretold _ _ e }
+    let e = sym c.in-Shape.is ∙ c.check_header.ensures in record { value = sizes_alone _ _ e; foretells = foretold _ _ e }
 
 pub returns-in-Unread : goal.returns-in-Unread
 returns-in-Unread c =
-    let e = sym c.n-1.given.1 ∙ c.check_header.ensures in record { value = sizes_alone _ _ e; foretells = foretold _ _ e }
+    let e = sym c.in-Unread.is ∙ c.check_header.ensures in record { value = sizes_alone _ _ e; foretells = foretold _ _ e }

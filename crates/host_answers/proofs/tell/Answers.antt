@@ -6,8 +6,8 @@ use Rattle.host_answers.proofs.tell.Goals as goal
 
 pub returns-in-Accepted : goal.returns-in-Accepted
 returns-in-Accepted c =
-    sym (ap told c.enum_told-1.given.1)
+    sym (ap told c.in-Accepted.is)
 
 pub returns-in-Refused : goal.returns-in-Refused
 returns-in-Refused c =
-    sym (ap told c.answer-1.given.1)
+    sym (ap told c.in-Refused.is)

@@ -6,12 +6,12 @@ use Rattle.host_answers.proofs.tell_read.Goals as goal
 
 pub returns-in-SystemRead : goal.returns-in-SystemRead
 returns-in-SystemRead c =
-    sym (ap read_told c.answer-1.given.1)
+    sym (ap read_told c.in-SystemRead.is)
 
 pub returns-in-ResultRead : goal.returns-in-ResultRead
 returns-in-ResultRead c =
-    c.tell_result.ensures ∙ sym (ap read_told c.answer-in-ResultRead-1.given.1)
+    c.tell_result.ensures ∙ sym (ap read_told c.in-ResultRead.is)
 
 pub returns-in-ReadRefused : goal.returns-in-ReadRefused
 returns-in-ReadRefused c =
-    sym (ap read_told c.answer-in-ReadRefused-1.given.1)
+    sym (ap read_told c.in-ReadRefused.is)

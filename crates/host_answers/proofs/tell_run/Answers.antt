@@ -6,12 +6,12 @@ use Rattle.host_answers.proofs.tell_run.Goals as goal
 
 pub returns-in-Finished : goal.returns-in-Finished
 returns-in-Finished c =
-    sym (ap run_told c.answer-1.given.1)
+    sym (ap run_told c.in-Finished.is)
 
 pub returns-in-Spent : goal.returns-in-Spent
 returns-in-Spent c =
-    sym (ap run_told c.answer-in-Spent-1.given.1)
+    sym (ap run_told c.in-Spent.is)
 
 pub returns-in-RunRefused : goal.returns-in-RunRefused
 returns-in-RunRefused c =
-    sym (ap run_told c.answer-in-RunRefused-1.given.1)
+    sym (ap run_told c.in-RunRefused.is)

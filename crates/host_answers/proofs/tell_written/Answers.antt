@@ -6,8 +6,8 @@ use Rattle.host_answers.proofs.tell_written.Goals as goal
 
 pub returns-in-Written : goal.returns-in-Written
 returns-in-Written c =
-    sym (ap write_told c.answer-1.given.1)
+    sym (ap write_told c.in-Written.is)
 
 pub returns-in-WriteRefused : goal.returns-in-WriteRefused
 returns-in-WriteRefused c =
-    sym (ap write_told c.answer-in-WriteRefused-1.given.1)
+    sym (ap write_told c.in-WriteRefused.is)

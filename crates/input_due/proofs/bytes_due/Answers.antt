@@ -34,13 +34,13 @@ overflow_add-result-in-Shape c =
 pub returns-in-Shape : goal.returns-in-Shape
 unfolding bytes_due
 returns-in-Shape c =
-    let h = shape_read _ _ _ _ _ c.check_header.ensures c.tiles-1.given.1 in
-    let e = sym c.check_header.ensures ∙ c.tiles-1.given.1 in
+    let h = shape_read _ _ _ _ _ c.check_header.ensures c.in-Shape.is in
+    let e = sym c.check_header.ensures ∙ c.in-Shape.is in
     record { value = sym (ap due_behind e); by_index = (λ text same. due_decides _ _ text _ same h); lower_bound = (omega arith, (limits h).most) }
 
 pub returns-in-Unread : goal.returns-in-Unread
 unfolding bytes_due
 returns-in-Unread c =
-    let e = sym c.check_header.ensures ∙ c.enum_told-1.given.1 in
-    let r = refusal_read _ _ _ _ _ c.check_header.ensures c.enum_told-1.given.1 in
+    let e = sym c.check_header.ensures ∙ c.in-Unread.is in
+    let r = refusal_read _ _ _ _ _ c.check_header.ensures c.in-Unread.is in
     record { value = sym (ap due_behind e); by_index = (λ text same. seven_decide text _ _ _ same r); lower_bound = (omega arith, omega arith) }

@@ -19,4 +19,4 @@ overflow_mul-result-in-Shape c =
 
 pub returns-in-Shape : goal.returns-in-Shape
 returns-in-Shape c =
-    let f = facts (shape_read _ _ _ _ _ c.check_header.ensures c.tiles-1.given.1) in let n = mul-le-mul f.tiles.1 f.side.1 in (mul-le-mul n n, mul-le-mul f.tiles.1 n)
+    let f = facts (shape_read _ _ _ _ _ c.check_header.ensures c.in-Shape.is) in let n = mul-le-mul f.tiles.1 f.side.1 in (mul-le-mul n n, mul-le-mul f.tiles.1 n)

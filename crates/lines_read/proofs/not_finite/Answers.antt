@@ -61,7 +61,7 @@ returns-then-not-finite_at c =
     let l = c.args.line.now in
     let t = c.args.t in
     let x = c.loop-x.x in
-    let e = sym c.finite_at.ensures ∙ not-true _ c.if-not-finite_at.true in
+    let e = sym c.finite_at.ensures ∙ c.if-not-finite_at.true in
     tile_finite t _ l false c.if-due-ne2.false (sym (ap (λ (b : Bool). b && finite_from t l (x + 1)) e) ∙ sym (next t l x c.loop-x-test.true) ∙ c.loop-x.invariant.1)
 
 pub overflow_add-x-in-loop-x : goal.overflow_add-x-in-loop-x
@@ -77,7 +77,7 @@ loop-x-preserved c =
     let l = c.args.line.now in
     let t = c.args.t in
     let x = c.loop-x.x in
-    let e = sym c.finite_at.ensures ∙ not-false _ c.if-not-finite_at.false in
+    let e = sym c.finite_at.ensures ∙ c.if-not-finite_at.false in
     (omega arith, sym (ap (λ (b : Bool). b && finite_from t l (x + 1)) e) ∙ sym (next t l x c.loop-x-test.true) ∙ c.loop-x.invariant.1)
 
 pub returns : goal.returns

@@ -23,7 +23,7 @@ shape_of-text-in-Good c =
 pub returns-in-Good : goal.returns-in-Good
 unfolding outcome_frame
 returns-in-Good c =
-    rw c.enum_told-1.given.1 c.put_short.ensures
+    rw c.in-Good.is c.put_short.ensures
 
 pub shape_of-text-in-Overflow : goal.shape_of-text-in-Overflow
 shape_of-text-in-Overflow c =
@@ -32,7 +32,7 @@ shape_of-text-in-Overflow c =
 pub returns-in-Overflow : goal.returns-in-Overflow
 unfolding outcome_frame
 returns-in-Overflow c =
-    rw c.outcome-1.given.1 c.put_short-in-Overflow.ensures
+    rw c.in-Overflow.is c.put_short-in-Overflow.ensures
 
 pub shape_of-text-in-Singular : goal.shape_of-text-in-Singular
 shape_of-text-in-Singular c =
@@ -41,4 +41,4 @@ shape_of-text-in-Singular c =
 pub returns-in-Singular : goal.returns-in-Singular
 unfolding outcome_frame
 returns-in-Singular c =
-    rw c.outcome-in-Singular-1.given.1 c.put_short-in-Singular.ensures
+    rw c.in-Singular.is c.put_short-in-Singular.ensures

@@ -20,7 +20,7 @@ overflow_sub-result c =
 pub returns-then-not-is_finished : goal.returns-then-not-is_finished
 returns-then-not-is_finished c =
     row_passed _ _ _ (start c).requires _ (read c).record_at.ensures
-    c.if-r-eq0.true _ c.is_finished.ensures (not-true _ c.if-not-is_finished.true)
+    c.if-r-eq0.true _ c.is_finished.ensures c.if-not-is_finished.true
 
 pub returns : goal.returns
 returns c =

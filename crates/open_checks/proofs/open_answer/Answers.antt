@@ -22,10 +22,10 @@ pub returns-in-At : goal.returns-in-At
 returns-in-At c =
     λ slots number. answer_3 _ _ _ _ slots _ number _ c.bad_sizes.ensures c.if-bad_sizes.false
     _ (c.bad_lengths.ensures slots number) c.if-bad_lengths.false
-    _ _ c.first_not_finite-found.ensures c.found-1.given.1
+    _ _ c.first_not_finite-found.ensures c.in-At.is
 
 pub returns-in-None : goal.returns-in-None
 returns-in-None c =
     λ slots number. answer_4 _ _ _ _ slots _ number _ c.bad_sizes.ensures c.if-bad_sizes.false
     _ (c.bad_lengths.ensures slots number) c.if-bad_lengths.false
-    _ c.first_not_finite-found.ensures c.enum_told-1.given.1
+    _ c.first_not_finite-found.ensures c.in-None.is

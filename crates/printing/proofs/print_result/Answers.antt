@@ -10,9 +10,9 @@ print_system-requires c =
 
 pub returns-in-ReadRefused : goal.returns-in-ReadRefused
 returns-in-ReadRefused c =
-    let e = sym c.n-1.given.1 ∙ c.check_system.ensures in
+    let e = sym c.in-ReadRefused.is ∙ c.check_system.ensures in
     record { out_after = c.write_refusal.ensures ∙ refusal_printed _ _ _ _ e; text_len_bound = refusal_short _ _ _ e }
 
 pub returns-in-ResultRead : goal.returns-in-ResultRead
 returns-in-ResultRead c =
-    absurd (no_result _ _ _ _ (sym c.tiles-in-ResultRead-1.given.1 ∙ c.check_system.ensures))
+    absurd (no_result _ _ _ _ (sym c.in-ResultRead.is ∙ c.check_system.ensures))

@@ -12,10 +12,10 @@ pub returns-then-not-is_finished : goal.returns-then-not-is_finished
 returns-then-not-is_finished c =
     back_stops _ _ _ _ c.mark_of.ensures c.if-mark_of-ne0.false
     c.requires.below _ c.link_marks-m.ensures
-    c.is_finished.ensures (not-true _ c.if-not-is_finished.true)
+    c.is_finished.ensures c.if-not-is_finished.true
 
 pub returns : goal.returns
 returns c =
     others_decide _ _ _ _ c.mark_of.ensures c.if-mark_of-ne0.false
     c.requires.below _ c.link_marks-m.ensures
-    c.is_finished.ensures (not-false _ c.if-not-is_finished.false) c.is_finished-2.ensures c.is_finished-3.ensures
+    c.is_finished.ensures c.if-not-is_finished.false c.is_finished-2.ensures c.is_finished-3.ensures

@@ -34,4 +34,4 @@ returns-in-Stopped-check_lists c =
 
 pub returns-in-Stopped : goal.returns-in-Stopped
 returns-in-Stopped c =
-    tiles_stop _ _ _ start _ _ (sym c.check_tiles.ensures ∙ c.n-in-Stopped-check_tiles-1.given.1)
+    tiles_stop _ _ _ start _ _ (sym c.check_tiles.ensures ∙ c.in-Stopped.is)

@@ -42,9 +42,9 @@ load_result-requires c =
 
 pub returns-in-Refused : goal.returns-in-Refused
 returns-in-Refused c =
-    lines_refused _ _ _ _ _ c.requires c.if-matrix-order.false c.if-lists-tiles.false _ _ (sym (c.text_end.ensures ∙ ap (text_end _) c.check_result_lines.ensures) ∙ c.n-1.given.1)
+    lines_refused _ _ _ _ _ c.requires c.if-matrix-order.false c.if-lists-tiles.false _ _ (sym (c.text_end.ensures ∙ ap (text_end _) c.check_result_lines.ensures) ∙ c.in-Refused.is)
 
 pub returns-in-Accepted : goal.returns-in-Accepted
 returns-in-Accepted c =
     c.load_result.ensures
-    ∙ result_read _ _ _ _ _ c.requires c.if-matrix-order.false c.if-lists-tiles.false (sym (c.text_end.ensures ∙ ap (text_end _) c.check_result_lines.ensures) ∙ c.enum_told-1.given.1)
+    ∙ result_read _ _ _ _ _ c.requires c.if-matrix-order.false c.if-lists-tiles.false (sym (c.text_end.ensures ∙ ap (text_end _) c.check_result_lines.ensures) ∙ c.in-Accepted.is)

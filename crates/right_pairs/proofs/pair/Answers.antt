@@ -32,7 +32,7 @@ unfolding passed_of
 returns-then-not-pair_right_column c =
     let i = c.loop-c.invariant in
     record {
-      is = left_stops _ (paired_keeps _ _ _ _) _ _ _ _ _ i.3 c.loop-c-test.true (c.pair_right_column.ensures.stops (not-true _ c.if-not-pair_right_column.true));
+      is = left_stops _ (paired_keeps _ _ _ _) _ _ _ _ _ i.3 c.loop-c-test.true (c.pair_right_column.ensures.stops c.if-not-pair_right_column.true);
       finite_then = λ q. let x : ◌≡◌ {A = ℕ} 0 1 = cc in absurd (omega arith);
     }
 
@@ -48,7 +48,7 @@ pub loop-c-preserved : goal.loop-c-preserved
 loop-c-preserved c =
     let i = c.loop-c.invariant in
     let e = c.pair_right_column.ensures in
-    let on = not-false _ c.if-not-pair_right_column.false in
+    let on = c.if-not-pair_right_column.false in
     (omega arith, c.pair_right_column.auto.1.1.1.0 ∙ i.1, e.finite_then on, left_goes _ (paired_keeps _ _ _ _) _ _ _ _ _ i.3 c.loop-c-test.true (e.goes on))
 
 pub shape_of-y : goal.shape_of-y

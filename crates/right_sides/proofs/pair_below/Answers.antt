@@ -39,7 +39,7 @@ unfolding passed_of
 returns-in-Stopped c =
     let i = c.loop-i.invariant in
     record {
-      is = left_stops _ (pairs_keep _ _ _) _ _ _ _ _ i.4 c.loop-i-test.true (halted _ _ _ c.pair-p.ensures.is _ c.p-1.given.1);
+      is = left_stops _ (pairs_keep _ _ _) _ _ _ _ _ i.4 c.loop-i-test.true (halted _ _ _ c.pair-p.ensures.is _ c.in-Stopped.is);
       finite_then = λ q. let x : ◌≡◌ {A = ℕ} 0 1 = cc in absurd (omega arith);
     }
 

@@ -33,7 +33,7 @@ pub returns-in-Stopped : goal.returns-in-Stopped
 unfolding passed_of
 returns-in-Stopped c =
     let i = c.loop-k.invariant in record { passing = record {
-        is = left_stops _ (stage_keeps _ _) _ _ _ _ _ i.3 c.loop-k-test.true (halted _ _ _ c.stage-p.ensures.is _ c.p-1.given.1);
+        is = left_stops _ (stage_keeps _ _) _ _ _ _ _ i.3 c.loop-k-test.true (halted _ _ _ c.stage-p.ensures.is _ c.in-Stopped.is);
         finite_then = λ q. let x : ◌≡◌ {A = ℕ} 0 1 = cc in absurd (omega arith);
       }; y_len_unchanged = c.stage-p.auto.1.1.1.0 ∙ i.1 }
 

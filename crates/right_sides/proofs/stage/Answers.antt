@@ -13,7 +13,7 @@ use Rattle.right_sides.proofs.stage.Goals as goal
 pub returns-in-Stopped : goal.returns-in-Stopped
 unfolding passed_of stage_passed plan
 returns-in-Stopped c =
-    let e = halted _ _ _ c.apply-p.ensures.is _ c.p-1.given.1 in
+    let e = halted _ _ _ c.apply-p.ensures.is _ c.in-Stopped.is in
     record {
       is = sym (turns_stop (pair_all _ _ _) (pairs_keep _ _ _) (after _ _) _) ∙ ap (in_turn (pair_all _ _ _) (after _ _)) e;
       finite_then = λ q. let x : ◌≡◌ {A = ℕ} 0 1 = cc in absurd (omega arith);

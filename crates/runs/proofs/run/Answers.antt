@@ -6,7 +6,7 @@ use Rattle.runs.proofs.run.Goals as goal
 
 pub returns-in-Refused : goal.returns-in-Refused
 returns-in-Refused c =
-    record { workers_after = refused _ _ _ _ c.run_answer-answer.ensures _ _ c.answer-1.given.1; others_kept = record { same_count = refl; same_slots = refl } }
+    record { workers_after = refused _ _ _ _ c.run_answer-answer.ensures _ _ c.in-Refused.is; others_kept = record { same_count = refl; same_slots = refl } }
 
 pub take_turns-requires : goal.take_turns-requires
 take_turns-requires c =

@@ -14,7 +14,7 @@ pass-forward-requires c =
 
 pub returns-in-Stopped : goal.returns-in-Stopped
 returns-in-Stopped c =
-    stops_forward c.args.z _ _ _ _ _ (rw c.copy.ensures at c.pass-forward.ensures.passing.is) _ c.forward-1.given.1
+    stops_forward c.args.z _ _ _ _ _ (rw c.copy.ensures at c.pass-forward.ensures.passing.is) _ c.in-Stopped.is
 
 pub back_rows-back-requires : goal.back_rows-back-requires
 back_rows-back-requires c =

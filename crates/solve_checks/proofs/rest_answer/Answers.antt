@@ -7,22 +7,22 @@ pub returns-in-At : goal.returns-in-At
 returns-in-At c =
     λ lists slots count number.
     let a = c.args in
-    rest_8 a.z a.matrix.now lists a.records.now slots count number a.right.now c.requires.2 _ c.first_unfinished-task.ensures _ c.task-1.given.1
+    rest_8 a.z a.matrix.now lists a.records.now slots count number a.right.now c.requires.2 _ c.first_unfinished-task.ensures _ c.in-At.is
 
 pub returns-in-Overflow : goal.returns-in-Overflow
 returns-in-Overflow c =
     λ lists slots count number.
     let a = c.args in
-    rest_9 a.z a.matrix.now lists a.records.now slots count number a.right.now c.requires.2 _ c.first_unfinished-task.ensures c.enum_told-1.given.1 _ (c.outcome_of-end.ensures lists) _ c.end-1.given.1
+    rest_9 a.z a.matrix.now lists a.records.now slots count number a.right.now c.requires.2 _ c.first_unfinished-task.ensures c.in-Overflow.is _ (c.outcome_of-end.ensures lists) _ c.in-Overflow.is
 
 pub returns-in-Singular : goal.returns-in-Singular
 returns-in-Singular c =
     λ lists slots count number.
     let a = c.args in
-    rest_10 a.z a.matrix.now lists a.records.now slots count number a.right.now c.requires.2 _ c.first_unfinished-task.ensures c.enum_told-1.given.1 _ (c.outcome_of-end.ensures lists) _ c.end-in-Singular-1.given.1
+    rest_10 a.z a.matrix.now lists a.records.now slots count number a.right.now c.requires.2 _ c.first_unfinished-task.ensures c.in-Singular.is _ (c.outcome_of-end.ensures lists) _ c.in-Singular.is
 
 pub returns-in-Good : goal.returns-in-Good
 returns-in-Good c =
     λ lists slots count number.
     let a = c.args in
-    rest_good a.z a.matrix.now lists a.records.now slots count number a.right.now c.requires.2 _ c.first_unfinished-task.ensures c.enum_told-1.given.1 _ (c.outcome_of-end.ensures lists) c.enum_told-in-Good-1.given.1 _ c.right_answer.ensures
+    rest_good a.z a.matrix.now lists a.records.now slots count number a.right.now c.requires.2 _ c.first_unfinished-task.ensures c.in-Good.is _ (c.outcome_of-end.ensures lists) c.in-Good.is _ c.right_answer.ensures

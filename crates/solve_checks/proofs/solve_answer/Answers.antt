@@ -44,7 +44,7 @@ returns-then-damaged c =
 pub returns-then-not-all_finite : goal.returns-then-not-all_finite
 returns-then-not-all_finite c =
     solve_elements c.args.z _ _ _ c.args.workers.slots c.args.workers.count c.args.workers.number _ _ _ c.bad_sizes.ensures c.if-bad_sizes.false _ (c.bad_lengths.ensures c.args.workers.slots c.args.workers.number) c.if-bad_lengths.false c.if-right-order.false c.if-answers-order.false _ (c.damaged.ensures c.args.matrix.now) c.if-damaged.false
-    _ c.all_finite.ensures (not-true _ c.if-not-all_finite.true)
+    _ c.all_finite.ensures c.if-not-all_finite.true
 
 pub rest_answer-requires : goal.rest_answer-requires
 rest_answer-requires c =
@@ -54,4 +54,4 @@ rest_answer-requires c =
 pub returns : goal.returns
 returns c =
     solve_rest c.args.z _ _ _ c.args.workers.slots c.args.workers.count c.args.workers.number _ _ _ c.bad_sizes.ensures c.if-bad_sizes.false _ (c.bad_lengths.ensures c.args.workers.slots c.args.workers.number) c.if-bad_lengths.false c.if-right-order.false c.if-answers-order.false _ (c.damaged.ensures c.args.matrix.now) c.if-damaged.false
-    _ c.all_finite.ensures (not-false _ c.if-not-all_finite.false) _ (c.rest_answer.ensures c.args.lists.now c.args.workers.slots c.args.workers.count c.args.workers.number)
+    _ c.all_finite.ensures c.if-not-all_finite.false _ (c.rest_answer.ensures c.args.lists.now c.args.workers.slots c.args.workers.count c.args.workers.number)

@@ -7,7 +7,7 @@ use Rattle.solving.proofs.solve.Goals as goal
 
 pub returns-in-Refused : goal.returns-in-Refused
 returns-in-Refused c =
-    refused _ _ _ _ _ c.solve_answer-answer.ensures _ _ c.answer-1.given.1
+    refused _ _ _ _ _ c.solve_answer-answer.ensures _ _ c.in-Refused.is
 
 pub solve_with-requires : goal.solve_with-requires
 solve_with-requires c =

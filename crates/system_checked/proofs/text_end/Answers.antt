@@ -18,4 +18,4 @@ returns-else-at-text c =
 pub returns-in-Stopped : goal.returns-in-Stopped
 unfolding text_end
 returns-in-Stopped c =
-    rw c.step-in-Stopped-1.given.1
+    rw c.in-Stopped.is

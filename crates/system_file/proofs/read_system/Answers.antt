@@ -14,4 +14,4 @@ returns-in-Shape c =
 
 pub returns-in-Unread : goal.returns-in-Unread
 returns-in-Unread c =
-    header_refused _ _ _ _ (refusal_read _ _ _ _ _ c.check_header.ensures c.n-1.given.1)
+    header_refused _ _ _ _ (refusal_read _ _ _ _ _ c.check_header.ensures c.in-Unread.is)

@@ -37,8 +37,8 @@ load_tiles-requires c =
 
 pub returns-in-Refused : goal.returns-in-Refused
 returns-in-Refused c =
-    lines_refused _ _ _ _ c.requires c.if-matrix-order.false _ _ (sym c.check_system_lines.ensures ∙ c.n-1.given.1)
+    lines_refused _ _ _ _ c.requires c.if-matrix-order.false _ _ (sym c.check_system_lines.ensures ∙ c.in-Refused.is)
 
 pub returns-in-Accepted : goal.returns-in-Accepted
 returns-in-Accepted c =
-    system_read _ _ _ _ c.requires c.if-matrix-order.false _ (sym c.check_system_lines.ensures ∙ c.enum_told-1.given.1) c.load_tiles.ensures
+    system_read _ _ _ _ c.requires c.if-matrix-order.false _ (sym c.check_system_lines.ensures ∙ c.in-Accepted.is) c.load_tiles.ensures

@@ -8,41 +8,41 @@ use Rattle.take_checks.proofs.take_answer.Goals as goal
 
 pub returns-then-not-accepted : goal.returns-then-not-accepted
 returns-then-not-accepted c =
-    state_stops c.args.z _ _ _ c.args.workers.slots c.args.workers.count c.args.workers.number c.args.w c.args.p _ c.state_answer-state.ensures _ c.accepted.ensures (not-true _ c.if-not-accepted.true)
+    state_stops c.args.z _ _ _ c.args.workers.slots c.args.workers.count c.args.workers.number c.args.w c.args.p _ c.state_answer-state.ensures _ c.accepted.ensures c.if-not-accepted.true
 
 pub returns-then-z-w : goal.returns-then-z-w
 returns-then-z-w c =
-    no_worker_lem c.args.z _ _ _ c.args.workers.slots c.args.workers.count c.args.workers.number c.args.w c.args.p _ c.state_answer-state.ensures _ c.accepted.ensures (not-false _ c.if-not-accepted.false) c.if-z-w.true
+    no_worker_lem c.args.z _ _ _ c.args.workers.slots c.args.workers.count c.args.workers.number c.args.w c.args.p _ c.state_answer-state.ensures _ c.accepted.ensures c.if-not-accepted.false c.if-z-w.true
 
 pub offset_bounds-slots-w : goal.offset_bounds-slots-w
 offset_bounds-slots-w c =
-    omega (arith, (is_sound c.args.z _ _ _ c.args.workers.slots c.args.workers.count c.args.workers.number c.args.w c.args.p _ c.state_answer-state.ensures _ c.accepted.ensures (not-false _ c.if-not-accepted.false)).sizes)
+    omega (arith, (is_sound c.args.z _ _ _ c.args.workers.slots c.args.workers.count c.args.workers.number c.args.w c.args.p _ c.state_answer-state.ensures _ c.accepted.ensures c.if-not-accepted.false).sizes)
 
 pub bounds-slots-w : goal.bounds-slots-w
 bounds-slots-w c =
-    omega (arith, (is_sound c.args.z _ _ _ c.args.workers.slots c.args.workers.count c.args.workers.number c.args.w c.args.p _ c.state_answer-state.ensures _ c.accepted.ensures (not-false _ c.if-not-accepted.false)).sizes)
+    omega (arith, (is_sound c.args.z _ _ _ c.args.workers.slots c.args.workers.count c.args.workers.number c.args.w c.args.p _ c.state_answer-state.ensures _ c.accepted.ensures c.if-not-accepted.false).sizes)
 
 pub returns-then-h : goal.returns-then-h
 returns-then-h c =
-    busy_worker c.args.z _ _ _ c.args.workers.slots c.args.workers.count c.args.workers.number c.args.w c.args.p _ c.state_answer-state.ensures _ c.accepted.ensures (not-false _ c.if-not-accepted.false) c.if-z-w.false c.if-h.true
+    busy_worker c.args.z _ _ _ c.args.workers.slots c.args.workers.count c.args.workers.number c.args.w c.args.p _ c.state_answer-state.ensures _ c.accepted.ensures c.if-not-accepted.false c.if-z-w.false c.if-h.true
 
 pub task_count-requires : goal.task_count-requires
 task_count-requires c =
-    (is_sound c.args.z _ _ _ c.args.workers.slots c.args.workers.count c.args.workers.number c.args.w c.args.p _ c.state_answer-state.ensures _ c.accepted.ensures (not-false _ c.if-not-accepted.false)).sizes.few_tiles
+    (is_sound c.args.z _ _ _ c.args.workers.slots c.args.workers.count c.args.workers.number c.args.w c.args.p _ c.state_answer-state.ensures _ c.accepted.ensures c.if-not-accepted.false).sizes.few_tiles
 
 pub returns-then-task_count-p : goal.returns-then-task_count-p
 returns-then-task_count-p c =
-    no_task c.args.z _ _ _ c.args.workers.slots c.args.workers.count c.args.workers.number c.args.w c.args.p _ c.state_answer-state.ensures _ c.accepted.ensures (not-false _ c.if-not-accepted.false) c.if-z-w.false c.if-h.false _ c.task_count.ensures c.if-task_count-p.true
+    no_task c.args.z _ _ _ c.args.workers.slots c.args.workers.count c.args.workers.number c.args.w c.args.p _ c.state_answer-state.ensures _ c.accepted.ensures c.if-not-accepted.false c.if-z-w.false c.if-h.false _ c.task_count.ensures c.if-task_count-p.true
 
 pub is_ready-requires : goal.is_ready-requires
 is_ready-requires c =
-    let s = is_sound c.args.z _ _ _ c.args.workers.slots c.args.workers.count c.args.workers.number c.args.w c.args.p _ c.state_answer-state.ensures _ c.accepted.ensures (not-false _ c.if-not-accepted.false) in
+    let s = is_sound c.args.z _ _ _ c.args.workers.slots c.args.workers.count c.args.workers.number c.args.w c.args.p _ c.state_answer-state.ensures _ c.accepted.ensures c.if-not-accepted.false in
     recorded c.args.z c.args.matrix.now c.args.lists.now _ c.args.workers.slots c.args.workers.number s.sizes s.lengths.records_fit s.undamaged _ (omega (arith, c.task_count.ensures))
 
 pub returns-then-not-is_ready : goal.returns-then-not-is_ready
 returns-then-not-is_ready c =
-    not_ready c.args.z _ _ _ c.args.workers.slots c.args.workers.count c.args.workers.number c.args.w c.args.p _ c.state_answer-state.ensures _ c.accepted.ensures (not-false _ c.if-not-accepted.false) c.if-z-w.false c.if-h.false _ c.task_count.ensures c.if-task_count-p.false _ c.is_ready.ensures (not-true _ c.if-not-is_ready.true)
+    not_ready c.args.z _ _ _ c.args.workers.slots c.args.workers.count c.args.workers.number c.args.w c.args.p _ c.state_answer-state.ensures _ c.accepted.ensures c.if-not-accepted.false c.if-z-w.false c.if-h.false _ c.task_count.ensures c.if-task_count-p.false _ c.is_ready.ensures c.if-not-is_ready.true
 
 pub returns : goal.returns
 returns c =
-    is_ready c.args.z _ _ _ c.args.workers.slots c.args.workers.count c.args.workers.number c.args.w c.args.p _ c.state_answer-state.ensures _ c.accepted.ensures (not-false _ c.if-not-accepted.false) c.if-z-w.false c.if-h.false _ c.task_count.ensures c.if-task_count-p.false _ c.is_ready.ensures (not-false _ c.if-not-is_ready.false)
+    is_ready c.args.z _ _ _ c.args.workers.slots c.args.workers.count c.args.workers.number c.args.w c.args.p _ c.state_answer-state.ensures _ c.accepted.ensures c.if-not-accepted.false c.if-z-w.false c.if-h.false _ c.task_count.ensures c.if-task_count-p.false _ c.is_ready.ensures c.if-not-is_ready.false

@@ -18,8 +18,8 @@ returns-then-task-eq3 c =
 
 pub returns-then-not-finite_tile : goal.returns-then-not-finite_tile
 returns-then-not-finite_tile c =
-    λ lists. tiles_4 c.args.z _ lists _ c.if-task-eq1.false c.if-task-eq2.false c.if-task-eq3.false _ c.finite_tile-2.ensures (not-true _ c.if-not-finite_tile.true)
+    λ lists. tiles_4 c.args.z _ lists _ c.if-task-eq1.false c.if-task-eq2.false c.if-task-eq3.false _ c.finite_tile-2.ensures c.if-not-finite_tile.true
 
 pub returns : goal.returns
 returns c =
-    λ lists. tiles_5 c.args.z _ lists _ c.if-task-eq1.false c.if-task-eq2.false c.if-task-eq3.false _ _ c.finite_tile-2.ensures (not-false _ c.if-not-finite_tile.false) c.finite_pair-2.ensures
+    λ lists. tiles_5 c.args.z _ lists _ c.if-task-eq1.false c.if-task-eq2.false c.if-task-eq3.false _ _ c.finite_tile-2.ensures c.if-not-finite_tile.false c.finite_pair-2.ensures

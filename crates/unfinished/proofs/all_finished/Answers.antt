@@ -7,8 +7,8 @@ use Rattle.unfinished.proofs.all_finished.Goals as goal
 
 pub returns-in-None : goal.returns-in-None
 returns-in-None c =
-    ap (λ x. not (is_found x)) (sym c.enum_told-1.given.1) ∙ none_found _ _ c.first_unfinished-task.ensures
+    ap (λ x. not (is_found x)) (sym c.in-None.is) ∙ none_found _ _ c.first_unfinished-task.ensures
 
 pub returns-in-At : goal.returns-in-At
 returns-in-At c =
-    ap (λ x. not (is_found x)) (sym c.enum_told-in-At-1.given.1) ∙ none_found _ _ c.first_unfinished-task.ensures
+    ap (λ x. not (is_found x)) (sym c.in-At.is) ∙ none_found _ _ c.first_unfinished-task.ensures
