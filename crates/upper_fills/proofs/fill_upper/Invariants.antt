@@ -20,6 +20,14 @@ use Rattle.laws.proofs.Parts.{Fits, length_put, get_in, get_before, get_after, g
 use Rattle.fills.proofs.Stores.{Stored, stored_none, stored_join, stored_is}
 use Rattle.upper_fills.proofs.fill_upper.Given as goal
 
+-- row r, column q of the tile at start: +0 on the diagonal and above
+abbrev pub cell : ℕ → ℕ → List Float → ℕ → ℕ → Float
+cell t start m r q = cond (leb r q) plus_zero (get_or m (start + r * t + q) nan)
+
+-- number j of the tile
+unfoldable pub upper : ℕ → ℕ → List Float → ℕ → Float
+upper t start m j = cell t start m (j / t) (j % t)
+
 abbrev pub invariant-loop-r : goal.invariant-loop-r
 invariant-loop-r l = (l.r ≤ l.t) × Stored nan l.start (l.r * l.t) (upper l.t l.start l.initial.m) l.initial.m l.m
 
