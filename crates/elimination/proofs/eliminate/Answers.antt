@@ -93,14 +93,13 @@ unfolding of_bits is_zero quotient
 rows-preserved-then-by c =
     let a = c.args in
     let b = c.requires.rows in
-    let h = (c.requires.m_value, c.requires.by_index) in
     let rows = c.rows in
     let row = c.rows-test.true in (
       omega arith,
       rows.invariant.1,
       gone_more _ _ _ _ _ b.column _ b.room b.apart _ row _ rows.invariant.2 _ refl _
           (row_unchanged _ _ _ _ _ _ c.if-by.true
-          (divided_finite _ _ _ _ _ b.column _ b.room b.apart _ row _ rows.invariant.2 _ refl (λ q l. row_finite _ _ _ _ _ b.column _ b.room b.apart h.0 h.1 _ q row l) (h.1 _ row))),
+          (divided_finite _ _ _ _ _ b.column _ b.room b.apart _ row _ rows.invariant.2 _ refl (λ q l. row_finite _ _ _ _ _ b.column _ b.room b.apart c.requires.m_value c.requires.by_index _ q row l) (c.requires.by_index _ row))),
     )
 
 pub overflow_add-q : goal.overflow_add-q
