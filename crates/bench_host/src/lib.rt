@@ -3,7 +3,7 @@
 #![tactic(auto)]
 
 ghost use Rattle.std.specs.Prelude.{◌≡◌, ◌+◌, ◌*◌};
-ghost use Rattle.model.specs.Task.{t_1, t_2, T-3, t_4};
+ghost use Rattle.model.specs.Task.{t_1, t_2, t_3, t_4};
 ghost use Rattle.model.specs.Plan.{sizes, plan_of};
 ghost use Rattle.model.specs.Buffer.{mark_after, ties_after, column_ends};
 ghost use Rattle.column_laws.specs.Workable.{Workable};
@@ -79,8 +79,8 @@ pub extern "C" fn bench_couple_column(
     i: usize,
     c: usize,
 ) -> u32
-    requires { Workable (sizes tiles side 1) (T-3 k i) c matrix.old lists.old }
-    ensures { Tells (column_ends (plan_of (sizes tiles side 1)) (T-3 k i) c (record { matrix = matrix.old; lists = lists.old }))
+    requires { Workable (sizes tiles side 1) (t_3 k i) c matrix.old lists.old }
+    ensures { Tells (column_ends (plan_of (sizes tiles side 1)) (t_3 k i) c (record { matrix = matrix.old; lists = lists.old }))
         (record { matrix = matrix.new; lists = lists.new }) result }
 {
     let z = Sizes {

@@ -4,7 +4,7 @@ use mathlib.Core.Path.{◌≡◌}
 use native.Mathlib.Omega.{arith}
 use borrow.Author.Tests.{eq-eqb, ne_eqb}
 use Rattle.model.specs.declared.TaskRecord.{TaskRecord}
-use Rattle.model.specs.Task.{Task, t_1, t_2, T-3, t_4, kind_of, k_of, i_of, j_of}
+use Rattle.model.specs.Task.{Task, t_1, t_2, t_3, t_4, kind_of, k_of, i_of, j_of}
 use Rattle.links.proofs.Order.{Within, within_1, within_2, within_3, within_4}
 use Rattle.checks.specs.Checks.{Inside, task_from}
 use Rattle.run_laws.proofs.Undamaged.{Due}
@@ -18,7 +18,7 @@ module _ (r : TaskRecord) where
   unfolding task_from
   named_2 e = rw e
 
-  pub named_3 : r.kind ≡ 3 → task_from r ≡ T-3 r.k r.i
+  pub named_3 : r.kind ≡ 3 → task_from r ≡ t_3 r.k r.i
   unfolding task_from
   named_3 e = rw e
 
@@ -31,7 +31,7 @@ pub named : (a : Task) (r : TaskRecord) → Due a r → task_from r ≡ a
 unfolding task_from kind_of k_of i_of j_of
 named (t_1 k) r d = rw (d.kind_is, d.k_is)
 named (t_2 k j) r d = rw (d.kind_is, d.k_is, d.j_is)
-named (T-3 k i) r d = rw (d.kind_is, d.k_is, d.i_is)
+named (t_3 k i) r d = rw (d.kind_is, d.k_is, d.i_is)
 named (t_4 k i j) r d = rw (d.kind_is, d.k_is, d.i_is, d.j_is)
 
 -- and its tiles are among N by N

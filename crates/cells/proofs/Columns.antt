@@ -10,7 +10,7 @@ use Rattle.model.specs.Lists.{every}
 use Rattle.model.specs.Num.{plus_zero, finite}
 use Rattle.model.specs.Tile.{zeros, upper_filled}
 use Rattle.model.specs.Column.{factor_pivot, couple_pivot, factor_column, factor_computes, apply_column, apply_computes, couple_column, couple_computes, pair_column, pair_computes}
-use Rattle.model.specs.Task.{Task, t_1, t_2, T-3, t_4}
+use Rattle.model.specs.Task.{Task, t_1, t_2, t_3, t_4}
 use Rattle.model.specs.Plan.{Plan, plan}
 use Rattle.model.specs.Links.{task}
 use Rattle.model.specs.Buffer.{Buffers, tile_of, rows_of, with_tile, with_rows, factor_input, couple_input, pair_input, worked, computed, column_ties, sound, fill_tile, fill_rows, fill_upper, filled}
@@ -81,7 +81,7 @@ module _ (N t : ℕ) (ts : List Task) where
       let n = apply_size t c t (tile_of z s k k) (rows_of z s k k) (tile_of z s k j) in
       let w = put_tile_lem N t s (view N t s) (d, refl) k j h l (λ q. omega arith) _ n in
       (w.0, w.1 ∙ (λ i. put_tile N t k j (apply_in s k j c h l i) (view N t s)))
-  worked_view (T-3 k m) (v₃ h l f) c s d =
+  worked_view (t_3 k m) (v₃ h l f) c s d =
       let n = couple_size t c (couple_input z s k m)
       (record { upper = length_tile N t s d k k h h; lower = length_tile N t s d m k l h; rows = length_rows N t s d m k l h }) in
       let w' = put_tile_lem N t _ _ (put_rows_lem N t s (view N t s) (d, refl) m k l h _ n.rows) m k l h (λ q. omega arith) _ n.lower in
@@ -100,7 +100,7 @@ module _ (N t : ℕ) (ts : List Task) where
   unfolding computed computed_at
   computed_view (t_1 k) (v₁ h) c s = ap (factor_computes t c) (factor_in_lem s k h)
   computed_view (t_2 k j) (v₂ h l m) c s = computes_in s k j c h l
-  computed_view (T-3 k m) (v₃ h l f) c s = ap (couple_computes t c) (couple_in_lem s k m h l)
+  computed_view (t_3 k m) (v₃ h l f) c s = ap (couple_computes t c) (couple_in_lem s k m h l)
   computed_view (t_4 k m j) (v₄ h l f e g) c s = λ i. pair_computes t t c (tile_in s m k l h i) (rows_in s m k i) (pair_in_lem s k m j h l f i)
 
   sound_view : (a : Task) → Valid N a → (c : ℕ) (s : Buffers) → sound z a c s ≡ sound_at N t a c (view N t s)
@@ -113,7 +113,7 @@ module _ (N t : ℕ) (ts : List Task) where
   unfolding column_ties ties_at plan
   ties_view (t_1 k) (v₁ h) c s = λ i. (factor_pivot t c (tile_in s k k h h i)).ties
   ties_view (t_2 k j) v c s = refl
-  ties_view (T-3 k m) (v₃ h l f) c s = λ i. (couple_pivot t c (tile_in s k k h h i) (tile_in s m k l h i)).ties
+  ties_view (t_3 k m) (v₃ h l f) c s = λ i. (couple_pivot t c (tile_in s k k h h i) (tile_in s m k l h i)).ties
   ties_view (t_4 k m j) v c s = refl
 
   -- ---- what a fill leaves
@@ -130,7 +130,7 @@ module _ (N t : ℕ) (ts : List Task) where
   unfolding filled filled_at fill_tile fill_rows fill_upper plan tile_of with_tile with_rows
   filled_view (t_1 k) (v₁ h) s d = put_diagonal N t _ _ (put_rows_lem N t s (view N t s) (d, refl) k k h h _ (length-replicate t 0)) k h _ length_zeros
   filled_view (t_2 k j) (v₂ h l m) s d = put_tile_lem N t s (view N t s) (d, refl) k j h l (λ q. omega arith) _ length_zeros
-  filled_view (T-3 k m) (v₃ h l f) s d =
+  filled_view (t_3 k m) (v₃ h l f) s d =
       let s' : Buffers = with_tile z m k (zeros (t * t)) (with_rows z m k (replicate t 0) s) in
       let σ' : ℕ → Val = put_zeros N t m k (view N t s) in
       let w : Same N t s' σ' = put_tile_lem N t _ _ (put_rows_lem N t s (view N t s) (d, refl) m k l h _ (length-replicate t 0)) m k l h

@@ -9,7 +9,7 @@ use lib.Ieee.{Float}
 use Rattle.model.specs.Lists.{some, every}
 use Rattle.model.specs.Num.{finite}
 use Rattle.model.specs.Column.{factor_pivot, couple_pivot, factor_column, factor_computes, apply_column, apply_computes, couple_column, couple_computes, pair_column, pair_computes}
-use Rattle.model.specs.Task.{Task, t_1, t_2, T-3, t_4, Place, A, low, list, low_of, touches, writes, reads}
+use Rattle.model.specs.Task.{Task, t_1, t_2, t_3, t_4, Place, A, low, list, low_of, touches, writes, reads}
 use Rattle.model.specs.Links.{task}
 use Rattle.model.specs.Tile.{upper_filled}
 use Rattle.order_free.specs.Below.{set}
@@ -52,7 +52,7 @@ module _ (N t : ℕ) where
       skip _ (tile_at N k k) r _ (apart _ _ _ e) ∙ skip _ (low_at N k) r _ (apart _ _ _ (rest _ _ _ e))
       ∙ skip _ (list_at N k k) r _ (apart _ _ _ (rest _ _ _ (rest _ _ _ e)))
   worked_frame (t_2 k j) c σ r e = skip _ (tile_at N k j) r _ (apart _ _ _ e)
-  worked_frame (T-3 k i) c σ r e =
+  worked_frame (t_3 k i) c σ r e =
       skip _ (tile_at N k k) r _ (apart _ _ _ e) ∙ skip _ (tile_at N i k) r _ (apart _ _ _ (rest _ _ _ e))
       ∙ skip _ (list_at N i k) r _ (apart _ _ _ (rest _ _ _ (rest _ _ _ e)))
   worked_frame (t_4 k i j) c σ r e =
@@ -65,7 +65,7 @@ module _ (N t : ℕ) where
       skip _ (tile_at N k k) r _ (apart _ _ _ e) ∙ skip _ (low_at N k) r _ (apart _ _ _ (rest _ _ _ e))
       ∙ skip _ (list_at N k k) r _ (apart _ _ _ (rest _ _ _ (rest _ _ _ e)))
   filled_frame (t_2 k j) σ r e = skip _ (tile_at N k j) r _ (apart _ _ _ e)
-  filled_frame (T-3 k i) σ r e =
+  filled_frame (t_3 k i) σ r e =
       skip _ (tile_at N k k) r _ (apart _ _ _ e) ∙ skip _ (tile_at N i k) r _ (apart _ _ _ (rest _ _ _ e))
       ∙ skip _ (list_at N i k) r _ (apart _ _ _ (rest _ _ _ (rest _ _ _ e)))
   filled_frame (t_4 k i j) σ r e =
@@ -93,12 +93,12 @@ module _ (N t : ℕ) where
     unfolding touches reads
     same_apply k j h = (agree (t_2 k j) h (low k) first, agree (t_2 k j) h (list k k) (later first), agree (t_2 k j) h (A k j) (later (later first)))
 
-    same_couple : (k i : ℕ) → Agrees (T-3 k i) σ τ → couple_in N t k i σ ≡ couple_in N t k i τ
+    same_couple : (k i : ℕ) → Agrees (t_3 k i) σ τ → couple_in N t k i σ ≡ couple_in N t k i τ
     unfolding touches reads
     same_couple k m h =
-        let u : σ (tile_at N k k) ≡ τ (tile_at N k k) = agree (T-3 k m) h (A k k) first in
-        let d : σ (tile_at N m k) ≡ τ (tile_at N m k) = agree (T-3 k m) h (A m k) (later first) in
-        let p : σ (list_at N m k) ≡ τ (list_at N m k) = agree (T-3 k m) h (list m k) (later (later first)) in
+        let u : σ (tile_at N k k) ≡ τ (tile_at N k k) = agree (t_3 k m) h (A k k) first in
+        let d : σ (tile_at N m k) ≡ τ (tile_at N m k) = agree (t_3 k m) h (A m k) (later first) in
+        let p : σ (list_at N m k) ≡ τ (list_at N m k) = agree (t_3 k m) h (list m k) (later (later first)) in
         λ i. record { upper = (u i).floats; lower = (d i).floats; rows = (p i).bytes }
 
     same_pair : (k i j : ℕ) → Agrees (t_4 k i j) σ τ
@@ -114,7 +114,7 @@ module _ (N t : ℕ) where
     worked_local (t_1 k) c h r e = let x = same_factor k h in λ i. put_factored N t k (factor_column t c (x i)) (λ q. e i) r
     worked_local (t_2 k j) c h r e = let (l, p, x) = same_apply k j h in λ i. put_tile N t k j (apply_column t t c (l i).floats (p i).bytes (x i).floats)
         (λ q. e i) r
-    worked_local (T-3 k m) c h r e = let x = same_couple k m h in λ i. put_coupled N t k m (couple_column t c (x i)) (λ q. e i) r
+    worked_local (t_3 k m) c h r e = let x = same_couple k m h in λ i. put_coupled N t k m (couple_column t c (x i)) (λ q. e i) r
     worked_local (t_4 k m j) c h r e = let (l, p, x) = same_pair k m j h in λ i. put_paired N t k m j (pair_column t t c (l i).floats (p i).bytes (x i))
         (λ q. e i) r
 
@@ -122,7 +122,7 @@ module _ (N t : ℕ) where
     unfolding computed_at
     computed_local (t_1 k) c h = ap (factor_computes t c) (same_factor k h)
     computed_local (t_2 k j) c h = let (l, p, x) = same_apply k j h in λ i. apply_computes t t c (l i).floats (p i).bytes (x i).floats
-    computed_local (T-3 k m) c h = ap (couple_computes t c) (same_couple k m h)
+    computed_local (t_3 k m) c h = ap (couple_computes t c) (same_couple k m h)
     computed_local (t_4 k m j) c h = let (l, p, x) = same_pair k m j h in λ i. pair_computes t t c (l i).floats (p i).bytes (x i)
 
     sound_local : (a : Task) (c : ℕ) → Agrees a σ τ → sound_at N t a c σ ≡ sound_at N t a c τ
@@ -133,7 +133,7 @@ module _ (N t : ℕ) where
     unfolding ties_at
     ties_local (t_1 k) c h = λ i. (factor_pivot t c (same_factor k h i).tile).ties
     ties_local (t_2 k j) c h = refl
-    ties_local (T-3 k m) c h = λ i. (couple_pivot t c (same_couple k m h i).upper (same_couple k m h i).lower).ties
+    ties_local (t_3 k m) c h = λ i. (couple_pivot t c (same_couple k m h i).upper (same_couple k m h i).lower).ties
     ties_local (t_4 k m j) c h = refl
 
     -- a fill reads nothing, but for T-3's upper tile
@@ -141,8 +141,8 @@ module _ (N t : ℕ) where
     unfolding filled_at set
     filled_local (t_1 k) h r e = λ i. filled_at N t (t_1 k) (λ q. e i) r
     filled_local (t_2 k j) h r e = λ i. filled_at N t (t_2 k j) (λ q. e i) r
-    filled_local (T-3 k m) h r e =
-        let a : σ (tile_at N k k) ≡ τ (tile_at N k k) = unfold touches reads in (agree (T-3 k m) h (A k k) first) in
+    filled_local (t_3 k m) h r e =
+        let a : σ (tile_at N k k) ≡ τ (tile_at N k k) = unfold touches reads in (agree (t_3 k m) h (A k k) first) in
         λ i. put_tile N t k k (upper_filled t (put_zeros N t m k (λ q. a i) (tile_at N k k)).floats) (put_zeros N t m k (λ q. e i)) r
     filled_local (t_4 k m j) h r e = λ i. filled_at N t (t_4 k m j) (λ q. e i) r
 

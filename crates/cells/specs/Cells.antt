@@ -8,7 +8,7 @@ use Rattle.model.specs.Lists.{every, some, part}
 use Rattle.model.specs.Num.{finite}
 use Rattle.model.specs.Tile.{zeros, upper_filled}
 use Rattle.model.specs.Column.{Factored, Coupled, Paired, factor_pivot, factor_column, factor_computes, apply_column, apply_computes, couple_pivot, couple_column, couple_computes, pair_column, pair_computes}
-use Rattle.model.specs.Task.{Task, t_1, t_2, T-3, t_4, Place, touches, writes}
+use Rattle.model.specs.Task.{Task, t_1, t_2, t_3, t_4, Place, touches, writes}
 use Rattle.model.specs.Links.{task}
 use Rattle.model.specs.Plan.{Plan}
 use Rattle.model.specs.Buffer.{Buffers, tile}
@@ -97,20 +97,20 @@ module _ (N t : ℕ) where
   unfoldable pub worked_at : Task → ℕ → (ℕ → Val) → ℕ → Val
   worked_at (t_1 k) c σ = put_factored k (factor_column t c (factor_in k σ)) σ
   worked_at (t_2 k j) c σ = put_tile k j (apply_column t t c (σ (low_at N k)).floats (σ (list_at N k k)).bytes (σ (tile_at N k j)).floats) σ
-  worked_at (T-3 k i) c σ = put_coupled k i (couple_column t c (couple_in k i σ)) σ
+  worked_at (t_3 k i) c σ = put_coupled k i (couple_column t c (couple_in k i σ)) σ
   worked_at (t_4 k i j) c σ = put_paired k i j (pair_column t t c (σ (tile_at N i k)).floats (σ (list_at N i k)).bytes (pair_in k i j σ)) σ
 
   unfoldable pub computed_at : Task → ℕ → (ℕ → Val) → List Float
   computed_at (t_1 k) c σ = factor_computes t c (factor_in k σ)
   computed_at (t_2 k j) c σ = apply_computes t t c (σ (low_at N k)).floats (σ (list_at N k k)).bytes (σ (tile_at N k j)).floats
-  computed_at (T-3 k i) c σ = couple_computes t c (couple_in k i σ)
+  computed_at (t_3 k i) c σ = couple_computes t c (couple_in k i σ)
   computed_at (t_4 k i j) c σ = pair_computes t t c (σ (tile_at N i k)).floats (σ (list_at N i k)).bytes (pair_in k i j σ)
 
   -- the ties of a column's pivot search
   unfoldable pub ties_at : Task → ℕ → (ℕ → Val) → ℕ
   ties_at (t_1 k) c σ = (factor_pivot t c (σ (tile_at N k k)).floats).ties
   ties_at (t_2 k j) c σ = 0
-  ties_at (T-3 k i) c σ = (couple_pivot t c (σ (tile_at N k k)).floats (σ (tile_at N i k)).floats).ties
+  ties_at (t_3 k i) c σ = (couple_pivot t c (σ (tile_at N k k)).floats (σ (tile_at N i k)).floats).ties
   ties_at (t_4 k i j) c σ = 0
 
   unfoldable pub sound_at : Task → ℕ → (ℕ → Val) → Bool
@@ -124,7 +124,7 @@ module _ (N t : ℕ) where
   unfoldable pub filled_at : Task → (ℕ → Val) → ℕ → Val
   filled_at (t_1 k) σ = put_tile k k (zeros (t * t)) (put_low k (zeros (t * t)) (put_rows k k (replicate t 0) σ))
   filled_at (t_2 k j) σ = put_tile k j (zeros (t * t)) σ
-  filled_at (T-3 k i) σ = put_tile k k (upper_filled t (put_zeros i k σ (tile_at N k k)).floats) (put_zeros i k σ)
+  filled_at (t_3 k i) σ = put_tile k k (upper_filled t (put_zeros i k σ (tile_at N k k)).floats) (put_zeros i k σ)
   filled_at (t_4 k i j) σ = put_tile k j (zeros (t * t)) (put_tile i j (zeros (t * t)) (put_low_of i j (zeros (t * t)) σ))
 
   -- ---- a list of tasks

@@ -5,7 +5,7 @@ use Rattle.model.specs.declared.Sizes.{Sizes}
 use Rattle.model.specs.declared.TaskRecord.{TaskRecord}
 use Rattle.worker.specs.declared.Worker.{Worker}
 use Rattle.model.specs.Limits.{most_tiles, most_side, most_workers}
-use Rattle.model.specs.Task.{Task, t_1, t_2, T-3, t_4}
+use Rattle.model.specs.Task.{Task, t_1, t_2, t_3, t_4}
 use Rattle.model.specs.Calls.{Lent}
 use Rattle.records.specs.Records.{lent}
 
@@ -38,7 +38,7 @@ unfoldable pub task_from : TaskRecord → Task
 task_from r =
     cond (eqb r.kind 1) (t_1 r.k)
     (cond (eqb r.kind 2) (t_2 r.k r.j)
-    (cond (eqb r.kind 3) (T-3 r.k r.i) (t_4 r.k r.i r.j)))
+    (cond (eqb r.kind 3) (t_3 r.k r.i) (t_4 r.k r.i r.j)))
 
 -- the record's tiles are among N by N
 pub record Inside (N : ℕ) (r : TaskRecord) : Type 0 where

@@ -17,7 +17,7 @@ use Rattle.model.specs.Num.{finite, plus_zero, is_zero}
 use Rattle.model.specs.Tile.{at, zeros, upper_filled}
 use Rattle.model.specs.Column.{apply_start, factor_pivot, couple_pivot}
 use Rattle.model.specs.Best.{FactorTold, CoupleTold}
-use Rattle.model.specs.Task.{Task, t_1, t_2, T-3, t_4}
+use Rattle.model.specs.Task.{Task, t_1, t_2, t_3, t_4}
 use Rattle.model.specs.Links.{taken, done}
 use Rattle.model.specs.Plan.{Plan, plan}
 use Rattle.model.specs.Buffer.{Buffers, tile, put_tile, put_rows, tile_of, with_tile, with_rows, worked, column_ties, sound, fill_tile, fill_rows, fill_upper, filled, column_ends, Completed, ended_with}
@@ -54,7 +54,7 @@ module _ (N t : ℕ) (m : List Float) (l : List ℕ) where
   unfolding plan filled fill_tile with_tile put_tile
   apply_filled k j = refl
 
-  pub couple_filled : (k i : ℕ) → filled (plan N t) (T-3 k i) (record { matrix = m; lists = l })
+  pub couple_filled : (k i : ℕ) → filled (plan N t) (t_3 k i) (record { matrix = m; lists = l })
       ≡ record {
         matrix = with_part (tile_start N t k k) (t * t) (upper_filled t (part (tile_start N t k k) (t * t) (with_part (tile_start N t i k) (t * t) (zeros (t * t)) m)))
             (with_part (tile_start N t i k) (t * t) (zeros (t * t)) m);
@@ -231,17 +231,17 @@ module _ (N t k i c u d b : ℕ) (hu : u ≡ tile_start N t k k) (hd : d ≡ til
   unfolding couple_pivot
   found_is = told.told ∙ rw (hu, hd, zero-add (couple_pivot t c (part (tile_start N t k k) (t * t) m) (part (tile_start N t i k) (t * t) m)).place)
 
-  ties_found : f.ties ≡ column_ties (plan N t) (T-3 k i) c (record { matrix = m; lists = l })
+  ties_found : f.ties ≡ column_ties (plan N t) (t_3 k i) c (record { matrix = m; lists = l })
   unfolding column_ties plan tile_of tile
   ties_found = ap (λ (p : Pivot). p.ties) found_is
 
   pub couple_skips : (end : ColumnEnd) → is_zero f.magnitude ≡ true → Completed t c f.ties end
-      → ended_with end (record { matrix = m; lists = l' }) ≡ column_ends (plan N t) (T-3 k i) c (record { matrix = m; lists = l })
+      → ended_with end (record { matrix = m; lists = l' }) ≡ column_ends (plan N t) (t_3 k i) c (record { matrix = m; lists = l })
   unfolding plan sound every
   couple_skips end z q =
       let zero = rw found_is at z in
       let first : f.place ≡ 0 = told_zero _ 0 c _ f told z in
-      ends_sound (plan N t) (T-3 k i) c (record { matrix = m; lists = l }) (record { matrix = m; lists = l' }) f.ties end ties_found
+      ends_sound (plan N t) (t_3 k i) c (record { matrix = m; lists = l }) (record { matrix = m; lists = l' }) f.ties end ties_found
       (rw (hl, first, hb) (sym (couple_skipped N t c m l k i hc list_here zero))) (ap (every finite) (couple_none N t c m l k i zero)) q
 
   module _ (ru : u + t * t ≤ length m) (rd : d + t * t ≤ length m) (apart : Apart (t * t) u d)
@@ -252,31 +252,31 @@ module _ (N t k i c u d b : ℕ) (hu : u ≡ tile_start N t k k) (hd : d ≡ til
     entry_is : f.place ≡ (couple_pivot t c (part (tile_start N t k k) (t * t) m) (part (tile_start N t i k) (t * t) m)).place
     entry_is = ap (λ (p : Pivot). p.place) found_is
 
-    couple_sound : answer ≡ sound (plan N t) (T-3 k i) c (record { matrix = m; lists = l })
+    couple_sound : answer ≡ sound (plan N t) (t_3 k i) c (record { matrix = m; lists = l })
     unfolding sound
     couple_sound = p.sound ∙ rw (hu, hd) (ap (every finite) (sym (couple_computed N t c m l k i found f.place entry_is)))
 
-    coupled_is : worked (plan N t) (T-3 k i) c (record { matrix = m; lists = l })
+    coupled_is : worked (plan N t) (t_3 k i) c (record { matrix = m; lists = l })
         ≡ record { matrix = with_two (t * t) u d (upper_at t t c c f.place u d m) (eliminated_rows t t c (at t (upper_at t t c c f.place u d m) c) (lower_at t t c c f.place u d m)) m; lists = l' }
     coupled_is = couple_worked N t c m l k i hc list_here found f.place entry_is ∙ rw (hl, hu, hd, hb)
 
     pub couple_ends : (end : ColumnEnd) → answer ≡ true → Completed t c f.ties end
-        → ended_with end (record { matrix = after; lists = l' }) ≡ column_ends (plan N t) (T-3 k i) c (record { matrix = m; lists = l })
+        → ended_with end (record { matrix = after; lists = l' }) ≡ column_ends (plan N t) (t_3 k i) c (record { matrix = m; lists = l })
     unfolding plan
     couple_ends end h q =
-        ends_sound (plan N t) (T-3 k i) c (record { matrix = m; lists = l }) (record { matrix = after; lists = l' }) f.ties end ties_found
+        ends_sound (plan N t) (t_3 k i) c (record { matrix = m; lists = l }) (record { matrix = after; lists = l' }) f.ties end ties_found
         (ap (λ (x : List Float). record { matrix = x; lists = l' }) (p.whole h) ∙ sym coupled_is) (sym couple_sound ∙ h) q
 
     pub couple_fails : (half last : List Float) (l'' : List ℕ) → answer ≡ false → half ≡ with_part d (t * t) (zeros (t * t)) after
         → last ≡ with_part u (t * t) (upper_filled t (part u (t * t) half)) half → l'' ≡ with_part b t (replicate t 0) l'
-        → ended_with Failed (record { matrix = last; lists = l'' }) ≡ column_ends (plan N t) (T-3 k i) c (record { matrix = m; lists = l })
+        → ended_with Failed (record { matrix = last; lists = l'' }) ≡ column_ends (plan N t) (t_3 k i) c (record { matrix = m; lists = l })
     couple_fails half last l'' h q q' q'' =
         let n = t * t in
         let x = upper_at t t c c f.place u d m in
         let long = length_upper t t c c f.place u d m in
         let stopped = ap (with_part d n (zeros n)) p.frame ∙ put_lower n u d m apart ru rd x (part d n after) long (length_part d n after (rw p.long rd)) (zeros n) (length_zeros n) in
         let whole = put_lower n u d m apart ru rd x (eliminated_rows t t c (at t x c) (lower_at t t c c f.place u d m)) long (length_eliminated t t c _ _) (zeros n) (length_zeros n) in
-        ends_failed (plan N t) (T-3 k i) c (record { matrix = m; lists = l }) (record { matrix = last; lists = l'' })
+        ends_failed (plan N t) (t_3 k i) c (record { matrix = m; lists = l }) (record { matrix = last; lists = l'' })
         (rw (coupled_is, couple_filled N t, ← hu, ← hd, ← hb, ← q'', whole)
         (ap (λ (y : List Float). record { matrix = y; lists = l'' }) (q' ∙ ap (λ (y : List Float). with_part u n (upper_filled t (part u n y)) y) (q ∙ stopped))))
         (sym couple_sound ∙ h)

@@ -6,7 +6,7 @@ use native.Mathlib.Omega.{arith}
 use lib.ListN.{length, get_or}
 use lib.Ieee.{Float}
 use Rattle.model.specs.declared.Sizes.{Sizes}
-use Rattle.model.specs.Task.{Task, t_1, t_2, T-3, t_4}
+use Rattle.model.specs.Task.{Task, t_1, t_2, t_3, t_4}
 use Rattle.laws.specs.Apart.{Apart}
 use Rattle.laws.proofs.Blocks.{place_room, square_most, row_end}
 use Rattle.column_laws.specs.Steps.{tile_start, list_start}
@@ -102,7 +102,7 @@ pub record CoupleReady (N t k i c : ℕ) (m : List Float) (l : List ℕ) : Type 
   pub upper_finite : FiniteAt N t m l k k
   pub lower_finite : FiniteAt N t m l i k
 
-pub couple_ready : {z : Sizes} {k i c : ℕ} {m : List Float} {l : List ℕ} → Workable z (T-3 k i) c m l → CoupleReady z.tiles z.side k i c m l
+pub couple_ready : {z : Sizes} {k i c : ℕ} {m : List Float} {l : List ℕ} → Workable z (t_3 k i) c m l → CoupleReady z.tiles z.side k i c m l
 couple_ready {z} {k} {i} {c} {m} {l} w =
     let hk : k < z.tiles = omega (arith, w.placed) in
     let hi : i < z.tiles = omega (arith, w.placed) in

@@ -6,7 +6,7 @@ use Prim.Native.Nat.{ℕ, ◌*◌}
 use lib.Ieee.{Float}
 use Rattle.model.specs.Lists.{every, part}
 use Rattle.model.specs.Tile.{all_finite}
-use Rattle.model.specs.Task.{t_1, t_2, T-3, t_4, Place, A, low, list, is_list, reads, writes, touches}
+use Rattle.model.specs.Task.{t_1, t_2, t_3, t_4, Place, A, low, list, is_list, reads, writes, touches}
 use Rattle.model.specs.Plan.{plan}
 use Rattle.model.specs.Buffer.{tile, tile_of, finite_in, finite_tiles}
 use Rattle.laws.proofs.Tests.{and_left, and_right}
@@ -46,7 +46,7 @@ module _ (N t : ℕ) (m : List Float) (l : List ℕ) where
       let p = rest fine (list k k) _ (rest fine (low k) _ h) in
       (low_fine k (first fine (low k) _ h), tile_fine k j (first fine (A k j) _ p))
 
-  pub couple_touched : (k i : ℕ) → finite_tiles (plan N t) (T-3 k i) (record { matrix = m; lists = l }) ≡ true → FiniteAt k k × FiniteAt i k
+  pub couple_touched : (k i : ℕ) → finite_tiles (plan N t) (t_3 k i) (record { matrix = m; lists = l }) ≡ true → FiniteAt k k × FiniteAt i k
   unfolding finite_tiles touches reads writes fine
   couple_touched k i h =
       let p = rest fine (A k k) _ h in

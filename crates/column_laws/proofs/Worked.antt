@@ -10,7 +10,7 @@ use Rattle.model.specs.Lists.{part, with_part}
 use Rattle.model.specs.Num.{is_zero}
 use Rattle.model.specs.Tile.{at}
 use Rattle.model.specs.Column.{factor_pivot, factor_exchanged, factor_column, factor_computes, apply_start, apply_column, apply_computes, couple_pivot, couple_column, couple_computes, pair_exchanged, pair_column, pair_computes}
-use Rattle.model.specs.Task.{t_1, t_2, T-3, t_4}
+use Rattle.model.specs.Task.{t_1, t_2, t_3, t_4}
 use Rattle.model.specs.Plan.{plan}
 use Rattle.model.specs.Buffer.{tile, put_tile, rows, put_rows, tile_of, rows_of, with_tile, with_rows, factor_input, couple_input, pair_input, worked, computed}
 use Rattle.laws.proofs.Parts.{length_part, get_part}
@@ -71,7 +71,7 @@ module _ (N t c : ℕ) (m : List Float) (l : List ℕ) where
   module _ (k i : ℕ) (hc : c < t) (room : list_start N t i k + t ≤ length l) where
     pub couple_worked : is_zero (couple_pivot t c (part (tile_start N t k k) (t * t) m) (part (tile_start N t i k) (t * t) m)).magnitude ≡ false
         → (e : ℕ) → e ≡ (couple_pivot t c (part (tile_start N t k k) (t * t) m) (part (tile_start N t i k) (t * t) m)).place
-        → worked (plan N t) (T-3 k i) c (record { matrix = m; lists = l })
+        → worked (plan N t) (t_3 k i) c (record { matrix = m; lists = l })
         ≡ record {
           matrix = with_two (t * t) (tile_start N t k k) (tile_start N t i k) (upper_at t t c c e (tile_start N t k k) (tile_start N t i k) m)
               (eliminated_rows t t c (at t (upper_at t t c c e (tile_start N t k k) (tile_start N t i k) m) c) (lower_at t t c c e (tile_start N t k k) (tile_start N t i k) m)) m;
@@ -81,20 +81,20 @@ module _ (N t c : ℕ) (m : List Float) (l : List ℕ) where
     couple_worked nz e p = rw (p, nz, couple_column, set_entry (list_start N t i k) t c (couple_pivot t c (part (tile_start N t k k) (t * t) m) (part (tile_start N t i k) (t * t) m)).place l room hc)
 
     pub couple_skipped : is_zero (couple_pivot t c (part (tile_start N t k k) (t * t) m) (part (tile_start N t i k) (t * t) m)).magnitude ≡ true
-        → worked (plan N t) (T-3 k i) c (record { matrix = m; lists = l }) ≡ record { matrix = m; lists = set l (list_start N t i k + c) 0 }
+        → worked (plan N t) (t_3 k i) c (record { matrix = m; lists = l }) ≡ record { matrix = m; lists = set l (list_start N t i k + c) 0 }
     unfolding plan worked with_tile with_rows couple_input tile_of rows_of tile put_tile rows put_rows couple_column
     couple_skipped z = rw (z, couple_column, set_entry (list_start N t i k) t c 0 l room hc, put_same (tile_start N t i k) (t * t) m, put_same (tile_start N t k k) (t * t) m)
 
   module _ (k i : ℕ) where
     pub couple_computed : is_zero (couple_pivot t c (part (tile_start N t k k) (t * t) m) (part (tile_start N t i k) (t * t) m)).magnitude ≡ false
         → (e : ℕ) → e ≡ (couple_pivot t c (part (tile_start N t k k) (t * t) m) (part (tile_start N t i k) (t * t) m)).place
-        → computed (plan N t) (T-3 k i) c (record { matrix = m; lists = l })
+        → computed (plan N t) (t_3 k i) c (record { matrix = m; lists = l })
         ≡ eliminated_computes t t c (at t (upper_at t t c c e (tile_start N t k k) (tile_start N t i k) m) c) (lower_at t t c c e (tile_start N t k k) (tile_start N t i k) m)
     unfolding plan computed couple_input tile_of tile couple_computes upper_at lower_at eliminated_computes
     couple_computed nz e p = rw (p, nz, couple_computes)
 
     pub couple_none : is_zero (couple_pivot t c (part (tile_start N t k k) (t * t) m) (part (tile_start N t i k) (t * t) m)).magnitude ≡ true
-        → computed (plan N t) (T-3 k i) c (record { matrix = m; lists = l }) ≡ []
+        → computed (plan N t) (t_3 k i) c (record { matrix = m; lists = l }) ≡ []
     unfolding plan computed couple_input tile_of tile couple_computes
     couple_none z = rw (z, couple_computes)
 

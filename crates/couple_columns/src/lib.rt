@@ -2,7 +2,7 @@
 #![tactic(auto)]
 
 ghost use Rattle.std.specs.Prelude.{◌≡◌};
-ghost use Rattle.model.specs.Task.{T-3};
+ghost use Rattle.model.specs.Task.{t_3};
 ghost use Rattle.model.specs.Plan.{plan_of};
 ghost use Rattle.model.specs.Buffer.{ended_with, column_ends};
 ghost use Rattle.column_laws.specs.Workable.{Workable};
@@ -23,9 +23,9 @@ pub fn couple_column(
     i: usize,
     c: usize,
 ) -> ColumnEnd
-    requires { Workable z (T-3 k i) c matrix.old lists.old }
+    requires { Workable z (t_3 k i) c matrix.old lists.old }
     ensures { ended_with result (record { matrix = matrix.new; lists = lists.new })
-        ≡ column_ends (plan_of z) (T-3 k i) c (record { matrix = matrix.old; lists = lists.old }) }
+        ≡ column_ends (plan_of z) (t_3 k i) c (record { matrix = matrix.old; lists = lists.old }) }
 {
     let n = z.tiles;
     let t = z.side;

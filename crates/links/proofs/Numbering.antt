@@ -8,7 +8,7 @@ use native.Mathlib.Omega.{arith}
 use lib.ListN.{length, get_or}
 use borrow.Author.Tests.{eq-eqb, ne_eqb}
 use Rattle.model.specs.Lists.{run, below, joined}
-use Rattle.model.specs.Task.{Task, t_1, t_2, T-3, t_4, after, lower_row, stage, tasks}
+use Rattle.model.specs.Task.{Task, t_1, t_2, t_3, t_4, after, lower_row, stage, tasks}
 use Rattle.model.specs.Links.{task}
 use Rattle.laws.proofs.Blocks.{in_block}
 use Rattle.laws.proofs.Runs.{length_map_run, get_or_map_run, map_run}
@@ -27,7 +27,7 @@ module _ (a : Key) where
   unfolding task_at
   at_T_2 e f = rw (eq-eqb a.i a.k e, ne_eqb a.j a.k f)
 
-  pub at_T_3 : a.i ≢ a.k → a.j ≡ a.k → task_at a ≡ T-3 a.k a.i
+  pub at_T_3 : a.i ≢ a.k → a.j ≡ a.k → task_at a ≡ t_3 a.k a.i
   unfolding task_at
   at_T_3 e f = rw (ne_eqb a.i a.k e, eq-eqb a.j a.k f)
 
@@ -41,7 +41,7 @@ same_key a b e f g = λ t. key (e t) (f t) (g t)
 pub data Kind (a : Key) : Task → Type 0 where
   is_T_1 : a.i ≡ a.k → a.j ≡ a.k → Kind a (t_1 a.k)
   is_T_2 : a.i ≡ a.k → a.j ≢ a.k → Kind a (t_2 a.k a.j)
-  is_T_3 : a.i ≢ a.k → a.j ≡ a.k → Kind a (T-3 a.k a.i)
+  is_T_3 : a.i ≢ a.k → a.j ≡ a.k → Kind a (t_3 a.k a.i)
   is_T_4 : a.i ≢ a.k → a.j ≢ a.k → Kind a (t_4 a.k a.i a.j)
 
 pub kind : (a : Key) → Kind a (task_at a)
@@ -69,17 +69,17 @@ unfoldable pub row_of : ℕ → ℕ → ℕ → List Task
 row_of k w i = map (λ j. task_at (key k i j)) (run k w)
 
 module _ (k m : ℕ) where
-  lower : (i : ℕ) → suc k ≤ i → T-3 k i ∷ map (t_4 k i) (run (suc k) m) ≡ row_of k (suc m) i
+  lower : (i : ℕ) → suc k ≤ i → t_3 k i ∷ map (t_4 k i) (run (suc k) m) ≡ row_of k (suc m) i
   unfolding row_of run
   lower i l = λ t. one t ∷ rest t
     where
-      one : T-3 k i ≡ task_at (key k i k)
+      one : t_3 k i ≡ task_at (key k i k)
       one = sym (at_T_3 (key k i k) (omega arith) refl)
 
       rest : map (t_4 k i) (run (suc k) m) ≡ map (λ j. task_at (key k i j)) (run (suc k) m)
       rest = map_run (t_4 k i) (λ j. task_at (key k i j)) (suc k) m (λ j g b. sym (at_T_4 (key k i j) (omega arith) (omega arith)))
 
-  square : t_1 k ∷ map (t_2 k) (run (suc k) m) ++ rows (λ i. T-3 k i ∷ map (t_4 k i) (run (suc k) m)) (suc k) m ≡ rows (row_of k (suc m)) k (suc m)
+  square : t_1 k ∷ map (t_2 k) (run (suc k) m) ++ rows (λ i. t_3 k i ∷ map (t_4 k i) (run (suc k) m)) (suc k) m ≡ rows (row_of k (suc m)) k (suc m)
   unfolding row_of run joined
   square = λ t. one t ∷ two t ++ joined (more t)
     where
@@ -89,8 +89,8 @@ module _ (k m : ℕ) where
       two : map (t_2 k) (run (suc k) m) ≡ map (λ j. task_at (key k k j)) (run (suc k) m)
       two = map_run (t_2 k) (λ j. task_at (key k k j)) (suc k) m (λ j g b. sym (at_T_2 (key k k j) refl (omega arith)))
 
-      more : map (λ i. T-3 k i ∷ map (t_4 k i) (run (suc k) m)) (run (suc k) m) ≡ map (row_of k (suc m)) (run (suc k) m)
-      more = map_run (λ i. T-3 k i ∷ map (t_4 k i) (run (suc k) m)) (row_of k (suc m)) (suc k) m (λ i g b. lower i g)
+      more : map (λ i. t_3 k i ∷ map (t_4 k i) (run (suc k) m)) (run (suc k) m) ≡ map (row_of k (suc m)) (run (suc k) m)
+      more = map_run (λ i. t_3 k i ∷ map (t_4 k i) (run (suc k) m)) (row_of k (suc m)) (suc k) m (λ i g b. lower i g)
 
 module _ (N k : ℕ) where
   pub stage_rows : k < N → stage N k ≡ rows (row_of k (N - k)) k (N - k)

@@ -9,7 +9,7 @@ use native.Mathlib.Omega.{arith}
 use lib.Dec.{ltb}
 use lib.ListN.{length}
 use borrow.Author.Tests.{ltb-true, ltb-false}
-use Rattle.model.specs.Task.{Task, t_1, t_2, T-3, t_4, tasks, task_count}
+use Rattle.model.specs.Task.{Task, t_1, t_2, t_3, t_4, tasks, task_count}
 use Rattle.model.specs.Links.{task}
 use Rattle.links.specs.Closed.{Key, key, In, task_at, key_of, offset, squares, number, key_from, key_at, Before, by_stage, by_row, by_column}
 use Rattle.laws.proofs.Blocks.{in_block}
@@ -163,7 +163,7 @@ module _ (N : ℕ) where
 pub data Within (N : ℕ) : Task → Type 0 where
   within_1 : (k : ℕ) → k < N → Within N (t_1 k)
   within_2 : (k j : ℕ) → k < j → j < N → Within N (t_2 k j)
-  within_3 : (k i : ℕ) → k < i → i < N → Within N (T-3 k i)
+  within_3 : (k i : ℕ) → k < i → i < N → Within N (t_3 k i)
   within_4 : (k i j : ℕ) → k < i → i < N → k < j → j < N → Within N (t_4 k i j)
 
 within_kind : (N : ℕ) (a : Key) (t : Task) → In N a → Kind a t → Within N t

@@ -1,7 +1,7 @@
 -- The closed forms, for N by N tiles: a task as a triple, its number, the tasks linked to it, the latest writers of what it touches,
 -- and the tests that code makes of marks. Assumes nothing.
 use Rattle.std.specs.Prelude.{ℕ, zero, suc, ◌+◌, ◌-◌, ◌*◌, ◌/◌, ◌%◌, ◌≤◌, ◌<◌, Bool, cond, ◌&&◌, ◌||◌, List, [], ◌∷◌, ◌++◌, ◌≡◌, eqb, ltb}
-use Rattle.model.specs.Task.{Task, t_1, t_2, T-3, t_4, Place, A, low, list}
+use Rattle.model.specs.Task.{Task, t_1, t_2, t_3, t_4, Place, A, low, list}
 use Rattle.model.specs.Links.{mark, done, waiting, finished, broken}
 
 -- ---- a task as a triple
@@ -27,13 +27,13 @@ unfoldable pub task_at : Key → Task
 task_at a =
     cond (eqb a.i a.k)
     (cond (eqb a.j a.k) (t_1 a.k) (t_2 a.k a.j))
-    (cond (eqb a.j a.k) (T-3 a.k a.i) (t_4 a.k a.i a.j))
+    (cond (eqb a.j a.k) (t_3 a.k a.i) (t_4 a.k a.i a.j))
 
 -- the triple of a task
 unfoldable pub key_of : Task → Key
 key_of (t_1 k) = key k k k
 key_of (t_2 k j) = key k k j
-key_of (T-3 k i) = key k i k
+key_of (t_3 k i) = key k i k
 key_of (t_4 k i j) = key k i j
 
 -- ---- its number

@@ -7,7 +7,7 @@ use Rattle.model.specs.Lists.{every, part, with_part}
 use Rattle.model.specs.Num.{finite}
 use Rattle.model.specs.Tile.{at, all_finite, zeros, upper_filled}
 use Rattle.model.specs.Column.{Factored, Coupled, Paired, factor_pivot, factor_column, factor_computes, apply_column, apply_computes, couple_pivot, couple_column, couple_computes, pair_column, pair_computes, column_open}
-use Rattle.model.specs.Task.{Task, t_1, t_2, T-3, t_4, Place, is_list, touches}
+use Rattle.model.specs.Task.{Task, t_1, t_2, t_3, t_4, Place, is_list, touches}
 use Rattle.model.specs.Links.{taken, done, failed, spoiled}
 use Rattle.model.specs.Plan.{Plan, plan_open}
 
@@ -100,7 +100,7 @@ module _ (z : Plan) where
       let r = factor_column z.t c (factor_input s k) in
       with_tile k k r.tile (with_rows k k r.rows s)
   worked (t_2 k j) c s = with_tile k j (apply_column z.t z.t c (tile_of s k k) (rows_of s k k) (tile_of s k j)) s
-  worked (T-3 k i) c s =
+  worked (t_3 k i) c s =
       let r = couple_column z.t c (couple_input s k i) in
       with_tile k k r.upper (with_tile i k r.lower (with_rows i k r.rows s))
   worked (t_4 k i j) c s =
@@ -111,14 +111,14 @@ module _ (z : Plan) where
   unfoldable pub computed : Task → ℕ → Buffers → List Float
   computed (t_1 k) c s = factor_computes z.t c (factor_input s k)
   computed (t_2 k j) c s = apply_computes z.t z.t c (tile_of s k k) (rows_of s k k) (tile_of s k j)
-  computed (T-3 k i) c s = couple_computes z.t c (couple_input s k i)
+  computed (t_3 k i) c s = couple_computes z.t c (couple_input s k i)
   computed (t_4 k i j) c s = pair_computes z.t z.t c (tile_of s i k) (rows_of s i k) (pair_input s k i j)
 
   -- how many candidates of the column's pivot search tie with the winner (K7): only T-1 and T-3 search
   unfoldable pub column_ties : Task → ℕ → Buffers → ℕ
   column_ties (t_1 k) c s = (factor_pivot z.t c (tile_of s k k)).ties
   column_ties (t_2 k j) c s = 0
-  column_ties (T-3 k i) c s = (couple_pivot z.t c (tile_of s k k) (tile_of s i k)).ties
+  column_ties (t_3 k i) c s = (couple_pivot z.t c (tile_of s k k) (tile_of s i k)).ties
   column_ties (t_4 k i j) c s = 0
 
   -- every number computed is finite
@@ -148,7 +148,7 @@ module _ (z : Plan) where
   unfoldable pub filled : Task → Buffers → Buffers
   filled (t_1 k) s = fill_tile k k (fill_rows k k s)
   filled (t_2 k j) s = fill_tile k j s
-  filled (T-3 k i) s = fill_upper k (fill_tile i k (fill_rows i k s))
+  filled (t_3 k i) s = fill_upper k (fill_tile i k (fill_rows i k s))
   filled (t_4 k i j) s = fill_tile k j (fill_tile i j s)
 
   -- ---- column c of a task that is not spoiled: failed where a number computed isn't finite, else done after column t - 1, else still taken

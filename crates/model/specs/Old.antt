@@ -3,7 +3,7 @@
 -- Assumes nothing.
 use Rattle.std.specs.Prelude.{ℕ, Bool, true, false, not, ◌&&◌, ◌||◌, List, [], ◌∷◌, ◌++◌, map, length, set, Float}
 use Rattle.model.specs.Lists.{below, joined, some, keep, in_turn}
-use Rattle.model.specs.Task.{Task, t_1, t_2, T-3, t_4, Place, A, list, among}
+use Rattle.model.specs.Task.{Task, t_1, t_2, t_3, t_4, Place, A, list, among}
 use Rattle.model.specs.Links.{task, between, mark, spoiled, broken}
 use Rattle.model.specs.Plan.{Plan}
 use Rattle.model.specs.Buffer.{Ended, filled}
@@ -14,13 +14,13 @@ use Rattle.model.specs.Loops.{State, columns, start, loops_open}
 unfoldable pub old_reads : Task → List Place
 old_reads (t_1 k) = A k k ∷ list k k ∷ []
 old_reads (t_2 k j) = A k k ∷ list k k ∷ A k j ∷ []
-old_reads (T-3 k i) = A k k ∷ A i k ∷ list i k ∷ []
+old_reads (t_3 k i) = A k k ∷ A i k ∷ list i k ∷ []
 old_reads (t_4 k i j) = A i k ∷ list i k ∷ A k j ∷ A i j ∷ []
 
 unfoldable pub old_writes : Task → List Place
 old_writes (t_1 k) = A k k ∷ list k k ∷ []
 old_writes (t_2 k j) = A k j ∷ []
-old_writes (T-3 k i) = A k k ∷ A i k ∷ list i k ∷ []
+old_writes (t_3 k i) = A k k ∷ A i k ∷ list i k ∷ []
 old_writes (t_4 k i j) = A k j ∷ A i j ∷ []
 
 unfoldable pub old_touches : Task → List Place

@@ -8,7 +8,7 @@ use native.Mathlib.Omega.{arith}
 use lib.Dec.{eqb}
 use borrow.Author.Tests.{ne_eqb}
 use Rattle.model.specs.Lists.{some}
-use Rattle.model.specs.Task.{Task, t_1, t_2, T-3, t_4, Place, A, low, list, low_of, same, among, writes, tasks}
+use Rattle.model.specs.Task.{Task, t_1, t_2, t_3, t_4, Place, A, low, list, low_of, same, among, writes, tasks}
 use Rattle.model.specs.Links.{task, between, writer, latest_writer}
 use Rattle.model.specs.Old.{old_reads, old_writes, old_touches, old_writer, old_latest_writer, old_latest_writers}
 use Rattle.laws.proofs.Searches.{some_cong}
@@ -40,7 +40,7 @@ same_writes : (x : Place) → Whole x → (a : Task) → among x (writes a) ≡ 
 unfolding among some writes old_writes
 same_writes x h (t_1 k) = rw (not_low x k h)
 same_writes x h (t_2 k j) = refl
-same_writes x h (T-3 k i) = refl
+same_writes x h (t_3 k i) = refl
 same_writes x h (t_4 k i j) = rw (not_low_of x i j h)
 
 same_writer : (ts : List Task) (x : Place) → Whole x → (q : ℕ) → writer ts x q ≡ old_writer ts x q
@@ -104,7 +104,7 @@ module _ (a : Key) (x : Place) where
   unfolding old_writes old_reads
   written_read (t_1 k) m = m
   written_read (t_2 k j) m = inr (inr m)
-  written_read (T-3 k i) m = m
+  written_read (t_3 k i) m = m
   written_read (t_4 k i j) m = inr (inr m)
 
   touched : OneOf x (old_touches (task_at a)) → Touched

@@ -12,7 +12,7 @@ use Rattle.model.specs.Lists.{run, below}
 use Rattle.model.specs.Num.{is_zero, exceeds, same_magnitude}
 use Rattle.model.specs.Tile.{at}
 use Rattle.model.specs.Column.{candidate, tied, better, search_from, search, factor_candidates, factor_pivot, couple_candidates, couple_pivot}
-use Rattle.model.specs.Task.{Task, t_1, t_2, T-3, t_4}
+use Rattle.model.specs.Task.{Task, t_1, t_2, t_3, t_4}
 use Rattle.model.specs.Plan.{Plan}
 use Rattle.model.specs.Links.{task, taken, done, failed, spoiled, spoils}
 use Rattle.model.specs.Buffer.{Buffers, Ended, worked, filled, column_ties, sound, column_ends}
@@ -59,7 +59,7 @@ module _ (z : Plan) where
   unfolding column_ties
   ties_most (t_1 k) c s = factor_ties z.t c _
   ties_most (t_2 k j) c s = omega arith
-  ties_most (T-3 k i) c s = couple_ties z.t c _ _
+  ties_most (t_3 k i) c s = couple_ties z.t c _ _
   ties_most (t_4 k i j) c s = omega arith
 
   pub column_ties_most : (s : Lent) (p c : ℕ) → (column_of z s p c).ties ≤ z.t

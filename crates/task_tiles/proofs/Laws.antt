@@ -10,7 +10,7 @@ use Rattle.model.specs.declared.Sizes.{Sizes}
 use Rattle.model.specs.declared.TaskRecord.{TaskRecord}
 use Rattle.model.specs.Lists.{every}
 use Rattle.model.specs.Tile.{all_finite}
-use Rattle.model.specs.Task.{t_1, t_2, T-3, t_4, A, low, low_of, is_list, reads, writes, touches}
+use Rattle.model.specs.Task.{t_1, t_2, t_3, t_4, A, low, low_of, is_list, reads, writes, touches}
 use Rattle.model.specs.Plan.{plan, plan_of}
 use Rattle.model.specs.Buffer.{Buffers, tile, tile_of, finite_in, finite_tiles}
 use Rattle.laws.proofs.Every.{every_append}
@@ -41,7 +41,7 @@ module _ (z : Sizes) (m : List Float) (l : List ℕ) where
       go true false = refl
       go false y = refl
 
-  finite_3 : (k i : ℕ) → finite_tiles (plan_of z) (T-3 k i) s ≡ (F k k && F i k)
+  finite_3 : (k i : ℕ) → finite_tiles (plan_of z) (t_3 k i) s ≡ (F k k && F i k)
   unfolding finite_tiles finite_in tile_of touches reads writes is_list every plan
   finite_3 k i = go (F k k) (F i k)
     where
