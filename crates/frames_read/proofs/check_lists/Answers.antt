@@ -13,12 +13,8 @@ use Rattle.cursors.specs.declared.Step.{Step}
 use Rattle.cursors.specs.Steps.{CursorFits}
 use Rattle.frames_read.specs.Follow.{follow, row_frames}
 use Rattle.frames_read.proofs.Rows.{follow_placed, rows_none, rows_stop, rows_go_on}
+use Rattle.frames_read.proofs.check_lists.Invariants.{lists}
 use Rattle.frames_read.proofs.check_lists.Goals as goal
-
--- the lists of row i
-
-abbrev lists : ℕ → List Frame
-lists i = row_frames 3 (suc i) i
 
 whole : (t : ℕ) (text : List ℕ) (n : ℕ) (c : Cursor) → follow t text (joined (map lists (up_to 0 n))) c ≡ follow t text (list_frames n) c
 unfolding list_frames below
