@@ -52,8 +52,8 @@ pub loop-i-preserved : goal.loop-i-preserved
 loop-i-preserved c =
     let l = c.loop-i in (
       omega arith,
-      follow_placed _ _ _ _ _ l.invariant.1 (sym c.check_row.ensures ∙ c.next-1.given.1),
-      rows_go_on _ _ c.args.tiles l.i l.here c.loop-i-test.true lists l.invariant.2 (row_of _ _ _ _ _ c.check_row.ensures) c.next-1.given.1,
+      follow_placed _ _ _ _ _ l.invariant.1 (sym c.check_row.ensures ∙ c.in-Next.is),
+      rows_go_on _ _ c.args.tiles l.i l.here c.loop-i-test.true lists l.invariant.2 (row_of _ _ _ _ _ c.check_row.ensures) c.in-Next.is,
     )
 
 pub returns : goal.returns

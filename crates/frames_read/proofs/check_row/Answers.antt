@@ -44,8 +44,8 @@ pub loop-j-preserved : goal.loop-j-preserved
 loop-j-preserved c =
     let l = c.loop-j in (
       omega arith,
-      step_placed _ _ _ _ _ l.invariant.1 (sym c.check_line.ensures ∙ c.next-1.given.1),
-      row_goes_on _ _ c.args.count l.j l.here c.loop-j-test.true (frame c.args.kind c.args.i) l.invariant.2 c.check_line.ensures c.next-1.given.1,
+      step_placed _ _ _ _ _ l.invariant.1 (sym c.check_line.ensures ∙ c.in-Next.is),
+      row_goes_on _ _ c.args.count l.j l.here c.loop-j-test.true (frame c.args.kind c.args.i) l.invariant.2 c.check_line.ensures c.in-Next.is,
     )
 
 pub returns : goal.returns
