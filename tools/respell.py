@@ -105,7 +105,7 @@ def main(argv):
     snake = {n for n in own if spelled(n) == n and "_" in n}
     LEMMAS.update(n for n in own if "-" in n and spelled(n) in camel | snake and n not in FIXED)
     LEMMAS.update(snake & camel)
-    own = {n for n in own if turned(n) != n}
+    own = {n for n in own | set(FIXED) if turned(n) != n}
     sources = {}
     every = set()
     for c in crates:
@@ -118,6 +118,8 @@ def main(argv):
     fell = []
 
     def turn(path, text, pattern, crate, kept):
+        if path.endswith(".rt"):
+            kept = kept | set(sources[crate])  # a function of src/ keeps its name
         goals = {}
         if path.endswith("Proof.antt"):
             for m in re.finditer(r"^([^\s:]+) : tie\.Need-([^\s]+)", text, re.M):
@@ -136,7 +138,7 @@ def main(argv):
                 return goal_name(t, sources[crate])
             if t in goals and not projected:
                 return goals[t]
-            if t in kept and not projected:
+            if t in kept and (not projected or path.endswith(".rt")):
                 return t
             if t in own:
                 renamed[t] = turned(t)

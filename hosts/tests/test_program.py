@@ -1,4 +1,4 @@
-"""Tests of what the program says where it cannot read or write: target/bin/solumivaf, which rt check solumivaf builds.
+"""Tests of what the program says where it cannot read or write: target/bin/solumivaf, which hosts/build makes.
 
 usage: python3 -B -m unittest discover hosts/tests     (from the root)
 """

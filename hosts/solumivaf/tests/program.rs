@@ -14,7 +14,7 @@ fn printed(text: &[u8]) -> String {
         .stdin(Stdio::piped())
         .stdout(Stdio::piped())
         .spawn()
-        .expect("target/bin/solumivaf, which rt check solumivaf writes");
+        .expect("target/bin/solumivaf, which hosts/build makes");
     let _ = running.stdin.take().unwrap().write_all(text);
     let ended = running.wait_with_output().unwrap();
     assert!(ended.status.success());
