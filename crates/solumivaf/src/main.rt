@@ -2,55 +2,57 @@
 // in printing and input_due; here bytes are only moved, and what cannot be moved is said on standard error.
 #![tactic(auto)]
 
-ghost use Rattle.std.specs.Prelude.{◌≤◌, length};
+ghost use Rattle.std.specs.Prelude.{◌≡◌, ◌≤◌, IfOk, length};
 ghost use Rattle.solumivaf.specs.Input.{Within};
 
 use input_due::bytes_due;
-use libc::{EINTR, STDIN_FILENO, STDOUT_FILENO};
 use model::WriteAnswer;
 use printing::print_result;
+use std::io::{ErrorKind, Read, Write};
+use std::{io, str};
 
-// What was read: how many bytes, or that a read failed.
+// What was read: how many bytes, or why a read failed.
 #[derive(Clone, Copy)]
 pub enum Input {
     Bytes(usize),
-    Lost,
+    Lost(io::Error),
 }
 
 // One read, of at least a byte unless the input ends. A read that a signal interrupts is tried again; a proved loop ends, so this one counts its
-// turns down, from more than a run can use up.
-fn read_some(part: &mut [u8]) -> Input
+// turns, up to more than a run can use up.
+fn read_some(from: &mut impl Read, part: &mut [u8]) -> Input
     ensures { Within (length part.old) result }
 {
-    let mut turns = u64::MAX;
-    while turns > 0 {
-        let got = libc::read(STDIN_FILENO, part);
-        if got >= 0 {
-            return Input::Bytes(io::count(got, part));
+    for _ in 0..u64::MAX {
+        match from.read(part) {
+            Ok(n) => {
+                return Input::Bytes(n);
+            }
+            Err(why) => {
+                if why.kind() != ErrorKind::Interrupted {
+                    return Input::Lost(why);
+                }
+            }
         }
-        if os::errno() != EINTR {
-            return Input::Lost;
-        }
-        turns -= 1;
     }
-    Input::Lost
+    Input::Lost(io::Error::from(ErrorKind::Interrupted))
 }
 
 // Reads until the part is full or the input ends.
-fn read_full(part: &mut [u8]) -> Input
+fn read_full(from: &mut impl Read, part: &mut [u8]) -> Input
     ensures { Within (length part.new) result }
 {
     let mut done = 0;
     while done < part.len() {
-        match read_some(&mut part[done..]) {
+        match read_some(from, &mut part[done..]) {
             Input::Bytes(n) => {
                 if n == 0 {
                     return Input::Bytes(done);
                 }
                 done += n;
             }
-            Input::Lost => {
-                return Input::Lost;
+            Input::Lost(why) => {
+                return Input::Lost(why);
             }
         }
     }
@@ -58,63 +60,76 @@ fn read_full(part: &mut [u8]) -> Input
 }
 
 // Reads the input as far as it decides what is printed.
-fn read_due(buffer: &mut [u8]) -> Input
+fn read_due(from: &mut impl Read, buffer: &mut [u8]) -> Input
     requires { 38664 ≤ length buffer.old }
     ensures { Within (length buffer.old) result }
 {
-    match read_full(&mut buffer[..7]) {
+    match read_full(from, &mut buffer[..7]) {
         Input::Bytes(front) => {
             if front < 7 {
                 return Input::Bytes(front);
             }
             let due = bytes_due(&buffer[..7]);
-            match read_full(&mut buffer[7..due]) {
+            match read_full(from, &mut buffer[7..due]) {
                 Input::Bytes(n) => Input::Bytes(7 + n),
-                Input::Lost => Input::Lost,
+                Input::Lost(why) => Input::Lost(why),
             }
         }
-        Input::Lost => Input::Lost,
+        Input::Lost(why) => Input::Lost(why),
     }
 }
 
 // One write, of at least a byte unless it fails, tried again like a read.
-fn write_some(part: &[u8]) -> usize
-    ensures { result ≤ length part.now }
+fn write_some(to: &mut impl Write, part: &[u8]) -> io::Result<usize>
+    ensures { IfOk result (λ n. n ≤ length part.now) }
 {
-    let mut turns = u64::MAX;
-    while turns > 0 {
-        let put = libc::write(STDOUT_FILENO, part);
-        if put >= 0 {
-            return io::count(put, part);
+    for _ in 0..u64::MAX {
+        match to.write(part) {
+            Ok(n) => {
+                return Ok(n);
+            }
+            Err(why) => {
+                if why.kind() != ErrorKind::Interrupted {
+                    return Err(why);
+                }
+            }
         }
-        if os::errno() != EINTR {
-            return 0;
-        }
-        turns -= 1;
     }
-    0
+    Err(io::Error::from(ErrorKind::Interrupted))
 }
 
-// Writes all of the text, and tells whether it could.
-fn write_full(text: &[u8]) -> bool {
+// Writes all of the text, or tells why it could not.
+fn write_full(to: &mut impl Write, text: &[u8]) -> io::Result<()> {
     let mut done = 0;
     while done < text.len() {
-        let put = write_some(&text[done..]);
+        let put = write_some(to, &text[done..])?;
         if put == 0 {
-            return false;
+            return Err(io::Error::from(ErrorKind::WriteZero));
         }
         done += put;
     }
-    true
+    Ok(())
+}
+
+// Says in one line on standard error what went wrong, and why in the system's words, without the number that the system gives it.
+fn fail(rt: &impl Eprint, what: &str, why: io::Error) {
+    let mut line = [0u8; 256];
+    let mut room: &mut [u8] = &mut line;
+    let _ = write!(room, "{why}");
+    let reason = match str::from_utf8(&line) {
+        Ok(words) => words.split(" (os error ").next().unwrap_or(words),
+        Err(_) => "",
+    };
+    let _ = eprintln!(rt; "{what}: {reason}");
 }
 
 // Prints what a text gives.
-fn print(text: &[u8]) {
-    let mut output = io::large_buffer();
+fn print(rt: &(impl Print + Eprint), text: &[u8]) {
+    let mut output = [0; 65536];
     match print_result(text, &mut output) {
         WriteAnswer::Written(k) => {
-            if !write_full(&output[..k]) {
-                os::fail(b"solumivaf: the output is incomplete");
+            if let Err(why) = write_full(&mut io::writer(rt), &output[..k]) {
+                fail(rt, "solumivaf: the output is incomplete", why);
             }
         }
         // Never: the buffer has room for all that is printed.
@@ -122,10 +137,10 @@ fn print(text: &[u8]) {
     }
 }
 
-fn main() {
-    let mut input = io::large_buffer();
-    match read_due(&mut input) {
-        Input::Bytes(n) => print(&input[..n]),
-        Input::Lost => os::fail(b"solumivaf: standard input could not be read"),
+fn main(rt: HostRuntime) {
+    let mut input = [0; 65536];
+    match read_due(&mut rt.stdin(), &mut input) {
+        Input::Bytes(n) => print(&rt, &input[..n]),
+        Input::Lost(why) => fail(&rt, "solumivaf: standard input could not be read", why),
     }
 }
