@@ -113,13 +113,11 @@ fn write_full(to: &mut impl Write, text: &[u8]) -> io::Result<()> {
 
 // Says in one line on standard error what went wrong, and why in the system's words, without the number that the system gives it.
 fn fail(rt: &impl Eprint, what: &str, why: io::Error) {
-    let mut line = [0u8; 256];
+    let mut line = [b' '; 256];
     let mut room: &mut [u8] = &mut line;
     let _ = write!(room, "{why}");
-    let reason = match str::from_utf8(&line) {
-        Ok(words) => words.split(" (os error ").next().unwrap_or(words),
-        Err(_) => "",
-    };
+    let words = str::from_utf8(&line).unwrap_or("").trim_end();
+    let reason = words.split(" (os error ").next().unwrap_or(words);
     let _ = eprintln!(rt; "{what}: {reason}");
 }
 
