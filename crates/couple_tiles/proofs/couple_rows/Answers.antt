@@ -1,5 +1,4 @@
 -- `couple_rows` meets its contract: an exchange by the entry, then row c of the upper tile eliminated from all lower rows. Assumes nothing.
-use borrow.Author.Rules.{rules}
 use mathlib.Core.Path.{refl}
 use native.Mathlib.Omega.{arith}
 use Rattle.column_laws.proofs.Exchanges.{row_apart}

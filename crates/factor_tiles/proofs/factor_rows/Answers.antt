@@ -1,5 +1,4 @@
 -- `factor_rows` meets its contract: rows c and y exchanged, then row c eliminated from the rows below. Assumes nothing.
-use borrow.Author.Rules.{rules}
 use mathlib.Core.Path.{◌≡◌, refl}
 use mathlib.Core.Logic.{inl}
 use Prim.Native.Nat.{suc, ◌+◌, ◌-◌, ◌*◌}
