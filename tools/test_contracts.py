@@ -38,12 +38,12 @@ def free_functions():
         yield from filter(contracts.is_free, contracts.functions_of(crate))
 
 
-def with_requires(text, name):
-    """A source in which the function of that name requires something."""
+def with_requires(text, name, clause):
+    """A source in which the function of that name requires something, in a clause that has a name, or has none."""
     start = re.search(r"\bfn %s\s*\(" % name, text).end() - 1
     after = contracts.group_end(text, start, "(", ")")
     place = re.compile(r"\bensures\b|\{").search(text, after).start()
-    return text[:place] + "requires { ⌜ 1 ≤ 0 ⌝ }\n    " + text[place:]
+    return text[:place] + "requires%s { 1 ≤ 0 }\n    " % clause + text[place:]
 
 
 class Promises(unittest.TestCase):
@@ -52,8 +52,8 @@ class Promises(unittest.TestCase):
 
     def test_nothing_is_promised_under_a_condition(self):
         found = [(function.path, contracts.said(clause)) for function in free_functions() for clause in function.clauses if "→" in clause]
-        self.assertEqual(found, [("input_due::bytes_due", "((text : List ℕ) → take 7 text ≡ take 7 (now (front .entry)) "
-                                                          "→ program (take r text) ≡ program text)")])
+        self.assertEqual(found, [("input_due::bytes_due", "(text : List ℕ) → take 7 text ≡ take 7 front.now "
+                                                          "→ program (take result text) ≡ program text")])
 
     def test_all_that_is_promised_is_free(self):
         free = {function.path for function in free_functions()}
@@ -72,28 +72,41 @@ class Promises(unittest.TestCase):
             self.assertIn(path, free)
 
     def test_a_requires_is_found(self):
-        for function in free_functions():
+        for at, function in enumerate(free_functions()):
             with self.subTest(function.path), tempfile.TemporaryDirectory() as root:
                 source = os.path.join(root, "crates", function.crate, "src")
                 shutil.copytree(os.path.join(ROOT, "crates", function.crate, "src"), source)
                 self.assertEqual([], contracts.narrowed(root))
                 path = os.path.join(source, *(function.path.split("::")[1:-1] or ["lib"])) + ".rt"
                 with open(path, encoding="utf-8") as file:
-                    text = with_requires(file.read(), function.name)
+                    text = with_requires(file.read(), function.name, ("", " bounded")[at % 2])
                 with open(path, "w", encoding="utf-8") as file:
                     file.write(text)
                 found = contracts.narrowed(root)
                 self.assertEqual([function.path], [other.path for other in found])
                 self.assertEqual("1 ≤ 0", contracts.said(found[0].needs[0]))
 
-    def test_no_requires_is_overlooked(self):
+    def test_no_clause_is_overlooked(self):
+        for clause in ["requires { 1 ≤ 0 }", "requires bounded { 1 ≤ 0 }", "ensures { result ≡ 0 }", "ensures zero { result ≡ 0 }"]:
+            with self.subTest(clause), tempfile.TemporaryDirectory() as root:
+                source = os.path.join(root, "crates", "strange", "src")
+                os.makedirs(source)
+                with open(os.path.join(source, "lib.rt"), "w", encoding="utf-8") as file:
+                    file.write("pub strange fn run()\n    %s\n{}\n" % clause)
+                with self.assertRaises(contracts.Bad):
+                    contracts.narrowed(root)
+
+    def test_clauses_are_told_apart(self):
+        """Each clause of a function is found by itself, with a name or without one, whatever braces it holds."""
         with tempfile.TemporaryDirectory() as root:
-            source = os.path.join(root, "crates", "strange", "src")
+            source = os.path.join(root, "crates", "plain", "src")
             os.makedirs(source)
             with open(os.path.join(source, "lib.rt"), "w", encoding="utf-8") as file:
-                file.write("pub strange fn run()\n    requires { ⌜ 1 ≤ 0 ⌝ }\n{}\n")
-            with self.assertRaises(contracts.Bad):
-                contracts.narrowed(root)
+                file.write("pub fn one<T: Fn(u8) -> Vec<u8>>(x: &mut [T]) -> usize\n    requires first { x.old ≡ record { a = 1; } }\n"
+                           "    requires { 1 ≤ 2 }\n    ensures kept { x.new ≡ x.old }\n    ensures { result ≡ 0 }\n{\n    0\n}\n")
+            function, = contracts.functions_of("plain", root)
+            self.assertEqual([contracts.said(need) for need in function.needs], ["x.old ≡ record { a = 1; }", "1 ≤ 2"])
+            self.assertEqual([contracts.said(clause) for clause in function.clauses], ["x.new ≡ x.old", "result ≡ 0"])
 
 
 if __name__ == "__main__":

@@ -1,12 +1,11 @@
 -- How a column ends: from what the inner steps promise to the definition of a column's end. Assumes nothing.
 use mathlib.Core.Path.{◌≡◌, refl, sym, ◌∙◌, ap}
 use mathlib.Core.Logic.{inr}
-use mathlib.Core.Bool.{Bool, true, false, cond}
+use mathlib.Core.Bool.{Bool, true, false}
 use mathlib.Core.List.{List}
-use Prim.Native.Nat.{ℕ, suc, ◌+◌, ◌*◌, ◌<◌, ◌≤◌}
+use Prim.Native.Nat.{ℕ, ◌+◌, ◌*◌, ◌<◌, ◌≤◌}
 use native.Mathlib.Nat.{zero-add}
 use native.Mathlib.Omega.{arith}
-use lib.Dec.{eqb}
 use lib.ListN.{length, get_or, set, replicate, length-replicate}
 use lib.Ieee.{Float, nan}
 use Rattle.model.specs.declared.ColumnEnd.{ColumnEnd}
@@ -18,7 +17,6 @@ use Rattle.model.specs.Tile.{at, zeros, upper_filled}
 use Rattle.model.specs.Column.{apply_start, factor_pivot, couple_pivot}
 use Rattle.model.specs.Best.{FactorTold, CoupleTold}
 use Rattle.model.specs.Task.{Task, t_1, t_2, t_3, t_4}
-use Rattle.model.specs.Links.{taken, done}
 use Rattle.model.specs.Plan.{Plan, plan}
 use Rattle.model.specs.Buffer.{Buffers, tile, put_tile, put_rows, tile_of, with_tile, with_rows, worked, column_ties, sound, fill_tile, fill_rows, fill_upper, filled, column_ends, Completed, ended_with}
 use Rattle.laws.specs.Apart.{Apart}

@@ -7,7 +7,6 @@ use native.Mathlib.Omega.{arith}
 use lib.ListN.{length, take, drop, length-take, length-drop, take-append-drop}
 use lib.Seq.{get_or-drop, get_or-take, take-take, drop-drop, take-add, drop-append-le, ext_get_or}
 use Rattle.model.specs.Lists.{part, with_part}
-use Rattle.model.specs.Tile.{at}
 use Rattle.laws.proofs.Parts.{length_part, get_part}
 
 module _ {A : Type 0} (a n : ℕ) (m : List A) (room : a + n ≤ length m) where

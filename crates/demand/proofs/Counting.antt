@@ -77,13 +77,13 @@ module _ (z : Sizes) (σ : ℕ → Val) (q : ℕ) where
         mine = omega (arith, k.mine, each q);
       }
 
-  pub move_counted : {n p : ℕ} {s s' : Lent} → Counted n s → Move z s s' p → Counted (n + cond (eqb p q) 1 0) s'
+  pub move_counted : {n : ℕ} {s s' : Lent} {p : ℕ} → Counted n s → Move z s s' p → Counted (n + cond (eqb p q) 1 0) s'
   unfolding about abs took advanced
-  move_counted {n} {p} {s} k (takes w p' hw hb hp hr) =
+  move_counted {n = n} {s = s} k (takes w p' hw hb hp hr) =
       let r = k.reach in
       counts n p' s (took (plan_of z) w p' s) k (move_reach z σ q r (takes w p' hw hb hp hr)) (take w p') hp (may_take z σ q s w p' hw hb hp hr)
       (took_is z s r.whole.stated w p' hw hp) (λ j. refl) refl
-  move_counted {n} {p} {s} k (works w hw hb) =
+  move_counted {n = n} {s = s} k (works w hw hb) =
       let r = k.reach in
       let a = r.whole.held w hw hb in
       counts n (worker s w).task s (advanced (plan_of z) w s) k (move_reach z σ q r (works w hw hb)) (column w) a.task (may_column z σ q s w hw hb)

@@ -103,7 +103,7 @@ module _ (z : Sizes) (σ : ℕ → Val) (q : ℕ) where
   may_column s w hw hb = and_intro (ltb w z.workers) (not (is_idle (worker_of (worker s w)))) (lt-ltb w z.workers hw)
       (ap (λ (y : Worker). not (is_idle y)) (busy_of (worker s w) hb))
 
-  pub move_reach : {n p : ℕ} {s s' : Lent} → Reach n s → Move z s s' p → Reach (n + cond (eqb p q) 1 0) s'
+  pub move_reach : {n : ℕ} {s s' : Lent} {p : ℕ} → Reach n s → Move z s s' p → Reach (n + cond (eqb p q) 1 0) s'
   unfolding about abs
   move_reach {n = n} {s = s} r (takes w p hw hb hp hr) =
       grows n s (took (plan_of z) w p s) r (take w p) (may_take s w p hw hb hp hr) (move_whole r.whole (takes w p hw hb hp hr))

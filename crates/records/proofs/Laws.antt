@@ -83,4 +83,4 @@ crew_set slots W w v h l =
 
 -- the slots of workers that are handed over have the length of what the machine holds for them
 pub length_slots : (ws : Workers) (n : ℕ) → length ((Ws.the_type).to ws).0 ≡ n → length ws.slots ≡ n
-length_slots ws n e = sym (length-map ws.slots _) ∙ e
+length_slots ws n e = e

@@ -100,9 +100,9 @@ hex_of_value (d ∷ ds) v e =
     let w = v * 16 + q in
     let x = value ds w in
     let n = length ds in
-    let is_digit = and_left (is_digit d) (every is_digit ds) e in
+    let first = and_left (is_digit d) (every is_digit ds) e in
     let rest = and_right (is_digit d) (every is_digit ds) e in
     let top : x / 16 ^ n ≡ w = ap (λ (k : ℕ). k / 16 ^ n) (value_behind ds w) ∙ digits_div w (value_below ds rest) in
-    let last : w % 16 ≡ q = mul-add-mod_self_right v 16 q ∙ mod-eq_of_lt (value_lt d is_digit) in
-    ap (λ (k : ℕ). digit (k % 16) ∷ hex n x) top ∙ ap (λ (k : ℕ). digit k ∷ hex n x) last ∙ ap (λ (k : ℕ). k ∷ hex n x) (digit_value_lem d is_digit)
+    let last : w % 16 ≡ q = mul-add-mod_self_right v 16 q ∙ mod-eq_of_lt (value_lt d first) in
+    ap (λ (k : ℕ). digit (k % 16) ∷ hex n x) top ∙ ap (λ (k : ℕ). digit k ∷ hex n x) last ∙ ap (λ (k : ℕ). k ∷ hex n x) (digit_value_lem d first)
     ∙ ap (λ (l : List ℕ). d ∷ l) (hex_of_value ds w rest)

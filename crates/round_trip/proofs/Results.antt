@@ -1,4 +1,4 @@
--- Result files. What is written of a result is read back (result-read), and what was read from an accepted text is written with the same bytes (result-again).
+-- Result files. What is written of a result is read back (result_read), and what was read from an accepted text is written with the same bytes (result_again).
 -- Assumes nothing.
 use mathlib.Core.Path.{◌≡◌, refl, sym, ap, ◌∙◌, subst}
 use mathlib.Core.Bool.{Bool, false, cond, ◌||◌}
@@ -140,7 +140,7 @@ module _ (N t : ℕ) (m : List Float) (l : List ℕ) (o : Outcome) (shape : bad_
       let lined : Each Line ls = each_append Line (each_append Line (tiles_lined N t m) (each_grid Line rising (λ i j. row_line i j (rows N t l i j)) N (λ i j hi hj. row_lined i j (rows N t l i j)))) (cons (outcome_lined o) nil) in
       let cutted : lines_from [] (result_text (plan N t) (record { matrix = m; lists = l }) o) ≡ h ∷ ls =
       ap (lines_from []) (result_lines_lem N t m l o) ∙ lines_of (more (header_lined N t) (lines_all lined)) in
-      let lines : lines_answer t 2 (result_frames N) ls ≡ Accepted = subst (λ (x : List (List ℕ)). lines_answer t 2 (result_frames N) x ≡ Accepted) texts (accepted t 2 text all_fine) in
+      let lines : lines_answer t 2 (result_frames N) ls ≡ Accepted = subst (λ (x : List (List ℕ)). lines_answer t 2 (result_frames N) x ≡ Accepted) texts (accepted t text 2 all_fine) in
       ap (λ (x : List (List ℕ)). result_reading (file_answer no_limit result_frames bad x) x m₀ l₀) cutted
       ∙ ap (λ (a : Answer). result_reading a (h ∷ ls) m₀ l₀) (file_accepted no_limit result_frames bad N t ls shape (no_limit_lem N t r) right lines)
       ∙ rw (header_tiles N t small_N, header_side N t small_t, outcome_there, outcome_read o place, matrix_read N t m shape wm ls (rw (length-append, length-append) (omega (arith, length_tiles N t m))) tile_there, lists_read N t l wl ls (λ i j hi hj. ap (entries_in t) (list_there i j hi hj) ∙ row_read N t l wl i j hi (omega arith) small_t))

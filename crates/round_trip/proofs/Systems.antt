@@ -1,4 +1,4 @@
--- System files. What is written of a system is read back (system-read), and what was read from an accepted text is written with the same bytes (system-again).
+-- System files. What is written of a system is read back (system_read), and what was read from an accepted text is written with the same bytes (system_again).
 -- Assumes nothing.
 use mathlib.Core.Path.{◌≡◌, refl, sym, ap, ◌∙◌, subst}
 use mathlib.Core.Bool.{Bool, false, not, ◌||◌}
@@ -131,7 +131,7 @@ module _ (N t : ℕ) (m : List Float) (shape : bad_shape N t ≡ false) (w : Mat
       let r = range N t shape in
       let cutted : lines_from [] (system_text (plan N t) (record { matrix = m; lists = l })) ≡ h ∷ ls =
       ap (lines_from []) (system_lines N t m l) ∙ lines_of (more (header_lined N t) (lines_all (tiles_lined N t m))) in
-      let lines : lines_answer t 2 (tile_frames N) ls ≡ Accepted = subst (λ (x : List (List ℕ)). lines_answer t 2 (tile_frames N) x ≡ Accepted) tile_texts (accepted t 2 (tile_text N t m) tiles_fine) in
+      let lines : lines_answer t 2 (tile_frames N) ls ≡ Accepted = subst (λ (x : List (List ℕ)). lines_answer t 2 (tile_frames N) x ≡ Accepted) tile_texts (accepted t (tile_text N t m) 2 tiles_fine) in
       ap (λ (x : List (List ℕ)). system_reading (file_answer no_limit system_frames bad x) x m₀) cutted
       ∙ ap (λ (a : Answer). system_reading a (h ∷ ls) m₀) (file_accepted no_limit system_frames bad N t ls shape (no_limit_lem N t r) b lines)
       ∙ rw (header_tiles N t (omega (arith, r.tiles)), header_side N t (omega (arith, r.side)), matrix_read ls (omega (arith, length_tiles N t m)) (tile_at_lem N t m))

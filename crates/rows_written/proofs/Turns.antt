@@ -106,7 +106,7 @@ triangle_more i = rw add-one
 triangle_below : (n i : ℕ) → i < n → triangle i + (i + 1) ≤ triangle n
 unfolding triangle
 triangle_below zero i h = absurd (omega arith)
-triangle_below (suc n) i h = ⊎_elim (λ l. omega (arith, triangle_below n i l)) (λ g. let e : i ≡ n = omega arith in rw e (omega arith)) (lt_or_le i n)
+triangle_below (suc n) i h = ⊎_elim (λ l. omega (arith, triangle_below n i l)) (λ (g : n ≤ i). let e : i ≡ n = omega arith in rw e (omega arith)) (lt_or_le i n)
 
 pub lists_more : (i c : ℕ) → triangle (i + 1) * c ≡ triangle i * c + (i + 1) * c
 lists_more i c = ap (λ (k : ℕ). k * c) (triangle_more i) ∙ add-mul (triangle i) (i + 1) c

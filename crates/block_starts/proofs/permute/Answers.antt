@@ -1,8 +1,7 @@
 -- `permute` meets its contract: after c turns the exchanges of the entries from c on are left. Assumes nothing.
-use borrow.Author.Rules.{rules}
 use native.Mathlib.Omega.{arith}
-use Prim.Native.Nat.{◌+◌, ◌-◌, ◌*◌, ◌<◌, ◌≤◌}
-use Rattle.column_laws.proofs.Permutes.{rows_exchangeable, Permuting, permute_none, permute_more, permute_all}
+use Prim.Native.Nat.{◌+◌, ◌*◌, ◌<◌, ◌≤◌}
+use Rattle.column_laws.proofs.Permutes.{rows_exchangeable, permute_none, permute_more, permute_all}
 use Rattle.laws.proofs.Blocks.{row_end}
 use Rattle.block_starts.proofs.permute.Goals as goal
 

@@ -1,5 +1,4 @@
 -- `start_block` meets its contract: column 0 makes the exchanges, any other none. Assumes nothing.
-use borrow.Author.Rules.{rules}
 use Rattle.model.specs.Lists.{part}
 use Rattle.column_laws.proofs.Permutes.{start_first, start_later}
 use Rattle.block_starts.proofs.start_block.Goals as goal

@@ -1,7 +1,6 @@
 -- `digits_written::bits_of` meets its contract: only a NaN differs from itself. Assumes nothing.
 use mathlib.Core.Path.{◌≡◌, sym, ap, subst}
 use mathlib.Core.Bool.{true}
-use borrow.Author.Rules.{rules}
 use lib.Dec.{T}
 use lib.Ieee.{Float, binary64, to_bits, ne}
 use lib.Ieee.Compare.{differs_from_itself}

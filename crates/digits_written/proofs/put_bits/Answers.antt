@@ -7,7 +7,7 @@ use lib.ListN.{length, get_or}
 use Rattle.model.specs.Lists.{table}
 use Rattle.model.specs.Text.{digit}
 use Rattle.laws.proofs.Blocks.{length_table, get_or_table}
-use Rattle.digits_written.proofs.Put.{Hexed, hexed_none, hexed_more, hexed_all, put_length}
+use Rattle.digits_written.proofs.Put.{hexed_none, hexed_more, hexed_all, put_length}
 use Rattle.digits_written.proofs.put_bits.Goals as goal
 
 long : (l : List ℕ) → l ≡ table 16 digit → length l ≡ 16

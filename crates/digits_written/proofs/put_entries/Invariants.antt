@@ -1,12 +1,9 @@
 -- `digits_written::put_entries` meets its contract: after k turns the first k entries are written. Assumes nothing.
-use mathlib.Core.Path.{◌≡◌, refl, ◌∙◌}
 use mathlib.Core.List.{map}
-use Prim.Native.Nat.{◌+◌, ◌-◌, ◌*◌, ◌≤◌}
-use native.Mathlib.Omega.{arith}
+use Prim.Native.Nat.{◌-◌, ◌*◌, ◌≤◌}
 use Rattle.model.specs.Lists.{joined, part}
 use Rattle.model.specs.Text.{hex}
-use Rattle.digits_written.proofs.Put.{Put, put_length, length_hex}
-use Rattle.digits_written.proofs.Pieces.{part_none, part_more}
+use Rattle.digits_written.proofs.Put.{Put}
 use Rattle.digits_written.proofs.put_entries.Given as goal
 
 abbrev pub invariant-loop-k : goal.invariant-loop-k

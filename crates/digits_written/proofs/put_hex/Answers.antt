@@ -1,6 +1,6 @@
 -- `digits_written::put_hex` meets its contract: the digits are written from the lowest on. Assumes nothing.
 use native.Mathlib.Omega.{arith}
-use Rattle.digits_written.proofs.Put.{Hexed, hexed_none, hexed_more, hexed_all, put_length}
+use Rattle.digits_written.proofs.Put.{hexed_none, hexed_more, hexed_all, put_length}
 use Rattle.digits_written.proofs.put_hex.Goals as goal
 
 pub loop-left-init : goal.loop-left-init

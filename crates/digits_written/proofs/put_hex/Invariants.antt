@@ -1,6 +1,5 @@
 -- `digits_written::put_hex` meets its contract: the digits are written from the lowest on. Assumes nothing.
-use native.Mathlib.Omega.{arith}
-use Rattle.digits_written.proofs.Put.{Hexed, hexed_none, hexed_more, hexed_all, put_length}
+use Rattle.digits_written.proofs.Put.{Hexed}
 use Rattle.digits_written.proofs.put_hex.Given as goal
 
 abbrev pub invariant-loop-left : goal.invariant-loop-left

@@ -1,13 +1,11 @@
 -- `digits_written::put_numbers` meets its contract: after k turns the first k numbers are written. Assumes nothing.
-use borrow.Author.Rules.{rules}
 use mathlib.Core.Path.{◌≡◌, refl, ◌∙◌}
-use mathlib.Core.List.{map}
-use Prim.Native.Nat.{◌+◌, ◌-◌, ◌*◌, ◌≤◌}
+use Prim.Native.Nat.{◌+◌, ◌*◌}
 use native.Mathlib.Omega.{arith}
 use lib.Ieee.{nan}
-use Rattle.model.specs.Lists.{joined, part, run, below, table}
+use Rattle.model.specs.Lists.{run, below, table}
 use Rattle.model.specs.Text.{bits, digit}
-use Rattle.digits_written.proofs.Put.{Put, put_length}
+use Rattle.digits_written.proofs.Put.{put_length}
 use Rattle.digits_written.proofs.Pieces.{part_none, part_more, length_bits}
 use Rattle.digits_written.proofs.put_numbers.Goals as goal
 

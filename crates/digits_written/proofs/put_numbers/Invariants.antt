@@ -1,14 +1,10 @@
 -- `digits_written::put_numbers` meets its contract: after k turns the first k numbers are written. Assumes nothing.
-use borrow.Author.Rules.{rules}
-use mathlib.Core.Path.{◌≡◌, refl, ◌∙◌}
+use mathlib.Core.Path.{◌≡◌}
 use mathlib.Core.List.{map}
-use Prim.Native.Nat.{◌+◌, ◌-◌, ◌*◌, ◌≤◌}
-use native.Mathlib.Omega.{arith}
-use lib.Ieee.{nan}
-use Rattle.model.specs.Lists.{joined, part, run, below, table}
+use Prim.Native.Nat.{◌-◌, ◌*◌, ◌≤◌}
+use Rattle.model.specs.Lists.{joined, part, table}
 use Rattle.model.specs.Text.{bits, digit}
-use Rattle.digits_written.proofs.Put.{Put, put_length}
-use Rattle.digits_written.proofs.Pieces.{part_none, part_more, length_bits}
+use Rattle.digits_written.proofs.Put.{Put}
 use Rattle.digits_written.proofs.put_numbers.Given as goal
 
 abbrev pub invariant-loop-k : goal.invariant-loop-k

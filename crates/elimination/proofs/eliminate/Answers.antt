@@ -4,7 +4,6 @@ use mathlib.Core.Bool.{true}
 use Prim.Native.Nat.{ℕ, ◌+◌, ◌*◌, ◌-◌, ◌%◌, ◌≤◌}
 use native.Mathlib.Omega.{arith}
 use lib.Ieee.{of_bits}
-use borrow.Author.Tests.{not-true, not-false}
 use Rattle.laws.proofs.Blocks.{row_end}
 use Rattle.model.specs.Num.{quotient, is_zero}
 use Rattle.row_updates.proofs.Done.{done_none}
@@ -94,14 +93,13 @@ unfolding of_bits is_zero quotient
 rows-preserved-then-by c =
     let a = c.args in
     let b = c.requires.rows in
-    let h = (c.requires.m_value, c.requires.by_index) in
     let rows = c.rows in
     let row = c.rows-test.true in (
       omega arith,
       rows.invariant.1,
       gone_more _ _ _ _ _ b.column _ b.room b.apart _ row _ rows.invariant.2 _ refl _
           (row_unchanged _ _ _ _ _ _ c.if-by.true
-          (divided_finite _ _ _ _ _ b.column _ b.room b.apart _ row _ rows.invariant.2 _ refl (λ q l. row_finite _ _ _ _ _ b.column _ b.room b.apart h.0 h.1 _ q row l) (h.1 _ row))),
+          (divided_finite _ _ _ _ _ b.column _ b.room b.apart _ row _ rows.invariant.2 _ refl (λ q l. row_finite _ _ _ _ _ b.column _ b.room b.apart c.requires.m_value c.requires.by_index _ q row l) (c.requires.by_index _ row))),
     )
 
 pub overflow_add-q : goal.overflow_add-q
@@ -141,7 +139,7 @@ loop-q-preserved c =
       omega arith,
       l.invariant.2,
       row_more _ _ _ _ _ _ _ l.invariant.3 _ _ _ c.row_one.ensures l.invariant.0 (λ k h. top_clear _ _ _ _ c.requires.rows.apart _ row _ (omega arith) _ (omega arith))
-          (not-false c.row_one.result c.if-not-row_one.false),
+          c.if-not-row_one.false,
     )
 
 pub loop-q-2-init : goal.loop-q-2-init
@@ -178,7 +176,7 @@ loop-q-2-preserved c =
       l.invariant.2,
       omega arith,
       row_more _ _ _ _ _ _ _ l.invariant.4 _ _ _ c.row_four.ensures l.invariant.0 (λ k h. top_clear _ _ _ _ c.requires.rows.apart _ row _ (omega arith) _ (omega arith))
-          (not-false c.row_four.result c.if-not-row_four.false),
+          c.if-not-row_four.false,
     )
 
 pub overflow_add-r-in-rows : goal.overflow_add-r-in-rows
@@ -225,7 +223,7 @@ returns-then-not-row_one c =
     let row = c.rows-test.true in
     let l = c.loop-q in
     gone_stop _ _ _ _ _ b.column _ b.room b.apart c.requires.m_value c.requires.by_index _ row _ c.rows.invariant.2 _ refl _ _ _ _ _ l.invariant.3 c.row_one.ensures
-    (λ k h. top_clear _ _ _ _ b.apart _ row _ (omega arith) _ (omega arith)) l.invariant.0 (omega arith) (not-true c.row_one.result c.if-not-row_one.true)
+    (λ k h. top_clear _ _ _ _ b.apart _ row _ (omega arith) _ (omega arith)) l.invariant.0 (omega arith) c.if-not-row_one.true
 
 pub shape_of-m-then-not-row_four : goal.shape_of-m-then-not-row_four
 unfolding quotient
@@ -241,4 +239,4 @@ returns-then-not-row_four c =
     let four = c.loop-q-2 in
     gone_stop _ _ _ _ _ b.column _ b.room b.apart c.requires.m_value c.requires.by_index _ row _ c.rows.invariant.2 _ refl _ _ _ _ _
     (row_join _ _ _ _ _ _ _ l.invariant.3 _ _ l.invariant.0 four.invariant.0 (λ k g h. top_clear _ _ _ _ b.apart _ row _ (omega arith) _ (omega arith)) four.invariant.4) c.row_four.ensures
-    (λ k h. top_clear _ _ _ _ b.apart _ row _ (omega arith) _ (omega arith)) (omega arith) (omega arith) (not-true c.row_four.result c.if-not-row_four.true)
+    (λ k h. top_clear _ _ _ _ b.apart _ row _ (omega arith) _ (omega arith)) (omega arith) (omega arith) c.if-not-row_four.true

@@ -4,7 +4,6 @@ use mathlib.Core.Bool.{true}
 use Prim.Native.Nat.{ℕ, ◌+◌, ◌*◌, ◌-◌, ◌%◌, ◌≤◌}
 use native.Mathlib.Omega.{arith}
 use lib.Ieee.{of_bits}
-use borrow.Author.Tests.{not-true, not-false}
 use Rattle.laws.proofs.Blocks.{row_end}
 use Rattle.model.specs.Num.{quotient, is_zero}
 use Rattle.row_updates.proofs.Done.{done_none}

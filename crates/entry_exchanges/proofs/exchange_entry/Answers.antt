@@ -1,5 +1,4 @@
 -- `exchange_entry` meets its contract: entry 0 exchanges nothing, and entry r + 1 names row r of the lower block. Assumes nothing.
-use borrow.Author.Rules.{rules}
 use mathlib.Core.Path.{◌≡◌, refl, ◌∙◌}
 use mathlib.Core.Logic.{inr}
 use Prim.Native.Nat.{suc, ◌+◌, ◌-◌, ◌*◌, ◌<◌, ◌≤◌}

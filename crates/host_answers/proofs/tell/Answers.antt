@@ -1,6 +1,5 @@
 -- Each variant tells. Assumes nothing.
 use mathlib.Core.Path.{sym, ap}
-use borrow.Author.Rules.{rules}
 use Rattle.host_answers.specs.Answers.{told}
 use Rattle.host_answers.proofs.tell.Goals as goal
 

@@ -1,6 +1,5 @@
 -- Each variant tells. Assumes nothing.
 use mathlib.Core.Path.{sym, ap}
-use borrow.Author.Rules.{rules}
 use Rattle.model.specs.declared.Outcome.{Outcome}
 use Rattle.model.specs.declared.ReadAnswer.TheVariants.{ResultRead}
 use Rattle.host_answers.specs.Answers.{read_told}

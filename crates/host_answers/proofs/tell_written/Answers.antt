@@ -1,6 +1,5 @@
 -- Each variant tells. Assumes nothing.
 use mathlib.Core.Path.{sym, ap}
-use borrow.Author.Rules.{rules}
 use Rattle.host_answers.specs.Answers.{write_told}
 use Rattle.host_answers.proofs.tell_written.Goals as goal
 

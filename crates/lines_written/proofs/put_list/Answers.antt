@@ -42,5 +42,4 @@ shape_of-text c =
 pub returns : goal.returns
 returns c =
     let a = c.args in
-    let pre = (c.requires.n_in_bounds, c.requires.n_in_bounds_2) in
-    (lines.put_frame _ _ _ _ _ _ _ _ _ pre.0 (length_part (hex 2) 2 (length_hex 2) a.start a.n a.l.now pre.1) c.put_three.ensures c.put_entries.ensures).is
+    (lines.put_frame _ _ _ _ _ _ _ _ _ c.requires.n_in_bounds (length_part (hex 2) 2 (length_hex 2) a.start a.n a.l.now c.requires.n_in_bounds_2) c.put_three.ensures c.put_entries.ensures).is

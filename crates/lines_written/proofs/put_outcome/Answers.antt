@@ -1,7 +1,6 @@
 -- `lines_written::put_outcome` meets its contract. Assumes nothing.
 use native.Mathlib.Omega.{arith}
 use Rattle.model.specs.Text.{outcome_frame}
-use borrow.Author.Rules.{rules}
 use Rattle.lines_written.proofs.put_outcome.Goals as goal
 
 pub put_short-requires : goal.put_short-requires

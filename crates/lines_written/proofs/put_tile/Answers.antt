@@ -41,5 +41,4 @@ shape_of-text c =
 pub returns : goal.returns
 returns c =
     let a = c.args in
-    let pre = (c.requires.n_in_bounds, c.requires.n_in_bounds_2) in
-    (lines.put_frame _ _ _ _ _ _ _ _ _ pre.0 (length_part bits 16 length_bits a.start a.n a.m.now pre.1) c.put_three.ensures c.put_numbers.ensures).is
+    (lines.put_frame _ _ _ _ _ _ _ _ _ c.requires.n_in_bounds (length_part bits 16 length_bits a.start a.n a.m.now c.requires.n_in_bounds_2) c.put_three.ensures c.put_numbers.ensures).is

@@ -1,12 +1,6 @@
 -- `lists_written::put_list_row` meets its contract: after j turns the first j frames are written. Assumes nothing.
 use Prim.Native.Nat.{◌+◌, ◌-◌, ◌*◌}
-use native.Mathlib.Nat.{zero-mul, mul-le-mul}
-use native.Mathlib.Omega.{arith}
-use lib.ListN.{length}
-use Rattle.digits_written.proofs.Put.{put_length}
-use Rattle.laws.proofs.Blocks.{row_end}
-use Rattle.rows_written.specs.Rows.{list_row}
-use Rattle.rows_written.proofs.Turns.{Row, row_none, row_room, row_more, row_all, one_more, cell, list_piece, length_list}
+use Rattle.rows_written.proofs.Turns.{Row, list_piece}
 use Rattle.lists_written.proofs.put_list_row.Given as goal
 
 abbrev pub invariant-loop-j : goal.invariant-loop-j

@@ -1,10 +1,7 @@
 -- `lists_written::put_lists` meets its contract: after i turns the first i rows are written. Assumes nothing.
 use Prim.Native.Nat.{◌+◌, ◌-◌, ◌*◌}
-use native.Mathlib.Nat.{zero-mul}
-use native.Mathlib.Omega.{arith}
-use Rattle.digits_written.proofs.Put.{put_length}
-use Rattle.rows_written.specs.Rows.{list_row, list_rows, triangle}
-use Rattle.rows_written.proofs.Turns.{Row, row_none, row_room, row_more, row_all, lists_more, lists_fit, length_list_row}
+use Rattle.rows_written.specs.Rows.{list_row, triangle}
+use Rattle.rows_written.proofs.Turns.{Row}
 use Rattle.lists_written.proofs.put_lists.Given as goal
 
 abbrev pub invariant-loop-i : goal.invariant-loop-i

@@ -1,5 +1,4 @@
 -- `places::list_start` meets its contract: the products are small. Assumes nothing.
-use borrow.Author.Rules.{rules}
 use native.Mathlib.Omega.{arith}
 use Rattle.column_laws.proofs.Places.{place_below, list_start_most}
 use Rattle.places.proofs.list_start.Goals as goal

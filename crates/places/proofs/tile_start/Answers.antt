@@ -1,5 +1,4 @@
 -- `places::tile_start` meets its contract: the products are small. Assumes nothing.
-use borrow.Author.Rules.{rules}
 use native.Mathlib.Omega.{arith}
 use Rattle.column_laws.proofs.Places.{place_below, tile_start_most}
 use Rattle.laws.proofs.Blocks.{square_most}

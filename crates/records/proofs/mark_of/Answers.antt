@@ -1,6 +1,5 @@
 -- The mark read is the record's. Assumes nothing.
 use mathlib.Core.Path.{sym, ap, ◌∙◌}
-use borrow.Author.Rules.{rules}
 use Rattle.records.specs.Records.{record_from}
 use Rattle.records.proofs.Laws.{get_record, get_mark}
 use Rattle.records.proofs.mark_of.Goals as goal

@@ -5,7 +5,6 @@ use mathlib.Core.List.{List, []}
 use lib.ListN.{get_or}
 use Rattle.records.specs.Records.{record_from}
 use Rattle.records.proofs.Laws.{get_record}
-use borrow.Author.Rules.{rules}
 use Rattle.records.proofs.record_at.Goals as goal
 
 pub returns : goal.returns

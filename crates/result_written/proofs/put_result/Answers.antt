@@ -7,7 +7,7 @@ use Rattle.result_written.proofs.put_result.Goals as goal
 pub put_system-requires : goal.put_system-requires
 unfolding result_length
 put_system-requires c =
-    let p = (c.requires.n_le_most_tiles, (c.requires.t_in_bounds, (c.requires.t_in_bounds_2, c.requires.t_in_bounds_3))) in record { n_le_most_tiles = p.0; t_in_bounds = omega (arith, p.1.0); t_in_bounds_2 = p.1.1.0 }
+    record { n_le_most_tiles = c.requires.n_le_most_tiles; t_in_bounds = omega (arith, c.requires.t_in_bounds); t_in_bounds_2 = c.requires.t_in_bounds_2 }
 
 pub system_length-requires : goal.system_length-requires
 system_length-requires c =
@@ -16,7 +16,7 @@ system_length-requires c =
 pub put_lists-requires : goal.put_lists-requires
 unfolding result_length
 put_lists-requires c =
-    let p = (c.requires.n_le_most_tiles, (c.requires.t_in_bounds, (c.requires.t_in_bounds_2, c.requires.t_in_bounds_3))) in record { n_le_most_tiles = p.0; t_in_bounds = omega (arith, p.1.0, c.system_length.ensures, c.put_system.auto); t_in_bounds_2 = p.1.1.1 }
+    record { n_le_most_tiles = c.requires.n_le_most_tiles; t_in_bounds = omega (arith, c.requires.t_in_bounds, c.system_length.ensures, c.put_system.auto); t_in_bounds_2 = c.requires.t_in_bounds_3 }
 
 pub result_length-requires : goal.result_length-requires
 result_length-requires c =
@@ -30,7 +30,7 @@ overflow_sub-result_length c =
 pub put_outcome-requires : goal.put_outcome-requires
 unfolding result_length
 put_outcome-requires c =
-    let p = (c.requires.n_le_most_tiles, (c.requires.t_in_bounds, (c.requires.t_in_bounds_2, c.requires.t_in_bounds_3))) in omega (arith, p.1.0, c.result_length.ensures, c.put_system.auto, c.put_lists.auto)
+    omega (arith, c.requires.t_in_bounds, c.result_length.ensures, c.put_system.auto, c.put_lists.auto)
 
 pub shape_of-text : goal.shape_of-text
 shape_of-text c =
@@ -38,4 +38,4 @@ shape_of-text c =
 
 pub returns : goal.returns
 returns c =
-    let a = c.args in let p = (c.requires.n_le_most_tiles, (c.requires.t_in_bounds, (c.requires.t_in_bounds_2, c.requires.t_in_bounds_3))) in (answers.put_result a.n a.t a.m.now a.l.now a.outcome _ _ _ _ _ _ p.1.0 p.1.1.0 p.1.1.1 c.system_length.ensures c.result_length.ensures c.put_system.ensures c.put_lists.ensures c.put_outcome.ensures).is
+    let a = c.args in (answers.put_result a.n a.t a.m.now a.l.now a.outcome _ _ _ _ _ _ c.requires.t_in_bounds c.requires.t_in_bounds_2 c.requires.t_in_bounds_3 c.system_length.ensures c.result_length.ensures c.put_system.ensures c.put_lists.ensures c.put_outcome.ensures).is

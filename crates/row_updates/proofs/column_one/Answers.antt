@@ -1,7 +1,6 @@
 -- `column_one` meets its contract: one store, and one test. Assumes nothing.
 use mathlib.Core.Path.{◌∙◌}
 use native.Mathlib.Nat.{add-zero, zero-mul}
-use borrow.Author.Rules.{rules}
 use Rattle.row_updates.proofs.Groups.{one_stored}
 use Rattle.row_updates.proofs.column_one.Goals as goal
 

@@ -1,7 +1,6 @@
 -- `row_one` meets its contract: one store, and one test. Assumes nothing.
 use mathlib.Core.Path.{◌∙◌}
 use native.Mathlib.Nat.{add-zero}
-use borrow.Author.Rules.{rules}
 use Rattle.row_updates.proofs.Groups.{one_stored}
 use Rattle.row_updates.proofs.row_one.Goals as goal
 

@@ -1,15 +1,14 @@
 -- `update_column` meets its contract: what its loops have done is `ColumnDone`. Assumes nothing.
 use mathlib.Core.Path.{◌≡◌, ◌∙◌}
-use mathlib.Core.Logic.{⊎_elim}
 use Prim.Native.Nat.{◌+◌, ◌-◌, ◌%◌, ◌≤◌}
 use native.Mathlib.Nat.{add-mul}
 use native.Mathlib.Omega.{arith}
 use lib.ListN.{get_or}
 use lib.Ieee.{nan}
-use borrow.Author.Tests.{not-true, not-false}
 use Rattle.laws.proofs.Blocks.{row_end}
 use Rattle.row_updates.proofs.Done.{done_none}
-use Rattle.row_updates.proofs.Column.{ColumnDone, column_more, column_join, column_all, column_stop, place_one, place_more}
+use Rattle.row_updates.proofs.Column.{column_more, column_join, column_all, column_stop, place_one, place_more}
+use Rattle.row_updates.proofs.update_column.Goals.{then-rows-lt8, else-rows-lt8}
 use Rattle.row_updates.proofs.update_column.Goals as goal
 
 pub offset_bounds-y-top : goal.offset_bounds-y-top
@@ -22,7 +21,7 @@ bounds-y-top c =
 
 pub loop-r-init : goal.loop-r-init
 loop-r-init c =
-    let split : (c.if-rows-lt8.ones ≤ c.args.rows) × ((c.args.rows - c.if-rows-lt8.ones) % 4 ≡ 0) = ⊎_elim (λ u. omega (arith, u.1)) (λ u. omega (arith, u.1)) c.if-rows-lt8.branch in (omega arith, (split).0, (split).1, done_none _ _ _ _)
+    let split : (c.if-rows-lt8.ones ≤ c.args.rows) × ((c.args.rows - c.if-rows-lt8.ones) % 4 ≡ 0) = elim c.if-rows-lt8.branch [ then-rows-lt8 w ↦ omega arith | else-rows-lt8 w ↦ omega arith ] in (omega arith, (split).0, (split).1, done_none _ _ _ _)
 
 pub overflow_add-start : goal.overflow_add-start
 overflow_add-start c =
@@ -47,7 +46,7 @@ shape_of-y-then-not-column_one c =
 pub returns-then-not-column_one : goal.returns-then-not-column_one
 returns-then-not-column_one c =
     column_stop _ _ c.args.top c.args.first c.args.stride c.args.l.now _ c.requires.rows_le_most_side.1 c.requires.y_value _ _ _ _ _ _ c.loop-r.invariant.3 (place_one _ _ _) c.column_one.ensures (omega arith)
-    (not-true c.column_one.result c.if-not-column_one.true)
+    c.if-not-column_one.true
 
 pub overflow_add-r : goal.overflow_add-r
 overflow_add-r c =
@@ -60,7 +59,7 @@ loop-r-smaller c =
 pub loop-r-preserved : goal.loop-r-preserved
 loop-r-preserved c =
     let l = c.loop-r in
-    (omega arith, l.invariant.1, l.invariant.2, column_more _ _ c.args.first c.args.stride (get_or c.args.y.now c.args.top nan) c.args.l.now _ _ _ l.invariant.3 _ _ (place_one _ _ _) _ _ c.column_one.ensures (omega arith) (not-false c.column_one.result c.if-not-column_one.false))
+    (omega arith, l.invariant.1, l.invariant.2, column_more _ _ c.args.first c.args.stride (get_or c.args.y.now c.args.top nan) c.args.l.now _ _ _ l.invariant.3 _ _ (place_one _ _ _) _ _ c.column_one.ensures (omega arith) c.if-not-column_one.false)
 
 pub loop-r-2-init : goal.loop-r-2-init
 loop-r-2-init c =
@@ -102,7 +101,7 @@ pub returns-then-not-column_four : goal.returns-then-not-column_four
 returns-then-not-column_four c =
     let four = c.loop-r-2 in
     column_stop _ _ c.args.top c.args.first c.args.stride c.args.l.now _ c.requires.rows_le_most_side.1 c.requires.y_value _ _ _ _ _ _ (column_join _ _ c.args.first c.args.stride (get_or c.args.y.now c.args.top nan) c.args.l.now _ _ _ c.loop-r.invariant.3 _ _ (omega arith) four.invariant.0 four.invariant.3) (place_more _ _ _ _)
-    c.column_four.ensures (omega arith) (not-true c.column_four.result c.if-not-column_four.true)
+    c.column_four.ensures (omega arith) c.if-not-column_four.true
 
 pub overflow_add-r-in-loop-r-2 : goal.overflow_add-r-in-loop-r-2
 overflow_add-r-in-loop-r-2 c =
@@ -118,7 +117,7 @@ loop-r-2-preserved c =
       omega arith,
       omega arith,
       omega arith,
-      column_more _ _ c.args.first c.args.stride (get_or c.args.y.now c.args.top nan) c.args.l.now _ _ _ l.invariant.3 _ _ (place_more _ _ _ _) _ _ c.column_four.ensures l.invariant.0 (not-false c.column_four.result c.if-not-column_four.false),
+      column_more _ _ c.args.first c.args.stride (get_or c.args.y.now c.args.top nan) c.args.l.now _ _ _ l.invariant.3 _ _ (place_more _ _ _ _) _ _ c.column_four.ensures l.invariant.0 c.if-not-column_four.false,
     )
 
 pub shape_of-y : goal.shape_of-y

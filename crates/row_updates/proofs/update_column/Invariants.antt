@@ -1,15 +1,7 @@
 -- `update_column` meets its contract: what its loops have done is `ColumnDone`. Assumes nothing.
-use mathlib.Core.Path.{◌≡◌, ◌∙◌}
-use mathlib.Core.Logic.{⊎_elim}
-use Prim.Native.Nat.{◌+◌, ◌-◌, ◌%◌, ◌≤◌}
-use native.Mathlib.Nat.{add-mul}
-use native.Mathlib.Omega.{arith}
-use lib.ListN.{get_or}
-use lib.Ieee.{nan}
-use borrow.Author.Tests.{not-true, not-false}
-use Rattle.laws.proofs.Blocks.{row_end}
-use Rattle.row_updates.proofs.Done.{done_none}
-use Rattle.row_updates.proofs.Column.{ColumnDone, column_more, column_join, column_all, column_stop, place_one, place_more}
+use mathlib.Core.Path.{◌≡◌}
+use Prim.Native.Nat.{◌-◌, ◌%◌, ◌≤◌}
+use Rattle.row_updates.proofs.Column.{ColumnDone}
 use Rattle.row_updates.proofs.update_column.Given as goal
 
 abbrev pub invariant-loop-r : goal.invariant-loop-r

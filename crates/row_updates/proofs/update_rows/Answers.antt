@@ -1,15 +1,11 @@
 -- `update_rows` meets its contract: what the loop over rows has done is `RowsDone`, that over a row's numbers `RowDone`. Assumes nothing.
-use mathlib.Core.Path.{◌≡◌, refl, ◌∙◌}
-use mathlib.Core.Bool.{true}
-use Prim.Native.Nat.{◌+◌, ◌*◌, ◌-◌, ◌%◌, ◌≤◌}
+use mathlib.Core.Path.{refl, ◌∙◌}
 use native.Mathlib.Omega.{arith}
-use lib.ListN.{get_or}
-use lib.Ieee.{nan, of_bits}
-use borrow.Author.Tests.{not-true, not-false}
+use lib.Ieee.{of_bits}
 use Rattle.laws.proofs.Blocks.{row_end}
 use Rattle.model.specs.Num.{is_zero}
 use Rattle.row_updates.proofs.Done.{done_none}
-use Rattle.row_updates.proofs.Updated.{RowDone, RowsDone, row_more, row_join, rows_none, rows_more, row_zero, rows_all, rows_stop, top_kept, top_clear, multiplier_same}
+use Rattle.row_updates.proofs.Updated.{row_more, row_join, rows_none, rows_more, row_zero, rows_all, rows_stop, top_kept, top_clear, multiplier_same}
 use Rattle.row_updates.proofs.update_rows.Goals as goal
 
 pub overflow_sub-fours : goal.overflow_sub-fours
@@ -104,7 +100,7 @@ loop-q-preserved c =
       omega arith,
       l.invariant.2,
       row_more _ _ _ _ _ _ _ l.invariant.3 _ _ _ c.row_one.ensures l.invariant.0 (λ k h. top_clear _ _ _ _ c.requires.fact _ row _ (omega arith) _ (omega arith))
-          (not-false c.row_one.result c.if-not-row_one.false),
+          c.if-not-row_one.false,
     )
 
 pub loop-q-2-init : goal.loop-q-2-init
@@ -140,7 +136,7 @@ loop-q-2-preserved c =
       l.invariant.2,
       omega arith,
       row_more _ _ _ _ _ _ _ l.invariant.4 _ _ _ c.row_four.ensures l.invariant.0 (λ k h. top_clear _ _ _ _ c.requires.fact _ row _ (omega arith) _ (omega arith))
-          (not-false c.row_four.result c.if-not-row_four.false),
+          c.if-not-row_four.false,
     )
 
 pub overflow_add-r-in-rows : goal.overflow_add-r-in-rows
@@ -184,7 +180,7 @@ returns-then-not-row_one c =
     let l = c.loop-q in
     rows_stop _ _ _ _ _ _ _ c.requires.w_le_most_side.1 c.requires.w_le_most_side.3 c.requires.m_value _ _ _ _ _ _ _ _ (multiplier_same _ _ _ _ _ _ _ _ _ c.requires.w_in_bounds.1 row rows.invariant.2) rows.invariant.2 l.invariant.3
     c.row_one.ensures (top_kept _ _ _ _ c.requires.fact _ row) (λ k h. top_clear _ _ _ _ c.requires.fact _ row _ (omega arith) _ (omega arith)) row l.invariant.0 (omega arith)
-    (not-true c.row_one.result c.if-not-row_one.true)
+    c.if-not-row_one.true
 
 pub shape_of-m-then-not-row_four : goal.shape_of-m-then-not-row_four
 shape_of-m-then-not-row_four c =
@@ -199,4 +195,4 @@ returns-then-not-row_four c =
     rows_stop _ _ _ _ _ _ _ c.requires.w_le_most_side.1 c.requires.w_le_most_side.3 c.requires.m_value _ _ _ _ _ _ _ _ (multiplier_same _ _ _ _ _ _ _ _ _ c.requires.w_in_bounds.1 row rows.invariant.2) rows.invariant.2
     (row_join _ _ _ _ _ _ _ l.invariant.3 _ _ l.invariant.0 four.invariant.0 (λ k g h. top_clear _ _ _ _ c.requires.fact _ row _ (omega arith) _ (omega arith)) four.invariant.4)
     c.row_four.ensures (top_kept _ _ _ _ c.requires.fact _ row) (λ k h. top_clear _ _ _ _ c.requires.fact _ row _ (omega arith) _ (omega arith)) row (omega arith) (omega arith)
-    (not-true c.row_four.result c.if-not-row_four.true)
+    c.if-not-row_four.true

@@ -1,15 +1,10 @@
 -- `update_rows` meets its contract: what the loop over rows has done is `RowsDone`, that over a row's numbers `RowDone`. Assumes nothing.
-use mathlib.Core.Path.{◌≡◌, refl, ◌∙◌}
+use mathlib.Core.Path.{◌≡◌}
 use mathlib.Core.Bool.{true}
 use Prim.Native.Nat.{◌+◌, ◌*◌, ◌-◌, ◌%◌, ◌≤◌}
-use native.Mathlib.Omega.{arith}
 use lib.ListN.{get_or}
-use lib.Ieee.{nan, of_bits}
-use borrow.Author.Tests.{not-true, not-false}
-use Rattle.laws.proofs.Blocks.{row_end}
-use Rattle.model.specs.Num.{is_zero}
-use Rattle.row_updates.proofs.Done.{done_none}
-use Rattle.row_updates.proofs.Updated.{RowDone, RowsDone, row_more, row_join, rows_none, rows_more, row_zero, rows_all, rows_stop, top_kept, top_clear, multiplier_same}
+use lib.Ieee.{nan}
+use Rattle.row_updates.proofs.Updated.{RowDone, RowsDone}
 use Rattle.row_updates.proofs.update_rows.Given as goal
 
 abbrev pub invariant-loop-q : goal.invariant-loop-q

@@ -1,12 +1,6 @@
 -- `rows_written::put_tile_row` meets its contract: after j turns the first j frames are written. Assumes nothing.
 use Prim.Native.Nat.{◌+◌, ◌-◌, ◌*◌}
-use native.Mathlib.Nat.{zero-mul, mul-le-mul}
-use native.Mathlib.Omega.{arith}
-use lib.ListN.{length}
-use Rattle.digits_written.proofs.Put.{put_length}
-use Rattle.laws.proofs.Blocks.{row_end}
-use Rattle.rows_written.specs.Rows.{tile_row}
-use Rattle.rows_written.proofs.Turns.{Row, row_none, row_room, row_more, row_all, one_more, cell, tile_piece, length_tile}
+use Rattle.rows_written.proofs.Turns.{Row, tile_piece}
 use Rattle.rows_written.proofs.put_tile_row.Given as goal
 
 abbrev pub invariant-loop-j : goal.invariant-loop-j

@@ -1,11 +1,7 @@
 -- `rows_written::put_tiles` meets its contract: after i turns the first i rows are written. Assumes nothing.
 use Prim.Native.Nat.{◌+◌, ◌-◌, ◌*◌}
-use native.Mathlib.Nat.{zero-mul}
-use native.Mathlib.Omega.{arith}
-use Rattle.digits_written.proofs.Put.{put_length}
-use Rattle.laws.proofs.Blocks.{row_end}
-use Rattle.rows_written.specs.Rows.{tile_row, tile_rows}
-use Rattle.rows_written.proofs.Turns.{Row, row_none, row_room, row_more, row_all, one_more, length_tile_row}
+use Rattle.rows_written.specs.Rows.{tile_row}
+use Rattle.rows_written.proofs.Turns.{Row}
 use Rattle.rows_written.proofs.put_tiles.Given as goal
 
 abbrev pub invariant-loop-i : goal.invariant-loop-i

@@ -7,7 +7,7 @@ use Rattle.system_checked.proofs.check_system.Goals as goal
 
 pub check_system_lines-requires : goal.check_system_lines-requires
 check_system_lines-requires c =
-    let f = facts (shape_read _ _ _ _ _ c.check_header.ensures c.tiles-1.given.1) in (f.long, f.side.1)
+    let f = facts (shape_read _ _ _ _ _ c.check_header.ensures c.in-Shape.is) in (f.long, f.side.1)
 
 pub returns-in-Accepted : goal.returns-in-Accepted
 returns-in-Accepted c =

@@ -12,12 +12,12 @@ put_header-requires c =
 
 pub overflow_mul-t : goal.overflow_mul-t
 overflow_mul-t c =
-    let a = c.args in let p = (c.requires.n_le_most_tiles, (c.requires.t_in_bounds, c.requires.t_in_bounds_2)) in omega (arith, bounds a.n a.t p.0.0 p.0.1)
+    let a = c.args in omega (arith, bounds a.n a.t c.requires.n_le_most_tiles.0 c.requires.n_le_most_tiles.1)
 
 pub put_tiles-requires : goal.put_tiles-requires
 unfolding system_length
 put_tiles-requires c =
-    let a = c.args in let p = (c.requires.n_le_most_tiles, (c.requires.t_in_bounds, c.requires.t_in_bounds_2)) in record { n_le_most_tiles = (p.0.0, (bounds a.n a.t p.0.0 p.0.1).numbers); s_in_bounds = omega (arith, p.1.0, c.put_header.auto); s_in_bounds_2 = p.1.1 }
+    let a = c.args in record { n_le_most_tiles = (c.requires.n_le_most_tiles.0, (bounds a.n a.t c.requires.n_le_most_tiles.0 c.requires.n_le_most_tiles.1).numbers); s_in_bounds = omega (arith, c.requires.t_in_bounds, c.put_header.auto); s_in_bounds_2 = c.requires.t_in_bounds_2 }
 
 pub shape_of-text : goal.shape_of-text
 shape_of-text c =
@@ -25,4 +25,4 @@ shape_of-text c =
 
 pub returns : goal.returns
 returns c =
-    let a = c.args in let p = (c.requires.n_le_most_tiles, (c.requires.t_in_bounds, c.requires.t_in_bounds_2)) in (answers.put_system a.n a.t a.m.now _ _ _ p.1.0 p.1.1 c.put_header.ensures c.put_tiles.ensures).is
+    let a = c.args in (answers.put_system a.n a.t a.m.now _ _ _ c.requires.t_in_bounds c.requires.t_in_bounds_2 c.put_header.ensures c.put_tiles.ensures).is

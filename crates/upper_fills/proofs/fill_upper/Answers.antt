@@ -18,17 +18,8 @@ use Rattle.laws.proofs.Tests.{lt_or_le}
 use Rattle.laws.proofs.Blocks.{get_or_table, length_block, row_of, column_of_lem, in_block, row_below, column_below, row_end}
 use Rattle.laws.proofs.Parts.{Fits, length_put, get_in, get_before, get_after, get_part}
 use Rattle.fills.proofs.Stores.{Stored, stored_none, stored_join, stored_is}
+use Rattle.upper_fills.proofs.fill_upper.Invariants.{cell, upper}
 use Rattle.upper_fills.proofs.fill_upper.Goals as goal
-
--- row r, column q of the tile at start: +0 on the diagonal and above
-
-abbrev cell : ℕ → ℕ → List Float → ℕ → ℕ → Float
-cell t start m r q = cond (leb r q) plus_zero (get_or m (start + r * t + q) nan)
-
--- number j of the tile
-
-unfoldable upper : ℕ → ℕ → List Float → ℕ → Float
-upper t start m j = cell t start m (j / t) (j % t)
 
 upper_none : (t start : ℕ) (m : List Float) → Stored nan start (0 * t) (upper t start m) m m
 upper_none t start m = rw (zero-mul t) (stored_none nan start (upper t start m) m)

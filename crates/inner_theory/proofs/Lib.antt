@@ -1,0 +1,13 @@
+pub mod Tests
+pub mod Vector
+pub mod Panel
+pub mod Base
+pub mod Inside
+pub mod Panels
+pub mod Finite
+pub mod Agree
+pub mod AgreeFour
+pub mod Blocks
+pub mod Alike
+pub mod After
+pub mod Clean
