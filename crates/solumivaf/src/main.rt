@@ -39,6 +39,7 @@ fn read_some(from: &mut impl Read, part: &mut [u8]) -> Input
 }
 
 // Reads until the part is full or the input ends.
+#[tactic(auto, using(crate::proofs::Inputs::bytes_within))]
 fn read_full(from: &mut impl Read, part: &mut [u8]) -> Input
     ensures { Within (length part.new) result }
 {
@@ -60,6 +61,7 @@ fn read_full(from: &mut impl Read, part: &mut [u8]) -> Input
 }
 
 // Reads the input as far as it decides what is printed.
+#[tactic(auto, using(crate::proofs::Inputs::bytes_within))]
 fn read_due(from: &mut impl Read, buffer: &mut [u8]) -> Input
     requires { 38664 ≤ length buffer.old }
     ensures { Within (length buffer.old) result }
@@ -135,6 +137,7 @@ fn print(rt: &(impl Print + Eprint), text: &[u8]) {
     }
 }
 
+#[tactic(auto, using(crate::proofs::Inputs::bytes_within))]
 fn main(rt: HostRuntime) {
     let mut input = [0; 65536];
     match read_due(&mut rt.stdin(), &mut input) {

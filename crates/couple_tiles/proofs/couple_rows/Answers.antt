@@ -1,5 +1,4 @@
 -- `couple_rows` meets its contract: an exchange by the entry, then row c of the upper tile eliminated from all lower rows. Assumes nothing.
-use borrow.Author.Rules.{rules}
 use mathlib.Core.Path.{refl}
 use native.Mathlib.Omega.{arith}
 use Rattle.column_laws.proofs.Exchanges.{row_apart}
@@ -35,4 +34,4 @@ pub returns : goal.returns
 returns c =
     let a = c.args in
     let b = c.requires.two_blocks in
-    tiles_coupled a.t a.c a.e a.u a.d _ c.requires.c_lt_t.0 a.m.now b.upper_room b.lower_room b.apart refl _ c.exchange_entry.ensures _ _ c.eliminate.auto.0 c.eliminate.ensures
+    tiles_coupled a.t a.c a.e a.u a.d _ c.requires.c_lt_t.0 a.m.now b.upper_room b.lower_room b.apart refl _ c.exchange_entry.ensures _ _ c.eliminate.auto.m c.eliminate.ensures

@@ -1,5 +1,4 @@
 -- `factor_rows` meets its contract: rows c and y exchanged, then row c eliminated from the rows below. Assumes nothing.
-use borrow.Author.Rules.{rules}
 use mathlib.Core.Path.{◌≡◌, refl}
 use mathlib.Core.Logic.{inl}
 use Prim.Native.Nat.{suc, ◌+◌, ◌-◌, ◌*◌}
@@ -71,4 +70,4 @@ returns c =
     let a = c.args in
     let b = c.requires.block in
     let x = exchange_at a.t a.a a.c a.y a.m.now _ c.requires.c_lt_t.0 c.requires.c_lt_t.1 b.room c.exchange.ensures in
-    tile_factored a.t a.c (a.t - (a.c + 1)) a.y a.a (a.a + (a.c + 1) * a.t) (a.a + a.c * a.t) (omega (arith, c.requires.c_lt_t.0)) a.m.now b.room (omega arith) refl _ x _ _ c.eliminate.auto.0 c.eliminate.ensures
+    tile_factored a.t a.c (a.t - (a.c + 1)) a.y a.a (a.a + (a.c + 1) * a.t) (a.a + a.c * a.t) (omega (arith, c.requires.c_lt_t.0)) a.m.now b.room (omega arith) refl _ x _ _ c.eliminate.auto.m c.eliminate.ensures
