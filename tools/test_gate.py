@@ -1,4 +1,4 @@
-"""Tests of what the gate asks before it begins: how many checks to start at once, and which toolchain."""
+"""Tests of which toolchain the gate asks for before it begins, and of how many checks it started at once with the older kit."""
 import os
 import subprocess
 import unittest

@@ -2,9 +2,10 @@
 // reference program. Right side and answers of a solve have at most 300 numbers.
 #![tactic(auto)]
 
-ghost use Rattle.std.specs.Prelude.{◌≡◌, length};
+ghost use Rattle.std.specs.Prelude.{◌≡◌, ◌≤◌, length};
 
 use records::{RECORD, Record};
+use std::io::Read;
 
 // ---- room for the script, and for what its lines lend
 
@@ -38,9 +39,24 @@ fn answer_room() -> [u8; 8192]
     [0; 8192]
 }
 
+// Reads until the text is full, the input ends or a read fails, and tells how many bytes it read.
+fn read_full(from: &mut impl Read, text: &mut [u8]) -> usize
+    ensures { result ≤ length text.new }
+{
+    let mut done = 0;
+    while done < text.len() {
+        let n = from.read(&mut text[done..]).unwrap_or(0);
+        if n == 0 {
+            return done;
+        }
+        done += n;
+    }
+    done
+}
+
 // Reads the script to text, and plays it.
-fn play_script(text: &mut [u8]) {
-    let n = io::read_full(0, text);
+fn play_script(rt: &impl Print, from: &mut impl Read, text: &mut [u8]) {
+    let n = read_full(from, text);
     let mut matrix = matrix_room();
     let mut lists = list_room();
     let mut records = record_room();
@@ -48,6 +64,7 @@ fn play_script(text: &mut [u8]) {
     let mut answers = side_room();
     let mut out = answer_room();
     play::play(
+        rt,
         &text[..n],
         &mut matrix,
         &mut lists,
@@ -59,11 +76,11 @@ fn play_script(text: &mut [u8]) {
 }
 
 // The same with a room of fixed length.
-fn play_in(text: &mut [u8; 3700000]) {
-    play_script(text);
+fn play_in(rt: &impl Print, from: &mut impl Read, text: &mut [u8; 3700000]) {
+    play_script(rt, from, text);
 }
 
-fn main() {
+fn main(rt: HostRuntime) {
     let mut text = [0u8; 3700000];
-    play_in(&mut text);
+    play_in(&rt, &mut rt.stdin(), &mut text);
 }

@@ -6,6 +6,7 @@ ghost use Rattle.std.specs.Prelude.{◌≡◌, length};
 
 use judge::{decode, judge_result, judge_system};
 use script::number;
+use std::io::Read;
 
 fn blank_numbers() -> [f64; 65536]
     ensures { 65536 ≡ length result }
@@ -25,6 +26,12 @@ fn blank_digits() -> [u8; 131072]
     [0; 131072]
 }
 
+fn blank_text() -> [u8; 65536]
+    ensures { 65536 ≡ length result }
+{
+    [0; 65536]
+}
+
 // The answer's line for one text, and its length.
 fn answer(what: u64, text: &[u8], out: &mut [u8]) -> usize {
     let mut numbers = blank_numbers();
@@ -36,7 +43,14 @@ fn answer(what: u64, text: &[u8], out: &mut [u8]) -> usize {
 }
 
 // Answers the text whose digits come next.
-fn judge_text(what: u64, count: usize, digits: &mut [u8], text: &mut [u8]) -> bool {
+fn judge_text(
+    rt: &impl Print,
+    from: &mut impl Read,
+    what: u64,
+    count: usize,
+    digits: &mut [u8],
+    text: &mut [u8],
+) -> bool {
     if text.len() < count {
         return false;
     }
@@ -46,24 +60,26 @@ fn judge_text(what: u64, count: usize, digits: &mut [u8], text: &mut [u8]) -> bo
     if digits.len() - count <= count {
         return false;
     }
-    io::read_full(0, &mut digits[..count + count + 1]);
+    let _ = from.read_exact(&mut digits[..count + count + 1]);
     decode(digits, &mut text[..count]);
     let k = answer(what, &text[..count], digits);
     if digits.len() < k {
         return false;
     }
-    io::write_all(1, &digits[..k])
+    rt.write_all(&digits[..k]).is_ok()
 }
 
 // Judges the next line. False at the end of the input.
-fn judge_line() -> bool {
+fn judge_line(rt: &impl Print, from: &mut impl Read) -> bool {
     let mut front = [0; 10];
-    if io::read_full(0, &mut front) < 10 {
+    if from.read_exact(&mut front).is_err() {
         return false;
     }
     let mut digits = blank_digits();
-    let mut text = io::large_buffer();
+    let mut text = blank_text();
     judge_text(
+        rt,
+        from,
         number(&front, 0, 2),
         number(&front, 2, 8) as usize,
         &mut digits,
@@ -71,10 +87,10 @@ fn judge_line() -> bool {
     )
 }
 
-fn main() {
+fn main(rt: HostRuntime) {
     let mut turns: usize = 0;
     while turns < 100000 {
-        if !judge_line() {
+        if !judge_line(&rt, &mut rt.stdin()) {
             return;
         }
         turns += 1;

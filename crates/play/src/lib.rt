@@ -42,6 +42,7 @@ fn play_line(
 
 // Plays every line of a text, and prints the answers.
 pub fn play(
+    rt: &impl Print,
     text: &[u8],
     matrix: &mut [f64],
     lists: &mut [u8],
@@ -76,7 +77,7 @@ pub fn play(
             answers,
             out,
         );
-        print(out, lent.answered);
+        print(rt, out, lent.answered);
         at = next;
     }
 }

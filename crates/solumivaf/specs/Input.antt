@@ -6,4 +6,4 @@ use Rattle.solumivaf.specs.declared.Input.TheVariants.{Bytes, Lost}
 -- no more bytes than there is room for
 abbrev pub Within : ℕ → Input → Type 0
 Within room (Bytes n) = n ≤ room
-Within room Lost = Unit {0}
+Within room (Lost why) = Unit {0}

@@ -39,6 +39,7 @@ fn read_some(from: &mut impl Read, part: &mut [u8]) -> Input
 }
 
 // Reads until the part is full or the input ends.
+#[tactic(auto, using(crate::proofs::Inputs::bytes_within))]
 fn read_full(from: &mut impl Read, part: &mut [u8]) -> Input
     ensures { Within (length part.new) result }
 {
@@ -60,6 +61,7 @@ fn read_full(from: &mut impl Read, part: &mut [u8]) -> Input
 }
 
 // Reads the input as far as it decides what is printed.
+#[tactic(auto, using(crate::proofs::Inputs::bytes_within))]
 fn read_due(from: &mut impl Read, buffer: &mut [u8]) -> Input
     requires { 38664 ≤ length buffer.old }
     ensures { Within (length buffer.old) result }
@@ -113,13 +115,11 @@ fn write_full(to: &mut impl Write, text: &[u8]) -> io::Result<()> {
 
 // Says in one line on standard error what went wrong, and why in the system's words, without the number that the system gives it.
 fn fail(rt: &impl Eprint, what: &str, why: io::Error) {
-    let mut line = [0u8; 256];
+    let mut line = [b' '; 256];
     let mut room: &mut [u8] = &mut line;
     let _ = write!(room, "{why}");
-    let reason = match str::from_utf8(&line) {
-        Ok(words) => words.split(" (os error ").next().unwrap_or(words),
-        Err(_) => "",
-    };
+    let words = str::from_utf8(&line).unwrap_or("").trim_end();
+    let reason = words.split(" (os error ").next().unwrap_or(words);
     let _ = eprintln!(rt; "{what}: {reason}");
 }
 
@@ -137,6 +137,7 @@ fn print(rt: &(impl Print + Eprint), text: &[u8]) {
     }
 }
 
+#[tactic(auto, using(crate::proofs::Inputs::bytes_within))]
 fn main(rt: HostRuntime) {
     let mut input = [0; 65536];
     match read_due(&mut rt.stdin(), &mut input) {

@@ -1,5 +1,4 @@
 -- `apply_right` meets its contract: the rows below row c stand in the block. Assumes nothing.
-use borrow.Author.Rules.{rules}
 use mathlib.Core.Path.{◌≡◌}
 use mathlib.Core.Logic.{inl}
 use Prim.Native.Nat.{suc, ◌+◌, ◌-◌, ◌*◌}
@@ -11,30 +10,28 @@ use Rattle.apply_blocks.proofs.apply_right.Goals as goal
 
 pub overflow_mul-c : goal.overflow_mul-c
 overflow_mul-c c =
-    let a = c.args in let h = (c.requires.block_2, c.requires.c_lt_t) in omega (arith, h.0, row_end a.c a.t a.t h.1.0, square_most a.t h.0.rows_most)
+    let a = c.args in omega (arith, c.requires.block_2, row_end a.c a.t a.t c.requires.c_lt_t.0, square_most a.t c.requires.block_2.rows_most)
 
 pub overflow_add-c-4 : goal.overflow_add-c-4
 overflow_add-c-4 c =
-    let a = c.args in let h = (c.requires.block_2, c.requires.c_lt_t) in omega (arith, h.0, row_end a.c a.t a.t h.1.0, square_most a.t h.0.rows_most)
+    let a = c.args in omega (arith, c.requires.block_2, row_end a.c a.t a.t c.requires.c_lt_t.0, square_most a.t c.requires.block_2.rows_most)
 
 pub overflow_add-f : goal.overflow_add-f
 overflow_add-f c =
-    let a = c.args in let h = (c.requires.block_2, c.requires.c_lt_t) in omega (arith, h.0, row_end a.c a.t a.t h.1.0, square_most a.t h.0.rows_most)
+    let a = c.args in omega (arith, c.requires.block_2, row_end a.c a.t a.t c.requires.c_lt_t.0, square_most a.t c.requires.block_2.rows_most)
 
 pub update_column-requires : goal.update_column-requires
 update_column-requires c =
     let a = c.args in
     let b = c.requires.block in
-    let h = (c.requires.block_2, c.requires.c_lt_t) in
-    let ends : suc a.c + (a.t - (a.c + 1)) ≡ a.t = omega (arith, h.1.0) in
-    let split : (suc a.c + (a.t - (a.c + 1))) * a.t ≡ a.t * a.t = rw ends in record { rows_le_most_side = omega (arith, b, h.1.0); fact = inl (omega arith); stride_le_most_side = omega (arith, h.0, h.1.0, split); y_value = finite_part a.a (a.t * 1) (a.a + (a.c + 1)) ((a.t - (a.c + 1)) * 1) a.y.now b.room (omega arith) (omega (arith, h.1.0)) h.1.1 }
+    let ends : suc a.c + (a.t - (a.c + 1)) ≡ a.t = omega (arith, c.requires.c_lt_t.0) in
+    let split : (suc a.c + (a.t - (a.c + 1))) * a.t ≡ a.t * a.t = rw ends in record { rows_le_most_side = omega (arith, b, c.requires.c_lt_t.0); fact = inl (omega arith); stride_le_most_side = omega (arith, c.requires.block_2, c.requires.c_lt_t.0, split); y_value = finite_part a.a (a.t * 1) (a.a + (a.c + 1)) ((a.t - (a.c + 1)) * 1) a.y.now b.room (omega arith) (omega (arith, c.requires.c_lt_t.0)) c.requires.c_lt_t.1 }
 
 pub returns : goal.returns
 returns c =
     let a = c.args in
     let b = c.requires.block in
-    let h = (c.requires.block_2, c.requires.c_lt_t) in
     let k = a.t - (a.c + 1) in
-    let ends : suc a.c + k ≡ a.t = omega (arith, h.1.0) in
+    let ends : suc a.c + k ≡ a.t = omega (arith, c.requires.c_lt_t.0) in
     rows_applied a.t 1 a.c k a.a (a.a + (a.c + 1)) (a.a + a.c) a.y.now b.room ends (omega arith) (omega arith) _ _
-    (below_read a.t a.c (a.f + ((a.c + 1) * a.t + a.c)) a.f k a.m.now ends (omega arith) h.0.room) _ _ c.update_column.auto.0 c.update_column.ensures
+    (below_read a.t a.c (a.f + ((a.c + 1) * a.t + a.c)) a.f k a.m.now ends (omega arith) c.requires.block_2.room) _ _ c.update_column.auto.y c.update_column.ensures

@@ -1,5 +1,4 @@
 -- `apply_rows` meets its contract: the rows below row c stand in the tile. Assumes nothing.
-use borrow.Author.Rules.{rules}
 use mathlib.Core.Path.{◌≡◌, refl}
 use mathlib.Core.Logic.{inl}
 use Prim.Native.Nat.{suc, ◌+◌, ◌-◌, ◌*◌}
@@ -53,4 +52,4 @@ returns c =
     let k = a.t - (a.c + 1) in
     let ends : suc a.c + k ≡ a.t = omega (arith, h.0) in
     rows_applied a.t a.t a.c k a.a (a.a + (a.c + 1) * a.t) _ a.m.now b.room ends (omega arith) refl _ _
-    (below_read a.t a.c (a.f + ((a.c + 1) * a.t + a.c)) a.f k a.m.now ends (omega arith) (omega (arith, b, h))) _ _ c.update_rows.auto.0 c.update_rows.ensures
+    (below_read a.t a.c (a.f + ((a.c + 1) * a.t + a.c)) a.f k a.m.now ends (omega arith) (omega (arith, b, h))) _ _ c.update_rows.auto.m c.update_rows.ensures

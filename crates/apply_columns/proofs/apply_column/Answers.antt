@@ -43,7 +43,7 @@ overflow_mul-t c =
 pub fill_numbers-requires : goal.fill_numbers-requires
 fill_numbers-requires c =
     let r = apply_ready c.requires in
-    omega (arith, r.room, c.tile_start-a.ensures, c.apply_rows.auto.0, c.start_block.auto.0)
+    omega (arith, r.room, c.tile_start-a.ensures, c.apply_rows.auto.m, c.start_block.auto.0)
 
 pub returns : goal.returns
 returns c =
@@ -52,4 +52,4 @@ returns c =
     let e = c.tile_start-a.ensures in
     let f = c.tile_start-f.ensures in
     apply_fails a.z.tiles a.z.side a.k a.j a.c _ _ a.matrix.now a.lists.now e c.list_start-p.ensures (rw e r.room) _ f (rw (e, f) r.mult_left) _ _ _
-    c.start_block.ensures c.apply_rows.ensures _ c.apply_rows.auto.0 c.if-apply_rows.false c.fill_numbers.ensures
+    c.start_block.ensures c.apply_rows.ensures _ c.apply_rows.auto.m c.if-apply_rows.false c.fill_numbers.ensures

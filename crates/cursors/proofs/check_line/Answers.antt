@@ -18,5 +18,5 @@ returns-in-Accepted c =
 
 pub returns-in-Refused : goal.returns-in-Refused
 returns-in-Refused c =
-    by_line _ _ _ _ c.requires.cursor_fits c.if-text-at.false _ c.line_length-size.ensures (Refused c.n-1.given.0.0 c.n-1.given.0.1.0) c.if-text-at-2.false
+    by_line _ _ _ _ c.requires.cursor_fits c.if-text-at.false _ c.line_length-size.ensures (Refused c.in-Refused.n c.in-Refused.x) c.if-text-at-2.false
     (cc c.line_answer.ensures)

@@ -1,14 +1,13 @@
 -- `eliminate` meets its contract: what the loop over rows has done is `RowsGone`, that over a row's numbers `RowDone`. Assumes nothing.
 use mathlib.Core.Path.{◌≡◌, refl, ◌∙◌}
-use mathlib.Core.Bool.{true}
-use Prim.Native.Nat.{ℕ, ◌+◌, ◌*◌, ◌-◌, ◌%◌, ◌≤◌}
+use Prim.Native.Nat.{ℕ, ◌≤◌}
 use native.Mathlib.Omega.{arith}
 use lib.Ieee.{of_bits}
 use Rattle.laws.proofs.Blocks.{row_end}
 use Rattle.model.specs.Num.{quotient, is_zero}
 use Rattle.row_updates.proofs.Done.{done_none}
-use Rattle.row_updates.proofs.Updated.{RowDone, row_unchanged, row_more, row_join, top_clear}
-use Rattle.elimination.proofs.Eliminated.{RowsGone, gone_none, divided_long, divided_finite, row_finite, gone_more, all_gone, gone_stop}
+use Rattle.row_updates.proofs.Updated.{row_unchanged, row_more, row_join, top_clear}
+use Rattle.elimination.proofs.Eliminated.{gone_none, divided_long, divided_finite, row_finite, gone_more, all_gone, gone_stop}
 use Rattle.elimination.proofs.eliminate.Goals as goal
 
 -- the columns are all done
@@ -93,14 +92,13 @@ unfolding of_bits is_zero quotient
 rows-preserved-then-by c =
     let a = c.args in
     let b = c.requires.rows in
-    let h = (c.requires.m_value, c.requires.by_index) in
     let rows = c.rows in
     let row = c.rows-test.true in (
       omega arith,
       rows.invariant.1,
       gone_more _ _ _ _ _ b.column _ b.room b.apart _ row _ rows.invariant.2 _ refl _
           (row_unchanged _ _ _ _ _ _ c.if-by.true
-          (divided_finite _ _ _ _ _ b.column _ b.room b.apart _ row _ rows.invariant.2 _ refl (λ q l. row_finite _ _ _ _ _ b.column _ b.room b.apart h.0 h.1 _ q row l) (h.1 _ row))),
+          (divided_finite _ _ _ _ _ b.column _ b.room b.apart _ row _ rows.invariant.2 _ refl (λ q l. row_finite _ _ _ _ _ b.column _ b.room b.apart c.requires.m_value c.requires.by_index _ q row l) (c.requires.by_index _ row))),
     )
 
 pub overflow_add-q : goal.overflow_add-q

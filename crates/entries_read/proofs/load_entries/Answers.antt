@@ -9,10 +9,8 @@ use Rattle.digits_read.specs.Digits.{FieldOfDigits}
 use Rattle.digits_read.proofs.Fields.{field_lt}
 use Rattle.lines_read.proofs.Tested.{field_in}
 use Rattle.numbers_read.proofs.Filled.{written, written_none, written_next, written_all}
+use Rattle.entries_read.proofs.load_entries.Invariants.{entry}
 use Rattle.entries_read.proofs.load_entries.Goals as goal
-
-abbrev entry : List ℕ → ℕ → ℕ
-entry l x = field (6 + 2 * x) 2 l
 
 pub loop-x-init : goal.loop-x-init
 loop-x-init c =

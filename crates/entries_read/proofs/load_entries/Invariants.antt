@@ -11,6 +11,9 @@ use Rattle.lines_read.proofs.Tested.{field_in}
 use Rattle.numbers_read.proofs.Filled.{written, written_none, written_next, written_all}
 use Rattle.entries_read.proofs.load_entries.Given as goal
 
+abbrev pub entry : List ℕ → ℕ → ℕ
+entry l x = field (6 + 2 * x) 2 l
+
 abbrev pub invariant-loop-x : goal.invariant-loop-x
 invariant-loop-x l = (l.x ≤ length l.initial.list) × (length l.list ≡ length l.initial.list) × (l.list ≡ written (entry l.line) l.initial.list l.x)
 

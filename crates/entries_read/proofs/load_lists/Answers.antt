@@ -11,12 +11,8 @@ use Rattle.entries_read.specs.Entries.{list_size, ListLines, above, row_from, li
 use Rattle.numbers_read.proofs.Filled.{length_lent, parted, parted_none, turn, parted_all}
 use Rattle.laws.proofs.Blocks.{row_end}
 use Rattle.entries_read.proofs.Held.{length_row, above_next, above_grows, further}
+use Rattle.entries_read.proofs.load_lists.Invariants.{held}
 use Rattle.entries_read.proofs.load_lists.Goals as goal
-
--- the lists of row i
-
-abbrev held : List ℕ → ℕ → ℕ → ℕ → ℕ → List ℕ
-held text at tiles t i = row_from tiles t (at + above i * list_size t) text i
 
 pub overflow_mul-size : goal.overflow_mul-size
 overflow_mul-size c =

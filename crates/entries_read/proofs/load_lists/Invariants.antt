@@ -13,6 +13,10 @@ use Rattle.laws.proofs.Blocks.{row_end}
 use Rattle.entries_read.proofs.Held.{length_row, above_next, above_grows, further}
 use Rattle.entries_read.proofs.load_lists.Given as goal
 
+-- the lists of row i
+abbrev pub held : List ℕ → ℕ → ℕ → ℕ → ℕ → List ℕ
+held text at tiles t i = row_from tiles t (at + above i * list_size t) text i
+
 abbrev pub invariant-loop-i : goal.invariant-loop-i
 invariant-loop-i l = (l.i ≤ l.tiles) × (length l.lists ≡ l.tiles * (l.tiles * l.t)) × (l.a ≡ l.at + above l.i * list_size l.t) × (l.lists ≡ parted (l.tiles * l.t) (held l.text l.at l.tiles l.t) l.initial.lists l.i)
 

@@ -27,8 +27,9 @@ slice_bounds-load_list-count c =
 
 pub load_list-requires : goal.load_list-requires
 load_list-requires c =
-    let within : c.loop-j.j * c.args.t + c.args.t ≤ length c.loop-j.row = omega (arith, c.loop-j.invariant.1, row_end c.loop-j.j c.args.tiles c.args.t c.loop-j-test.true) in let p = (c.requires.list_lines, (c.requires.row_len, c.requires.tiles_le_most_tiles)) in
-    rw (length_lent (c.loop-j.j * c.args.t) c.args.t c.loop-j.row (within)) (p.0, (p.1.1.1, p.1.1.2))
+    let within : c.loop-j.j * c.args.t + c.args.t ≤ length c.loop-j.row = omega (arith, c.loop-j.invariant.1, row_end c.loop-j.j c.args.tiles c.args.t c.loop-j-test.true) in
+    let p = c.requires.tiles_le_most_tiles in
+    rw (length_lent (c.loop-j.j * c.args.t) c.args.t c.loop-j.row (within)) (record { list_lines = c.requires.list_lines; list_len_bound = (p.1, p.2) })
 
 pub overflow_add-j : goal.overflow_add-j
 overflow_add-j c =

@@ -13,12 +13,8 @@ use Rattle.cursors.specs.declared.Step.{Step}
 use Rattle.cursors.specs.Steps.{CursorFits}
 use Rattle.frames_read.specs.Follow.{follow, row_frames}
 use Rattle.frames_read.proofs.Rows.{follow_placed, rows_none, rows_stop, rows_go_on}
+use Rattle.frames_read.proofs.check_lists.Invariants.{lists}
 use Rattle.frames_read.proofs.check_lists.Goals as goal
-
--- the lists of row i
-
-abbrev lists : ℕ → List Frame
-lists i = row_frames 3 (suc i) i
 
 whole : (t : ℕ) (text : List ℕ) (n : ℕ) (c : Cursor) → follow t text (joined (map lists (up_to 0 n))) c ≡ follow t text (list_frames n) c
 unfolding list_frames below
@@ -56,8 +52,8 @@ pub loop-i-preserved : goal.loop-i-preserved
 loop-i-preserved c =
     let l = c.loop-i in (
       omega arith,
-      follow_placed _ _ _ _ _ l.invariant.1 (sym c.check_row.ensures ∙ c.next-1.given.1),
-      rows_go_on _ _ c.args.tiles l.i l.here c.loop-i-test.true lists l.invariant.2 (row_of _ _ _ _ _ c.check_row.ensures) c.next-1.given.1,
+      follow_placed _ _ _ _ _ l.invariant.1 (sym c.check_row.ensures ∙ c.in-Next.is),
+      rows_go_on _ _ c.args.tiles l.i l.here c.loop-i-test.true lists l.invariant.2 (row_of _ _ _ _ _ c.check_row.ensures) c.in-Next.is,
     )
 
 pub returns : goal.returns

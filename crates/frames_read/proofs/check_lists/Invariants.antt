@@ -15,6 +15,10 @@ use Rattle.frames_read.specs.Follow.{follow, row_frames}
 use Rattle.frames_read.proofs.Rows.{follow_placed, rows_none, rows_stop, rows_go_on}
 use Rattle.frames_read.proofs.check_lists.Given as goal
 
+-- the lists of row i
+abbrev pub lists : ℕ → List Frame
+lists i = row_frames 3 (suc i) i
+
 abbrev pub invariant-loop-i : goal.invariant-loop-i
 invariant-loop-i l = (l.i ≤ l.tiles) × CursorFits l.text l.here × (follow l.t l.text (joined (map lists (up_to l.i l.tiles))) l.here ≡ follow l.t l.text (list_frames l.tiles) l.initial.here)
 

@@ -12,10 +12,8 @@ use Rattle.cursors.specs.Steps.{CursorFits}
 use Rattle.frames_read.specs.Follow.{follow, row_frames}
 use Rattle.cursors.proofs.Steps.{step_placed}
 use Rattle.frames_read.proofs.Rows.{row_none, row_stops, row_goes_on}
+use Rattle.frames_read.proofs.check_row.Invariants.{frame}
 use Rattle.frames_read.proofs.check_row.Goals as goal
-
-abbrev frame : ℕ → ℕ → ℕ → Frame
-frame kind i j = record { kind = kind; i = i; j = j }
 
 whole : (t : ℕ) (text : List ℕ) (kind i n : ℕ) (c : Cursor) → follow t text (map (frame kind i) (up_to 0 n)) c ≡ follow t text (row_frames kind n i) c
 unfolding below
@@ -46,8 +44,8 @@ pub loop-j-preserved : goal.loop-j-preserved
 loop-j-preserved c =
     let l = c.loop-j in (
       omega arith,
-      step_placed _ _ _ _ _ l.invariant.1 (sym c.check_line.ensures ∙ c.next-1.given.1),
-      row_goes_on _ _ c.args.count l.j l.here c.loop-j-test.true (frame c.args.kind c.args.i) l.invariant.2 c.check_line.ensures c.next-1.given.1,
+      step_placed _ _ _ _ _ l.invariant.1 (sym c.check_line.ensures ∙ c.in-Next.is),
+      row_goes_on _ _ c.args.count l.j l.here c.loop-j-test.true (frame c.args.kind c.args.i) l.invariant.2 c.check_line.ensures c.in-Next.is,
     )
 
 pub returns : goal.returns

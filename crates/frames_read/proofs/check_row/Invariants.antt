@@ -14,6 +14,9 @@ use Rattle.cursors.proofs.Steps.{step_placed}
 use Rattle.frames_read.proofs.Rows.{row_none, row_stops, row_goes_on}
 use Rattle.frames_read.proofs.check_row.Given as goal
 
+abbrev pub frame : ℕ → ℕ → ℕ → Frame
+frame kind i j = record { kind = kind; i = i; j = j }
+
 abbrev pub invariant-loop-j : goal.invariant-loop-j
 invariant-loop-j l = (l.j ≤ l.count) × CursorFits l.text l.here × (follow l.t l.text (map (frame l.kind l.i) (up_to l.j l.count)) l.here ≡ follow l.t l.text (row_frames l.kind l.count l.i) l.initial.here)
 

@@ -44,8 +44,8 @@ loop-i-preserved c =
     let l = c.loop-i in
     let n = c.args.tiles in (
       omega arith,
-      follow_placed _ _ _ _ _ l.invariant.1 (sym c.check_row.ensures ∙ c.next-1.given.1),
-      rows_go_on _ _ n l.i l.here c.loop-i-test.true (row_frames 2 n) l.invariant.2 c.check_row.ensures c.next-1.given.1,
+      follow_placed _ _ _ _ _ l.invariant.1 (sym c.check_row.ensures ∙ c.in-Next.is),
+      rows_go_on _ _ n l.i l.here c.loop-i-test.true (row_frames 2 n) l.invariant.2 c.check_row.ensures c.in-Next.is,
     )
 
 pub returns : goal.returns

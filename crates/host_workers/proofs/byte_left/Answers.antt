@@ -1,5 +1,4 @@
 -- Each branch by its test. Assumes nothing.
-use borrow.Author.Tests.{not-true, not-false}
 use Rattle.host_workers.proofs.Laws.{idle_byte, new_byte, same_byte}
 use Rattle.host_workers.proofs.byte_left.Goals as goal
 

@@ -1,10 +1,9 @@
 -- After v turns the first v workers are those of the arrays. Assumes nothing.
-use Prim.Native.Nat.{◌-◌}
 use mathlib.Core.Path.{refl}
 use native.Mathlib.Omega.{arith}
 use borrow.Author.Rules.{rules}
 use Rattle.host_workers.specs.Workers.{says_busy, worker_in}
-use Rattle.host_workers.proofs.Laws.{Alike, gathered, all_alike}
+use Rattle.host_workers.proofs.Laws.{gathered, all_alike}
 use Rattle.host_workers.proofs.gather.Goals as goal
 
 pub loop-v-init : goal.loop-v-init
@@ -16,7 +15,6 @@ loop-v-init c =
   task_long = search rules;
   column_long = search rules;
   alike = λ i j. absurd (omega (arith, j));
-
 }
 
 pub bounds-busy-v : goal.bounds-busy-v
@@ -55,7 +53,7 @@ pub loop-v-preserved : goal.loop-v-preserved
 unfolding worker_in says_busy
 loop-v-preserved c =
     let a = c.args in
-    gathered a.t1 a.t2 a.t3 c.loop-v.slots c.loop-v.v c.loop-v.invariant (omega arith) _ refl
+    gathered a.busy a.task a.column c.loop-v.slots c.loop-v.v c.loop-v.invariant (omega arith) _ refl
 
 pub returns : goal.returns
 returns c =

@@ -1,10 +1,6 @@
 -- After v turns the first v workers are those of the arrays. Assumes nothing.
 use Prim.Native.Nat.{◌-◌}
-use mathlib.Core.Path.{refl}
-use native.Mathlib.Omega.{arith}
-use borrow.Author.Rules.{rules}
-use Rattle.host_workers.specs.Workers.{says_busy, worker_in}
-use Rattle.host_workers.proofs.Laws.{Alike, gathered, all_alike}
+use Rattle.host_workers.proofs.Laws.{Alike}
 use Rattle.host_workers.proofs.gather.Given as goal
 
 abbrev pub invariant-loop-v : goal.invariant-loop-v

@@ -1,10 +1,6 @@
 -- After v turns the arrays have the first v workers, and bytes that say the same stand as they were. Assumes nothing.
 use Prim.Native.Nat.{◌-◌}
-use mathlib.Core.Path.{refl, sym}
-use native.Mathlib.Omega.{arith}
-use borrow.Author.Rules.{rules}
-use Rattle.records.proofs.Laws.{length_slots}
-use Rattle.host_workers.proofs.Laws.{Alike, Left, scattered, byte_put, all_alike, all_left}
+use Rattle.host_workers.proofs.Laws.{Alike, Left}
 use Rattle.host_workers.proofs.scatter.Given as goal
 
 abbrev pub invariant-loop-v : goal.invariant-loop-v

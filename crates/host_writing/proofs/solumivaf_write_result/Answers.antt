@@ -3,7 +3,6 @@ use mathlib.Core.Path.{ap, ◌∙◌}
 use Rattle.model.specs.declared.Outcome.{Outcome}
 use Rattle.model.specs.Text.{Writing, write_result}
 use Rattle.host_answers.specs.Answers.{write_told}
-use borrow.Author.Rules.{rules}
 use Rattle.host_writing.proofs.solumivaf_write_result.Goals as goal
 
 pub returns : goal.returns

@@ -2,7 +2,6 @@
 use mathlib.Core.Path.{ap, ◌∙◌}
 use Rattle.model.specs.Text.{Writing}
 use Rattle.host_answers.specs.Answers.{write_told}
-use borrow.Author.Rules.{rules}
 use Rattle.host_writing.proofs.solumivaf_write_system.Goals as goal
 
 pub returns : goal.returns

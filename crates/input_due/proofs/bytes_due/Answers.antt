@@ -9,27 +9,27 @@ use Rattle.input_due.proofs.bytes_due.Goals as goal
 
 pub overflow_mul-result : goal.overflow_mul-result
 overflow_mul-result c =
-    let b = limits (shape_read _ _ _ _ _ c.check_header.ensures c.tiles-1.given.1) in omega arith
+    let b = limits (shape_read _ _ _ _ _ c.check_header.ensures c.in-Shape.is) in omega arith
 
 pub overflow_mul-result-in-Shape : goal.overflow_mul-result-in-Shape
 overflow_mul-result-in-Shape c =
-    let b = limits (shape_read _ _ _ _ _ c.check_header.ensures c.tiles-1.given.1) in omega arith
+    let b = limits (shape_read _ _ _ _ _ c.check_header.ensures c.in-Shape.is) in omega arith
 
 pub overflow_add-result : goal.overflow_add-result
 overflow_add-result c =
-    let b = limits (shape_read _ _ _ _ _ c.check_header.ensures c.tiles-1.given.1) in omega arith
+    let b = limits (shape_read _ _ _ _ _ c.check_header.ensures c.in-Shape.is) in omega arith
 
 pub overflow_mul-result-in-Shape-2 : goal.overflow_mul-result-in-Shape-2
 overflow_mul-result-in-Shape-2 c =
-    let b = limits (shape_read _ _ _ _ _ c.check_header.ensures c.tiles-1.given.1) in omega arith
+    let b = limits (shape_read _ _ _ _ _ c.check_header.ensures c.in-Shape.is) in omega arith
 
 pub overflow_mul-result-in-Shape-3 : goal.overflow_mul-result-in-Shape-3
 overflow_mul-result-in-Shape-3 c =
-    let b = limits (shape_read _ _ _ _ _ c.check_header.ensures c.tiles-1.given.1) in omega arith
+    let b = limits (shape_read _ _ _ _ _ c.check_header.ensures c.in-Shape.is) in omega arith
 
 pub overflow_add-result-in-Shape : goal.overflow_add-result-in-Shape
 overflow_add-result-in-Shape c =
-    let b = limits (shape_read _ _ _ _ _ c.check_header.ensures c.tiles-1.given.1) in omega arith
+    let b = limits (shape_read _ _ _ _ _ c.check_header.ensures c.in-Shape.is) in omega arith
 
 pub returns-in-Shape : goal.returns-in-Shape
 unfolding bytes_due

@@ -7,15 +7,15 @@ use Rattle.judge.proofs.lengths_due.Goals as goal
 
 pub overflow_mul-n : goal.overflow_mul-n
 overflow_mul-n c =
-    let f = facts (shape_read _ _ _ _ _ c.check_header.ensures c.tiles-1.given.1) in let n = mul-le-mul f.tiles.1 f.side.1 in omega arith
+    let f = facts (shape_read _ _ _ _ _ c.check_header.ensures c.in-Shape.is) in let n = mul-le-mul f.tiles.1 f.side.1 in omega arith
 
 pub overflow_mul-result : goal.overflow_mul-result
 overflow_mul-result c =
-    let f = facts (shape_read _ _ _ _ _ c.check_header.ensures c.tiles-1.given.1) in let n = mul-le-mul f.tiles.1 f.side.1 in omega (arith, mul-le-mul n n)
+    let f = facts (shape_read _ _ _ _ _ c.check_header.ensures c.in-Shape.is) in let n = mul-le-mul f.tiles.1 f.side.1 in omega (arith, mul-le-mul n n)
 
 pub overflow_mul-result-in-Shape : goal.overflow_mul-result-in-Shape
 overflow_mul-result-in-Shape c =
-    let f = facts (shape_read _ _ _ _ _ c.check_header.ensures c.tiles-1.given.1) in let n = mul-le-mul f.tiles.1 f.side.1 in omega (arith, mul-le-mul f.tiles.1 n)
+    let f = facts (shape_read _ _ _ _ _ c.check_header.ensures c.in-Shape.is) in let n = mul-le-mul f.tiles.1 f.side.1 in omega (arith, mul-le-mul f.tiles.1 n)
 
 pub returns-in-Shape : goal.returns-in-Shape
 returns-in-Shape c =

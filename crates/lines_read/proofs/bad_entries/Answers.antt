@@ -12,12 +12,8 @@ use Rattle.model.specs.Read.{field, entries_in}
 use Rattle.lines_read.specs.Line.{bad_entries}
 use Rattle.lines_read.proofs.Runs.{up_to, some_next, some_none}
 use Rattle.lines_read.proofs.Tested.{field_in, other_size, right_size}
+use Rattle.lines_read.proofs.bad_entries.Invariants.{exceeds}
 use Rattle.lines_read.proofs.bad_entries.Goals as goal
-
--- an entry from x on exceeds t
-
-exceeds : ℕ → List ℕ → ℕ → Bool
-exceeds t l x = some (ltb t) (map (λ y. field (6 + 2 * y) 2 l) (up_to x t))
 
 pub overflow_mul-t : goal.overflow_mul-t
 overflow_mul-t c =

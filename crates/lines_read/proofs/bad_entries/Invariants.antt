@@ -14,6 +14,10 @@ use Rattle.lines_read.proofs.Runs.{up_to, some_next, some_none}
 use Rattle.lines_read.proofs.Tested.{field_in, other_size, right_size}
 use Rattle.lines_read.proofs.bad_entries.Given as goal
 
+-- an entry from x on exceeds t
+unfoldable pub exceeds : ℕ → List ℕ → ℕ → Bool
+exceeds t l x = some (ltb t) (map (λ y. field (6 + 2 * y) 2 l) (up_to x t))
+
 abbrev pub invariant-loop-x : goal.invariant-loop-x
 invariant-loop-x l = (l.x ≤ l.t) × (length l.line ≡ 7 + 2 * l.t) × (exceeds l.t l.line l.x ≡ bad_entries l.t l.line)
 

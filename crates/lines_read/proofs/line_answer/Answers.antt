@@ -22,11 +22,11 @@ returns-then-wrong_frame c =
 
 pub not_finite-requires : goal.not_finite-requires
 not_finite-requires c =
-    (
-  line_of_digits _ (omega (arith, c.requires.line_len, length_above c.args.t c.args.due.kind)) (well_formed c.args.t _ (sym c.is_malformed.ensures ∙ c.if-is_malformed.false)),
-  (c.requires.line_len, c.requires.t_le_most_side),
-
-)
+    record {
+      line_of_digits = line_of_digits _ (omega (arith, c.requires.line_len, length_above c.args.t c.args.due.kind)) (well_formed c.args.t _ (sym c.is_malformed.ensures ∙ c.if-is_malformed.false));
+      line_len = c.requires.line_len;
+      t_le_most_side = c.requires.t_le_most_side;
+    }
 
 pub returns-then-not_finite : goal.returns-then-not_finite
 returns-then-not_finite c =

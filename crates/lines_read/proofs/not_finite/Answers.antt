@@ -13,12 +13,8 @@ use Rattle.model.specs.Read.{field, numbers_in}
 use Rattle.laws.proofs.Blocks.{square_most}
 use Rattle.lines_read.proofs.Runs.{up_to, every_next, every_none}
 use Rattle.lines_read.proofs.Tested.{field_in, tile_length, no_tile, tile_finite}
+use Rattle.lines_read.proofs.not_finite.Invariants.{finite_from}
 use Rattle.lines_read.proofs.not_finite.Goals as goal
-
--- the numbers from x on are finite
-
-finite_from : ℕ → List ℕ → ℕ → Bool
-finite_from t l x = every finite (map (λ y. of_bits binary64 (field (6 + 16 * y) 16 l)) (up_to x (t * t)))
 
 all_numbers : (t : ℕ) (l : List ℕ) → finite_from t l 0 ≡ all_finite (numbers_in t l)
 unfolding finite_from all_finite numbers_in below

@@ -15,6 +15,10 @@ use Rattle.lines_read.proofs.Runs.{up_to, every_next, every_none}
 use Rattle.lines_read.proofs.Tested.{field_in, tile_length, no_tile, tile_finite}
 use Rattle.lines_read.proofs.not_finite.Given as goal
 
+-- the numbers from x on are finite
+unfoldable pub finite_from : ℕ → List ℕ → ℕ → Bool
+finite_from t l x = every finite (map (λ y. of_bits binary64 (field (6 + 16 * y) 16 l)) (up_to x (t * t)))
+
 abbrev pub invariant-loop-x : goal.invariant-loop-x
 invariant-loop-x l = (l.x ≤ l.t * l.t) × (finite_from l.t l.line l.x ≡ all_finite (numbers_in l.t l.line))
 

@@ -1,6 +1,5 @@
 -- From the stage before it the task stands n + (n - k)² before the number p + 1 + i. Assumes nothing.
 use native.Mathlib.Omega.{arith}
-use borrow.Author.Rules.{rules}
 use Rattle.neighbours.proofs.Laws.{small, back_at, no_back, one_back}
 use Rattle.neighbours.proofs.back_mark.Goals as goal
 

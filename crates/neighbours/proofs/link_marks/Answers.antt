@@ -1,6 +1,5 @@
 -- Record p has the triple of task p. Assumes nothing.
 use mathlib.Core.Path.{refl}
-use borrow.Author.Rules.{rules}
 use Rattle.neighbours.proofs.Laws.{placed, marks_are}
 use Rattle.neighbours.proofs.link_marks.Goals as goal
 
@@ -10,11 +9,11 @@ back_mark-back-requires c =
 
 pub above_mark-above-requires : goal.above_mark-above-requires
 above_mark-above-requires c =
-    back_mark-requires c κs
+    placed _ _ _ c.requires _ c.record_at-r.ensures _ _ _ refl c.larger-i.ensures c.larger-j.ensures
 
 pub left_mark-left-requires : goal.left_mark-left-requires
 left_mark-left-requires c =
-    back_mark-requires c κs
+    placed _ _ _ c.requires _ c.record_at-r.ensures _ _ _ refl c.larger-i.ensures c.larger-j.ensures
 
 pub returns : goal.returns
 returns c =

@@ -11,10 +11,8 @@ use Rattle.model.specs.Read.{field, digit_value}
 use Rattle.lines_read.proofs.Tested.{field_in}
 use Rattle.numbers_read.specs.Decoded.{digit_values, numbers_of}
 use Rattle.numbers_read.proofs.Filled.{written, written_none, written_next, written_all}
+use Rattle.numbers_read.proofs.load_tile.Invariants.{number}
 use Rattle.numbers_read.proofs.load_tile.Goals as goal
-
-abbrev number : List ℕ → ℕ → Float
-number l x = of_bits binary64 (field (6 + 16 * x) 16 l)
 
 all_values : (0 ∷ 1 ∷ 2 ∷ 3 ∷ 4 ∷ 5 ∷ 6 ∷ 7 ∷ 8 ∷ 9 ∷ 3 ∷ 4 ∷ 5 ∷ 6 ∷ 7 ∷ 8 ∷ 9 ∷ 10 ∷ 11 ∷ 12 ∷ 13 ∷ 14 ∷ 15 ∷ []) ≡ digit_values
 unfolding run below table digit_value digit_values

@@ -13,6 +13,9 @@ use Rattle.numbers_read.specs.Decoded.{digit_values, numbers_of}
 use Rattle.numbers_read.proofs.Filled.{written, written_none, written_next, written_all}
 use Rattle.numbers_read.proofs.load_tile.Given as goal
 
+abbrev pub number : List ℕ → ℕ → Float
+number l x = of_bits binary64 (field (6 + 16 * x) 16 l)
+
 abbrev pub invariant-loop-x : goal.invariant-loop-x
 invariant-loop-x l = (l.x ≤ length l.initial.tile) × (length l.tile ≡ length l.initial.tile) × (l.tile ≡ written (number l.line) l.initial.tile l.x) × (l.values ≡ digit_values)
 

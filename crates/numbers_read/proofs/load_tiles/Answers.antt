@@ -10,12 +10,8 @@ use Rattle.laws.proofs.Blocks.{row_end}
 use Rattle.numbers_read.specs.Decoded.{line_at, tile_size, numbers_of, tiles_from}
 use Rattle.numbers_read.proofs.Filled.{place_fits, length_lent, parted, parted_none, turn, parted_all}
 use Rattle.numbers_read.proofs.Held.{length_numbers}
+use Rattle.numbers_read.proofs.load_tiles.Invariants.{held}
 use Rattle.numbers_read.proofs.load_tiles.Goals as goal
-
--- the numbers of tile q
-
-abbrev held : List ℕ → ℕ → ℕ → ℕ → List Float
-held text at s q = numbers_of s (line_at (at + q * tile_size s) (tile_size s) text)
 
 pub overflow_mul-size : goal.overflow_mul-size
 overflow_mul-size c =

@@ -12,6 +12,10 @@ use Rattle.numbers_read.proofs.Filled.{place_fits, length_lent, parted, parted_n
 use Rattle.numbers_read.proofs.Held.{length_numbers}
 use Rattle.numbers_read.proofs.load_tiles.Given as goal
 
+-- the numbers of tile q
+abbrev pub held : List ℕ → ℕ → ℕ → ℕ → List Float
+held text at s q = numbers_of s (line_at (at + q * tile_size s) (tile_size s) text)
+
 abbrev pub invariant-loop-q : goal.invariant-loop-q
 invariant-loop-q l = (l.q ≤ l.count) × (length l.matrix ≡ l.count * l.s) × (l.matrix ≡ parted l.s (held l.text l.at l.s) l.initial.matrix l.q)
 

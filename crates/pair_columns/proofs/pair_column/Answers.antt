@@ -45,11 +45,11 @@ returns-then-pair_rows c =
 
 pub fill_numbers-requires : goal.fill_numbers-requires
 fill_numbers-requires c =
-    omega (arith, (pair_ready c.requires).lower_room, c.tile_start-d.ensures, c.pair_rows.auto.0)
+    omega (arith, (pair_ready c.requires).lower_room, c.tile_start-d.ensures, c.pair_rows.auto.m)
 
 pub fill_numbers-requires-2 : goal.fill_numbers-requires-2
 fill_numbers-requires-2 c =
-    omega (arith, (pair_ready c.requires).upper_room, c.tile_start-u.ensures, c.pair_rows.auto.0, c.fill_numbers.auto.0)
+    omega (arith, (pair_ready c.requires).upper_room, c.tile_start-u.ensures, c.pair_rows.auto.m, c.fill_numbers.auto.0)
 
 pub returns : goal.returns
 returns c =

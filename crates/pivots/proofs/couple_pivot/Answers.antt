@@ -1,5 +1,4 @@
 -- `couple_pivot` meets its contract: the candidates are the upper diagonal element and the lower column. Assumes nothing.
-use borrow.Author.Rules.{rules}
 use mathlib.Core.Path.{refl, ap, subst, ◌∙◌}
 use mathlib.Core.List.{List}
 use Prim.Native.Nat.{◌+◌, ◌*◌, ◌≤◌}

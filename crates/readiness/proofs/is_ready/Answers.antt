@@ -1,6 +1,4 @@
 -- A task that waits is ready where the three marks are those of finished tasks. Assumes nothing.
-use borrow.Author.Rules.{rules}
-use borrow.Author.Tests.{not-true, not-false}
 use Rattle.readiness.proofs.Laws.{not_waiting, back_stops, others_decide}
 use Rattle.readiness.proofs.is_ready.Goals as goal
 

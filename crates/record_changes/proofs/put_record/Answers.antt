@@ -3,7 +3,6 @@ use mathlib.Core.Path.{◌∙◌}
 use lib.ListN.{length-set, set}
 use Rattle.records.specs.Records.{record_from, records_from}
 use Rattle.record_changes.proofs.Laws.{set_record, two_bytes_lem}
-use borrow.Author.Rules.{rules}
 use Rattle.record_changes.proofs.put_record.Goals as goal
 
 pub returns : goal.returns

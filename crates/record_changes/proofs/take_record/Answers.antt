@@ -5,7 +5,6 @@ use Rattle.model.specs.declared.TaskRecord.{TaskRecord}
 use Rattle.model.specs.Calls.{with_take}
 use Rattle.records.specs.Records.{records_from}
 use Rattle.record_changes.proofs.Laws.{changed_is}
-use borrow.Author.Rules.{rules}
 use Rattle.record_changes.proofs.take_record.Goals as goal
 
 pub returns : goal.returns

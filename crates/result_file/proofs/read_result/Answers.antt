@@ -6,7 +6,7 @@ use Rattle.result_file.proofs.read_result.Goals as goal
 
 pub read_result_lines-requires : goal.read_result_lines-requires
 read_result_lines-requires c =
-    shape_read _ _ _ _ _ c.check_header.ensures c.tiles-1.given.1
+    shape_read _ _ _ _ _ c.check_header.ensures c.in-Shape.is
 
 pub returns-in-Shape : goal.returns-in-Shape
 returns-in-Shape c =

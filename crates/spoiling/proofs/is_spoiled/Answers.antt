@@ -1,5 +1,4 @@
 -- A task is spoiled where one of the three marks is that of a failed or spoiled task. Assumes nothing.
-use borrow.Author.Rules.{rules}
 use Rattle.spoiling.proofs.Laws.{marks_spoil}
 use Rattle.spoiling.proofs.is_spoiled.Goals as goal
 

@@ -6,7 +6,7 @@ use Rattle.system_file.proofs.read_system.Goals as goal
 
 pub read_system_lines-requires : goal.read_system_lines-requires
 read_system_lines-requires c =
-    shape_read _ _ _ _ _ c.check_header.ensures c.tiles-1.given.1
+    shape_read _ _ _ _ _ c.check_header.ensures c.in-Shape.is
 
 pub returns-in-Shape : goal.returns-in-Shape
 returns-in-Shape c =

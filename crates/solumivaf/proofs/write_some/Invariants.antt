@@ -1,9 +1,0 @@
--- A turn less each time. Assumes nothing.
-use borrow.Author.Rules.{rules}
-use Rattle.solumivaf.proofs.write_some.Given as goal
-
-abbrev pub invariant-loop-turns : goal.invariant-loop-turns
-invariant-loop-turns l = Unit {0}
-
-abbrev pub decreases-loop-turns : goal.decreases-loop-turns
-decreases-loop-turns l = l.turns
