@@ -1,15 +1,11 @@
 -- All columns of T-4(k,i): what is left from column c on is the whole. Assumes nothing.
-use mathlib.Core.Path.{◌≡◌, refl, ◌∙◌}
+use mathlib.Core.Path.{refl, ◌∙◌}
 use mathlib.Core.Bool.{true}
-use Prim.Native.Nat.{ℕ, ◌-◌, ◌≤◌}
+use Prim.Native.Nat.{ℕ}
 use native.Mathlib.Omega.{arith}
-use lib.ListN.{length}
-use borrow.Author.Tests.{not-true, not-false}
-use Rattle.model.specs.Tile.{all_finite}
-use Rattle.model.specs.Plan.{plan, plan_of}
-use Rattle.model.specs.Solve.{going, paired}
+use Rattle.model.specs.Plan.{plan}
 use Rattle.progress.specs.Right.{passed_of, pair_all}
-use Rattle.progress.proofs.Turns.{Left, left_begins, left_goes, left_stops, left_ends, paired_keeps}
+use Rattle.progress.proofs.Turns.{left_begins, left_goes, left_stops, left_ends, paired_keeps}
 use Rattle.right_pairs.proofs.pair.Goals as goal
 
 pub loop-c-init : goal.loop-c-init

@@ -1,5 +1,4 @@
 -- One column of T-2(k): the exchanges, then the update of the rows below. Assumes nothing.
-use borrow.Author.Rules.{rules}
 use Prim.Native.Nat.{◌+◌, ◌*◌, ◌≤◌}
 use native.Mathlib.Omega.{arith}
 use lib.ListN.{length}
@@ -33,12 +32,16 @@ apply_right-requires c =
     let e = c.list_start-p.ensures in
     let x = c.start_block.ensures in
     let room : a.k * t + t * 1 ≤ length a.y.now = omega (arith, right_room a.z a.y.now p.1.0.long a.k p.1.1.0) in
-    let long = started_long t 1 a.c (a.k * t) c.list_start-p.result a.lists.now a.y.now _ room x in record { block = record {
+    let long = started_long t 1 a.c (a.k * t) c.list_start-p.result a.lists.now a.y.now _ room x in record {
+      block = record {
         rows_most = p.0.side_most;
         width_most = omega arith;
         few = omega (arith, long, right_few a.z a.y.now p.1.0.long p.0.tiles_most p.0.side_most);
         room = omega (arith, long, room);
-      }; block_2 = record { rows_most = p.0.side_most; width_most = p.0.side_most; few = r.numbers_few; room = rw c.tile_start-f.ensures r.room }; c_lt_t = (p.1.1.1, started_finite t 1 a.c (a.k * t) c.list_start-p.result a.lists.now a.y.now _ room x (rw e r.list_room) (rw e (λ i h. p.0.diagonal_entries a.k i p.1.1.0 h)) (finite_whole (a.k * t) (t * 1) a.y.now room p.1.0.all_finite_lem)) }
+      };
+      block_2 = record { rows_most = p.0.side_most; width_most = p.0.side_most; few = r.numbers_few; room = rw c.tile_start-f.ensures r.room };
+      c_lt_t = (p.1.1.1, started_finite t 1 a.c (a.k * t) c.list_start-p.result a.lists.now a.y.now _ room x (rw e r.list_room) (rw e (λ i h. p.0.diagonal_entries a.k i p.1.1.0 h)) (finite_whole (a.k * t) (t * 1) a.y.now room p.1.0.all_finite_lem));
+    }
 
 pub returns : goal.returns
 returns c =

@@ -1,17 +1,11 @@
 -- T-4(k,i) for i rising: what is left from i on is the whole. Assumes nothing.
-use borrow.Author.Rules.{rules}
 use mathlib.Core.Path.{◌≡◌, refl, ◌∙◌}
 use mathlib.Core.Bool.{true}
-use Prim.Native.Nat.{ℕ, suc, ◌+◌, ◌-◌, ◌<◌, ◌≤◌}
+use Prim.Native.Nat.{ℕ, suc, ◌+◌}
 use native.Mathlib.Omega.{arith}
-use lib.ListN.{length}
-use Rattle.model.specs.Lists.{in_turn}
-use Rattle.model.specs.Tile.{all_finite}
 use Rattle.model.specs.Task.{after}
-use Rattle.model.specs.Plan.{plan_of}
-use Rattle.model.specs.Solve.{going}
-use Rattle.progress.specs.Right.{passed_of, pair_all}
-use Rattle.progress.proofs.Turns.{Left, left_goes, left_stops, left_ends, went, halted, pairs_keep}
+use Rattle.progress.specs.Right.{passed_of}
+use Rattle.progress.proofs.Turns.{left_goes, left_stops, left_ends, went, halted, pairs_keep}
 use Rattle.right_sides.proofs.pair_below.Goals as goal
 
 pub overflow_add-i : goal.overflow_add-i

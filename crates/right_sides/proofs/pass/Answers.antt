@@ -1,17 +1,11 @@
 -- The stages in turn are the tasks in number order. Assumes nothing.
-use borrow.Author.Rules.{rules}
-use mathlib.Core.Path.{◌≡◌, refl, sym, ◌∙◌}
+use mathlib.Core.Path.{refl, sym, ◌∙◌}
 use mathlib.Core.Bool.{true}
-use Prim.Native.Nat.{ℕ, ◌-◌, ◌≤◌}
+use Prim.Native.Nat.{ℕ}
 use native.Mathlib.Omega.{arith}
-use lib.ListN.{length}
-use Rattle.model.specs.Lists.{in_turn}
-use Rattle.model.specs.Tile.{all_finite}
-use Rattle.model.specs.Task.{tasks}
-use Rattle.model.specs.Plan.{plan, plan_of}
-use Rattle.model.specs.Solve.{going, pass}
-use Rattle.progress.specs.Right.{passed_of, stage_passed}
-use Rattle.progress.proofs.Turns.{Left, left_begins, left_goes, left_stops, left_ends, went, halted, stage_keeps, tasks_are}
+use Rattle.model.specs.Plan.{plan}
+use Rattle.progress.specs.Right.{passed_of}
+use Rattle.progress.proofs.Turns.{left_begins, left_goes, left_stops, left_ends, went, halted, stage_keeps, tasks_are}
 use Rattle.right_sides.proofs.pass.Goals as goal
 
 pub loop-k-init : goal.loop-k-init
@@ -32,10 +26,13 @@ shape_of-y-in-Stopped c =
 pub returns-in-Stopped : goal.returns-in-Stopped
 unfolding passed_of
 returns-in-Stopped c =
-    let i = c.loop-k.invariant in record { passing = record {
+    let i = c.loop-k.invariant in record {
+      passing = record {
         is = left_stops _ (stage_keeps _ _) _ _ _ _ _ i.3 c.loop-k-test.true (halted _ _ _ c.stage-p.ensures.is _ c.in-Stopped.is);
         finite_then = λ q. let x : ◌≡◌ {A = ℕ} 0 1 = cc in absurd (omega arith);
-      }; y_len_unchanged = c.stage-p.auto.1.1.1.0 ∙ i.1 }
+      };
+      y_len_unchanged = c.stage-p.auto.1.1.1.0 ∙ i.1;
+    }
 
 pub overflow_add-k : goal.overflow_add-k
 overflow_add-k c =
