@@ -15,8 +15,8 @@ use Rattle.backward.proofs.back_rows.Given as goal
 
 abbrev pub invariant-loop-i : goal.invariant-loop-i
 invariant-loop-i l = (l.i ≤ l.z.tiles) × (length l.y ≡ length l.initial.y)
-    × ((lists : List ℕ) → back_below (plan_of l.z) (record { l.matrix = l.matrix; lists = lists }) (l.i * l.z.side) (going l.y) ≡ back_below (plan_of l.z) (record { l.matrix = l.matrix; lists = lists }) (l.z.tiles * l.z.side) (going l.initial.y))
-    × ((lists : List ℕ) → going l.y ≡ back_between (plan_of l.z) (record { l.matrix = l.matrix; lists = lists }) (l.i * l.z.side) (l.z.tiles * l.z.side) (going l.initial.y))
+    × ((lists : List ℕ) → back_below (plan_of l.z) (record { matrix = l.matrix; lists = lists }) (l.i * l.z.side) (going l.y) ≡ back_below (plan_of l.z) (record { matrix = l.matrix; lists = lists }) (l.z.tiles * l.z.side) (going l.initial.y))
+    × ((lists : List ℕ) → going l.y ≡ back_between (plan_of l.z) (record { matrix = l.matrix; lists = lists }) (l.i * l.z.side) (l.z.tiles * l.z.side) (going l.initial.y))
 
 abbrev pub decreases-loop-i : goal.decreases-loop-i
 decreases-loop-i l = l.i

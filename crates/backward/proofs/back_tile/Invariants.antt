@@ -15,8 +15,8 @@ use Rattle.backward.proofs.back_tile.Given as goal
 
 abbrev pub invariant-loop-r : goal.invariant-loop-r
 invariant-loop-r l = (l.r ≤ l.t) × (length l.y ≡ length l.initial.y)
-    × ((lists : List ℕ) → back_below (plan_of l.z) (record { l.matrix = l.matrix; lists = lists }) (l.i * l.t + l.r) (going l.y) ≡ back_below (plan_of l.z) (record { l.matrix = l.matrix; lists = lists }) (l.i * l.t + l.t) (going l.initial.y))
-    × ((lists : List ℕ) → going l.y ≡ back_between (plan_of l.z) (record { l.matrix = l.matrix; lists = lists }) (l.i * l.t + l.r) (l.i * l.t + l.t) (going l.initial.y))
+    × ((lists : List ℕ) → back_below (plan_of l.z) (record { matrix = l.matrix; lists = lists }) (l.i * l.t + l.r) (going l.y) ≡ back_below (plan_of l.z) (record { matrix = l.matrix; lists = lists }) (l.i * l.t + l.t) (going l.initial.y))
+    × ((lists : List ℕ) → going l.y ≡ back_between (plan_of l.z) (record { matrix = l.matrix; lists = lists }) (l.i * l.t + l.r) (l.i * l.t + l.t) (going l.initial.y))
 
 abbrev pub decreases-loop-r : goal.decreases-loop-r
 decreases-loop-r l = l.r
