@@ -1,15 +1,13 @@
 -- All columns of T-2(k): what is left from column c on is the whole. Assumes nothing.
-use mathlib.Core.Path.{◌≡◌, refl, ◌∙◌}
+use mathlib.Core.Path.{◌≡◌}
 use mathlib.Core.Bool.{true}
-use Prim.Native.Nat.{ℕ, ◌-◌, ◌≤◌}
-use native.Mathlib.Omega.{arith}
+use Prim.Native.Nat.{◌-◌, ◌≤◌}
 use lib.ListN.{length}
-use borrow.Author.Tests.{not-true, not-false}
 use Rattle.model.specs.Tile.{all_finite}
-use Rattle.model.specs.Plan.{plan, plan_of}
+use Rattle.model.specs.Plan.{plan_of}
 use Rattle.model.specs.Solve.{going, applied}
-use Rattle.progress.specs.Right.{passed_of, apply_all}
-use Rattle.progress.proofs.Turns.{Left, left_begins, left_goes, left_stops, left_ends, applied_keeps}
+use Rattle.progress.specs.Right.{apply_all}
+use Rattle.progress.proofs.Turns.{Left, applied_keeps}
 use Rattle.right_sides.proofs.apply.Given as goal
 
 abbrev pub invariant-loop-c : goal.invariant-loop-c

@@ -1,17 +1,15 @@
 -- T-4(k,i) for i rising: what is left from i on is the whole. Assumes nothing.
-use borrow.Author.Rules.{rules}
-use mathlib.Core.Path.{◌≡◌, refl, ◌∙◌}
+use mathlib.Core.Path.{◌≡◌}
 use mathlib.Core.Bool.{true}
-use Prim.Native.Nat.{ℕ, suc, ◌+◌, ◌-◌, ◌<◌, ◌≤◌}
-use native.Mathlib.Omega.{arith}
+use Prim.Native.Nat.{◌-◌, ◌<◌, ◌≤◌}
 use lib.ListN.{length}
 use Rattle.model.specs.Lists.{in_turn}
 use Rattle.model.specs.Tile.{all_finite}
 use Rattle.model.specs.Task.{after}
 use Rattle.model.specs.Plan.{plan_of}
 use Rattle.model.specs.Solve.{going}
-use Rattle.progress.specs.Right.{passed_of, pair_all}
-use Rattle.progress.proofs.Turns.{Left, left_goes, left_stops, left_ends, went, halted, pairs_keep}
+use Rattle.progress.specs.Right.{pair_all}
+use Rattle.progress.proofs.Turns.{Left, pairs_keep}
 use Rattle.right_sides.proofs.pair_below.Given as goal
 
 abbrev pub invariant-loop-i : goal.invariant-loop-i
