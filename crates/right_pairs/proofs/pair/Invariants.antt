@@ -12,8 +12,8 @@ use Rattle.right_pairs.proofs.pair.Given as goal
 
 abbrev pub invariant-loop-c : goal.invariant-loop-c
 invariant-loop-c l = (l.c ≤ l.t) × (length l.y ≡ length l.initial.y) × (all_finite l.y ≡ true)
-    × Left (paired (plan_of l.z) (record { l.matrix = l.matrix; l.lists = l.lists }) l.k l.i) (paired_keeps (plan_of l.z) (record { l.matrix = l.matrix; l.lists = l.lists }) l.k l.i) l.t l.c
-    (pair_all (plan_of l.z) (record { l.matrix = l.matrix; l.lists = l.lists }) l.k l.i (going l.initial.y)) l.c l.y
+    × Left (paired (plan_of l.z) (record { matrix = l.matrix; lists = l.lists }) l.k l.i) (paired_keeps (plan_of l.z) (record { matrix = l.matrix; lists = l.lists }) l.k l.i) l.t l.c
+    (pair_all (plan_of l.z) (record { matrix = l.matrix; lists = l.lists }) l.k l.i (going l.initial.y)) l.c l.y
 
 abbrev pub decreases-loop-c : goal.decreases-loop-c
 decreases-loop-c l = l.t - l.c

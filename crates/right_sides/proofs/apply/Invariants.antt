@@ -12,8 +12,8 @@ use Rattle.right_sides.proofs.apply.Given as goal
 
 abbrev pub invariant-loop-c : goal.invariant-loop-c
 invariant-loop-c l = (l.c ≤ l.t) × (length l.y ≡ length l.initial.y) × (all_finite l.y ≡ true)
-    × Left (applied (plan_of l.z) (record { l.matrix = l.matrix; l.lists = l.lists }) l.k) (applied_keeps (plan_of l.z) (record { l.matrix = l.matrix; l.lists = l.lists }) l.k) l.t l.c
-    (apply_all (plan_of l.z) (record { l.matrix = l.matrix; l.lists = l.lists }) l.k (going l.initial.y)) l.c l.y
+    × Left (applied (plan_of l.z) (record { matrix = l.matrix; lists = l.lists }) l.k) (applied_keeps (plan_of l.z) (record { matrix = l.matrix; lists = l.lists }) l.k) l.t l.c
+    (apply_all (plan_of l.z) (record { matrix = l.matrix; lists = l.lists }) l.k (going l.initial.y)) l.c l.y
 
 abbrev pub decreases-loop-c : goal.decreases-loop-c
 decreases-loop-c l = l.t - l.c

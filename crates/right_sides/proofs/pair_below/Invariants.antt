@@ -14,8 +14,8 @@ use Rattle.right_sides.proofs.pair_below.Given as goal
 
 abbrev pub invariant-loop-i : goal.invariant-loop-i
 invariant-loop-i l = (l.i ≤ l.n) × (l.k < l.i) × (length l.y ≡ length l.initial.y) × (all_finite l.y ≡ true)
-    × Left (pair_all (plan_of l.z) (record { l.matrix = l.matrix; l.lists = l.lists }) l.k) (pairs_keep (plan_of l.z) (record { l.matrix = l.matrix; l.lists = l.lists }) l.k) l.n l.i
-    (in_turn (pair_all (plan_of l.z) (record { l.matrix = l.matrix; l.lists = l.lists }) l.k) (after l.n l.k) (going l.initial.y)) l.i l.y
+    × Left (pair_all (plan_of l.z) (record { matrix = l.matrix; lists = l.lists }) l.k) (pairs_keep (plan_of l.z) (record { matrix = l.matrix; lists = l.lists }) l.k) l.n l.i
+    (in_turn (pair_all (plan_of l.z) (record { matrix = l.matrix; lists = l.lists }) l.k) (after l.n l.k) (going l.initial.y)) l.i l.y
 
 abbrev pub decreases-loop-i : goal.decreases-loop-i
 decreases-loop-i l = l.n - l.i

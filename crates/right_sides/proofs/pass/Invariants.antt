@@ -14,8 +14,8 @@ use Rattle.right_sides.proofs.pass.Given as goal
 
 abbrev pub invariant-loop-k : goal.invariant-loop-k
 invariant-loop-k l = (l.k ≤ l.n) × (length l.y ≡ length l.initial.y) × (all_finite l.y ≡ true)
-    × Left (stage_passed (plan_of l.z) (record { l.matrix = l.matrix; l.lists = l.lists })) (stage_keeps (plan_of l.z) (record { l.matrix = l.matrix; l.lists = l.lists })) l.n l.k
-    (in_turn (pass (plan_of l.z) (record { l.matrix = l.matrix; l.lists = l.lists })) (tasks l.n) (going l.initial.y)) l.k l.y
+    × Left (stage_passed (plan_of l.z) (record { matrix = l.matrix; lists = l.lists })) (stage_keeps (plan_of l.z) (record { matrix = l.matrix; lists = l.lists })) l.n l.k
+    (in_turn (pass (plan_of l.z) (record { matrix = l.matrix; lists = l.lists })) (tasks l.n) (going l.initial.y)) l.k l.y
 
 abbrev pub decreases-loop-k : goal.decreases-loop-k
 decreases-loop-k l = l.n - l.k
