@@ -34,9 +34,13 @@ pub returns-in_default : goal.returns-in_default
 unfolding passed_of lowest_done
 returns-in_default c =
     let e : suc (c.args.i * c.args.z.side + (c.loop-r.r - 1)) ≡ c.args.i * c.args.z.side + c.loop-r.r = omega (arith, c.loop-r-test.true) in
-    let i = c.loop-r.invariant in record { by_index = λ lists.
+    let i = c.loop-r.invariant in record {
+      by_index = λ lists.
           let q = back_not_finite _ _ _ _ _ (c.back_row-found.ensures lists) c.in_default.is in
-          back_stopped _ _ _ _ ∙ sym q ∙ rw e (i.2 lists); result_bound = omega (arith, e, i.0); by_index_2 = λ lists. rw e (i.3 lists) }
+          back_stopped _ _ _ _ ∙ sym q ∙ rw e (i.2 lists);
+      result_bound = omega (arith, e, i.0);
+      by_index_2 = λ lists. rw e (i.3 lists);
+    }
 
 pub offset_bounds-y-x : goal.offset_bounds-y-x
 offset_bounds-y-x c =

@@ -30,12 +30,16 @@ apply_right-requires c =
     let e = c.list_start-p.ensures in
     let x = c.start_block.ensures in
     let room : a.k * t + t * 1 ≤ length a.y.now = omega (arith, right_room a.z a.y.now c.requires.right_side.long a.k c.requires.k_lt_tiles.0) in
-    let long = started_long t 1 a.c (a.k * t) c.list_start-p.result a.lists.now a.y.now _ room x in record { block = record {
+    let long = started_long t 1 a.c (a.k * t) c.list_start-p.result a.lists.now a.y.now _ room x in record {
+      block = record {
         rows_most = c.requires.solvable.side_most;
         width_most = omega arith;
         few = omega (arith, long, right_few a.z a.y.now c.requires.right_side.long c.requires.solvable.tiles_most c.requires.solvable.side_most);
         room = omega (arith, long, room);
-      }; block_2 = record { rows_most = c.requires.solvable.side_most; width_most = c.requires.solvable.side_most; few = r.numbers_few; room = rw c.tile_start-f.ensures r.room }; c_lt_t = (c.requires.k_lt_tiles.1, started_finite t 1 a.c (a.k * t) c.list_start-p.result a.lists.now a.y.now _ room x (rw e r.list_room) (rw e (λ i h. c.requires.solvable.diagonal_entries a.k i c.requires.k_lt_tiles.0 h)) (finite_whole (a.k * t) (t * 1) a.y.now room c.requires.right_side.all_finite_lem)) }
+      };
+      block_2 = record { rows_most = c.requires.solvable.side_most; width_most = c.requires.solvable.side_most; few = r.numbers_few; room = rw c.tile_start-f.ensures r.room };
+      c_lt_t = (c.requires.k_lt_tiles.1, started_finite t 1 a.c (a.k * t) c.list_start-p.result a.lists.now a.y.now _ room x (rw e r.list_room) (rw e (λ i h. c.requires.solvable.diagonal_entries a.k i c.requires.k_lt_tiles.0 h)) (finite_whole (a.k * t) (t * 1) a.y.now room c.requires.right_side.all_finite_lem));
+    }
 
 pub returns : goal.returns
 returns c =

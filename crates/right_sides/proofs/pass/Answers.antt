@@ -1,5 +1,5 @@
 -- The stages in turn are the tasks in number order. Assumes nothing.
-use mathlib.Core.Path.{◌≡◌, refl, sym, ◌∙◌}
+use mathlib.Core.Path.{refl, sym, ◌∙◌}
 use Prim.Native.Nat.{ℕ}
 use native.Mathlib.Omega.{arith}
 use Rattle.model.specs.Plan.{plan}
@@ -28,7 +28,9 @@ returns-in-Stopped c =
       passing = record {
         is = left_stops _ (stage_keeps _ _) _ _ _ _ _ i.3 c.loop-k-test.true (halted _ _ _ c.stage-p.ensures.is _ c.in-Stopped.is);
         finite_then = λ q. let x : ◌≡◌ {A = ℕ} 0 1 = cc in absurd (omega arith);
-      }; y_len_unchanged = c.stage-p.auto.y ∙ i.1 }
+      };
+      y_len_unchanged = c.stage-p.auto.y ∙ i.1;
+    }
 
 pub overflow_add-k : goal.overflow_add-k
 overflow_add-k c =

@@ -2,9 +2,6 @@
 use mathlib.Core.Path.{◌≡◌}
 use Prim.Native.Nat.{suc, ◌+◌}
 use native.Mathlib.Omega.{arith}
-use Rattle.model.specs.Lists.{run}
-use Rattle.model.specs.Plan.{plan, plan_of}
-use Rattle.model.specs.Solve.{row_left}
 use Rattle.subtractions.proofs.Places.{Placed, placed}
 use Rattle.subtractions.proofs.Tiles.{tiles_more, tiles_end}
 use Rattle.subtractions.proofs.subtract_tiles.Goals as goal
