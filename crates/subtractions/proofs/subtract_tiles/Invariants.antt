@@ -2,12 +2,9 @@
 use mathlib.Core.Path.{◌≡◌}
 use mathlib.Core.List.{List}
 use Prim.Native.Nat.{ℕ, suc, ◌+◌, ◌-◌, ◌*◌, ◌≤◌}
-use native.Mathlib.Omega.{arith}
 use Rattle.model.specs.Lists.{run}
 use Rattle.model.specs.Plan.{plan}
 use Rattle.model.specs.Solve.{row_left}
-use Rattle.subtractions.proofs.Places.{Placed, placed}
-use Rattle.subtractions.proofs.Tiles.{tiles_more, tiles_end}
 use Rattle.subtractions.proofs.subtract_tiles.Given as goal
 
 abbrev pub invariant-loop-j : goal.invariant-loop-j
