@@ -1,6 +1,5 @@
 -- Each variant tells. Assumes nothing.
 use mathlib.Core.Path.{sym, ap}
-use borrow.Author.Rules.{rules}
 use Rattle.answers.specs.Answers.{accepts}
 use Rattle.answers.proofs.accepted.Goals as goal
 

@@ -1,6 +1,5 @@
 -- Each length is tested. Assumes nothing.
 use native.Mathlib.Omega.{arith}
-use borrow.Author.Rules.{rules}
 use Rattle.checks.proofs.Laws.{small, lengths_are}
 use Rattle.checks.proofs.bad_lengths.Goals as goal
 

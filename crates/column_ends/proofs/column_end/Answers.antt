@@ -1,5 +1,4 @@
 -- `column_end` meets its contract: the two ways through its test. Assumes nothing.
-use borrow.Author.Rules.{rules}
 use Prim.Native.Nat.{suc}
 use mathlib.Core.Path.{◌≡◌, refl}
 use native.Mathlib.Omega.{arith}

@@ -1,6 +1,5 @@
 -- By the end's cases. Assumes nothing.
 use mathlib.Core.Path.{sym, ap}
-use borrow.Author.Rules.{rules}
 use Rattle.model.specs.Buffer.{mark_after}
 use Rattle.column_marks.proofs.mark_after.Goals as goal
 

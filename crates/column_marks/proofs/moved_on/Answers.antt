@@ -1,6 +1,5 @@
 -- A finished task frees its worker. Assumes nothing.
 use mathlib.Core.Path.{sym, ◌∙◌}
-use borrow.Author.Rules.{rules}
 use Rattle.column_marks.proofs.Laws.{freed, goes_on}
 use Rattle.column_marks.proofs.moved_on.Goals as goal
 

@@ -1,6 +1,5 @@
 -- Only the first column is spoiled. Assumes nothing.
 use mathlib.Core.Path.{◌∙◌}
-use borrow.Author.Rules.{rules}
 use Rattle.column_marks.proofs.Laws.{later_column, first_column}
 use Rattle.column_marks.proofs.spoiled_at.Goals as goal
 

@@ -27,7 +27,7 @@ pub couple_pivot-found-requires : goal.couple_pivot-found-requires
 couple_pivot-found-requires c =
     let r = couple_ready c.requires in
     rw (c.tile_start-u.ensures, c.tile_start-d.ensures)
-    (record { rows_most = r.side_most; width_most = r.side_most; few = r.few; upper_room = r.upper_room; lower_room = r.lower_room; apart = r.apart }, (r.column, r.upper_finite, r.lower_finite))
+    (record { two_blocks = record { rows_most = r.side_most; width_most = r.side_most; few = r.few; upper_room = r.upper_room; lower_room = r.lower_room; apart = r.apart }; c_lt_t = (r.column, r.upper_finite, r.lower_finite) })
 
 pub overflow_cast-lists : goal.overflow_cast-lists
 overflow_cast-lists c =
@@ -87,7 +87,7 @@ column_end-requires-then-couple_rows c =
 
 pub shape_of-matrix-then-couple_rows : goal.shape_of-matrix-then-couple_rows
 shape_of-matrix-then-couple_rows c =
-    c.couple_rows.auto.0
+    c.couple_rows.auto.m
 
 pub shape_of-lists-then-couple_rows : goal.shape_of-lists-then-couple_rows
 shape_of-lists-then-couple_rows c =
@@ -110,16 +110,16 @@ fill_coupled-requires c =
     let u = c.tile_start-u.ensures in
     let d = c.tile_start-d.ensures in
     let p = c.list_start-p.ensures in
-    let long = c.couple_rows.auto.0 in
+    let long = c.couple_rows.auto.m in
     (r.side_most, omega (arith, r.upper_room, u, long), omega (arith, r.lower_room, d, long), simp length-set (omega (arith, r.list_room, p)))
 
 pub shape_of-matrix : goal.shape_of-matrix
 shape_of-matrix c =
-    c.fill_coupled.auto.0 ∙ c.couple_rows.auto.0
+    c.fill_coupled.auto.matrix ∙ c.couple_rows.auto.m
 
 pub shape_of-lists : goal.shape_of-lists
 shape_of-lists c =
-    c.fill_coupled.auto.1.0 ∙ simp length-set
+    c.fill_coupled.auto.lists ∙ simp length-set
 
 pub returns : goal.returns
 unfolding of_bits is_zero

@@ -1,14 +1,9 @@
 -- `eliminate` meets its contract: what the loop over rows has done is `RowsGone`, that over a row's numbers `RowDone`. Assumes nothing.
-use mathlib.Core.Path.{◌≡◌, refl, ◌∙◌}
+use mathlib.Core.Path.{◌≡◌}
 use mathlib.Core.Bool.{true}
-use Prim.Native.Nat.{ℕ, ◌+◌, ◌*◌, ◌-◌, ◌%◌, ◌≤◌}
-use native.Mathlib.Omega.{arith}
-use lib.Ieee.{of_bits}
-use Rattle.laws.proofs.Blocks.{row_end}
-use Rattle.model.specs.Num.{quotient, is_zero}
-use Rattle.row_updates.proofs.Done.{done_none}
-use Rattle.row_updates.proofs.Updated.{RowDone, row_unchanged, row_more, row_join, top_clear}
-use Rattle.elimination.proofs.Eliminated.{RowsGone, gone_none, divided_long, divided_finite, row_finite, gone_more, all_gone, gone_stop}
+use Prim.Native.Nat.{◌+◌, ◌*◌, ◌-◌, ◌%◌, ◌≤◌}
+use Rattle.row_updates.proofs.Updated.{RowDone}
+use Rattle.elimination.proofs.Eliminated.{RowsGone}
 use Rattle.elimination.proofs.eliminate.Given as goal
 
 abbrev pub invariant-loop-q : goal.invariant-loop-q

@@ -1,12 +1,7 @@
 -- What is left of the rows gives the whole answer. Assumes nothing.
-use Prim.Native.Nat.{◌*◌, ◌-◌, ◌≤◌}
-use mathlib.Core.Path.{◌≡◌, sym, ◌∙◌}
+use mathlib.Core.Path.{sym, ◌∙◌}
 use native.Mathlib.Omega.{arith}
-use Rattle.model.specs.Refusal.{bad_entry}
-use Rattle.model.specs.Plan.{plan_of}
-use Rattle.model.specs.Lists.{below, some}
-use Rattle.checks.specs.Checks.{lists_alone}
-use Rattle.entries.proofs.Laws.{rows_left, rows_begin, rows_stop, rows_go_on, rows_end}
+use Rattle.entries.proofs.Laws.{rows_begin, rows_stop, rows_go_on, rows_end}
 use Rattle.entries.proofs.bad_entries.Goals as goal
 
 pub loop-i-init : goal.loop-i-init

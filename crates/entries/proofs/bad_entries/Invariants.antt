@@ -1,12 +1,11 @@
 -- What is left of the rows gives the whole answer. Assumes nothing.
 use Prim.Native.Nat.{◌*◌, ◌-◌, ◌≤◌}
-use mathlib.Core.Path.{◌≡◌, sym, ◌∙◌}
-use native.Mathlib.Omega.{arith}
+use mathlib.Core.Path.{◌≡◌}
 use Rattle.model.specs.Refusal.{bad_entry}
 use Rattle.model.specs.Plan.{plan_of}
 use Rattle.model.specs.Lists.{below, some}
 use Rattle.checks.specs.Checks.{lists_alone}
-use Rattle.entries.proofs.Laws.{rows_left, rows_begin, rows_stop, rows_go_on, rows_end}
+use Rattle.entries.proofs.Laws.{rows_left}
 use Rattle.entries.proofs.bad_entries.Given as goal
 
 abbrev pub invariant-loop-i : goal.invariant-loop-i

@@ -1,14 +1,11 @@
 -- What is left of the row gives the whole row's answer. Assumes nothing.
 use Prim.Native.Nat.{◌*◌, ◌-◌, ◌≤◌}
-use mathlib.Core.Path.{◌≡◌, sym, ◌∙◌}
-use native.Mathlib.Omega.{arith}
+use mathlib.Core.Path.{◌≡◌}
 use Rattle.model.specs.Refusal.{bad_entry}
 use Rattle.model.specs.Plan.{plan_of}
 use Rattle.model.specs.Lists.{run, some}
-use Rattle.laws.proofs.Blocks.{in_block, place_room}
-use Rattle.checks.proofs.Laws.{small}
 use Rattle.checks.specs.Checks.{lists_alone}
-use Rattle.entries.proofs.Laws.{list_exceeds, row_left, row_begins, row_stops, row_goes_on, row_ends}
+use Rattle.entries.proofs.Laws.{row_left}
 use Rattle.entries.proofs.bad_row.Given as goal
 
 abbrev pub invariant-loop-j : goal.invariant-loop-j

@@ -1,5 +1,4 @@
 -- The three cases of a list's place. Assumes nothing.
-use borrow.Author.Rules.{rules}
 use Rattle.entries.proofs.Laws.{limit_diagonal, limit_below, limit_above}
 use Rattle.entries.proofs.entry_limit.Goals as goal
 

@@ -1,20 +1,12 @@
 -- What is found so far, or in what is left, gives the whole search's answer. Assumes nothing.
-use Prim.Native.Nat.{ℕ, ◌+◌, ◌-◌, ◌≤◌}
-use mathlib.Core.Bool.{Bool, ◌||◌}
-use mathlib.Core.List.{List}
-use mathlib.Core.Path.{◌≡◌, ap}
+use Prim.Native.Nat.{ℕ}
+use mathlib.Core.Path.{ap}
 use native.Mathlib.Omega.{arith}
 use native.Mathlib.Nat.{add-sub_cancel_left}
-use lib.ListN.{get_or}
-use lib.Dec.{ltb}
 use Rattle.model.specs.Lists.{run, some}
 use Rattle.entries.proofs.Laws.{found_more, found_all}
 use Rattle.entries.proofs.exceeded.Goals as goal
-
--- entry x is above the limit
-
-abbrev over : ℕ → List ℕ → ℕ → Bool
-over limit lists x = ltb limit (get_or lists x 0)
+use Rattle.entries.proofs.exceeded.Invariants.{over}
 
 pub overflow_add-end : goal.overflow_add-end
 overflow_add-end c =

@@ -4,7 +4,6 @@ use Rattle.worker.specs.declared.Workers.{Workers}
 use Rattle.model.specs.Refusal.{outcome_call}
 use Rattle.records.specs.Records.{all_lent}
 use Rattle.host_answers.specs.Answers.{outcome_told}
-use borrow.Author.Rules.{rules}
 use Rattle.host_solve.proofs.solumivaf_outcome.Goals as goal
 
 pub returns : goal.returns

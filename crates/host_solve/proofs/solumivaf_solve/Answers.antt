@@ -2,7 +2,6 @@
 use Rattle.model.specs.Calls.{Lent}
 use Rattle.model.specs.Solve.{solve_call}
 use Rattle.host_calls.proofs.Laws.{solve_said}
-use borrow.Author.Rules.{rules}
 use Rattle.host_solve.proofs.solumivaf_solve.Goals as goal
 
 pub returns : goal.returns

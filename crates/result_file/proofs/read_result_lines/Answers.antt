@@ -1,5 +1,4 @@
 -- `result_file::read_result_lines` meets its contract. Assumes nothing.
-use borrow.Author.Rules.{rules}
 use mathlib.Core.Path.{sym, ap, ◌∙◌}
 use native.Mathlib.Nat.{mul-le-mul}
 use native.Mathlib.Omega.{arith}
@@ -34,11 +33,10 @@ check_result_lines-requires c =
 
 pub load_result-requires : goal.load_result-requires
 load_result-requires c =
-    (
-  result_lines_lem _ _ _ c.requires (sym (c.text_end.ensures ∙ ap (text_end _) c.check_result_lines.ensures) ∙ c.enum_told-1.given.1),
-  (omega (arith, c.if-matrix-order.false), c.if-lists-tiles.false),
-
-)
+    record {
+      result_lines = result_lines_lem _ _ _ c.requires (sym (c.text_end.ensures ∙ ap (text_end _) c.check_result_lines.ensures) ∙ c.in-Accepted.is);
+      matrix_len = (omega (arith, c.if-matrix-order.false), c.if-lists-tiles.false);
+    }
 
 pub returns-in-Refused : goal.returns-in-Refused
 returns-in-Refused c =

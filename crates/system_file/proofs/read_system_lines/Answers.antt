@@ -1,5 +1,4 @@
 -- `system_file::read_system_lines` meets its contract. Assumes nothing.
-use borrow.Author.Rules.{rules}
 use mathlib.Core.Path.{sym, ◌∙◌}
 use native.Mathlib.Nat.{mul-le-mul}
 use native.Mathlib.Omega.{arith}
@@ -33,7 +32,7 @@ overflow_mul-tiles c =
 
 pub load_tiles-requires : goal.load_tiles-requires
 load_tiles-requires c =
-    let f = facts c.requires in record { tile_lines = system_lines _ _ _ c.requires (sym c.check_system_lines.ensures ∙ c.enum_told-1.given.1); matrix_len = omega (arith, c.if-matrix-order.false); s_bound = (mul-le-mul f.side.1 f.side.1, mul-le-mul f.tiles.1 f.tiles.1) }
+    let f = facts c.requires in record { tile_lines = system_lines _ _ _ c.requires (sym c.check_system_lines.ensures ∙ c.in-Accepted.is); matrix_len = omega (arith, c.if-matrix-order.false); s_bound = (mul-le-mul f.side.1 f.side.1, mul-le-mul f.tiles.1 f.tiles.1) }
 
 pub returns-in-Refused : goal.returns-in-Refused
 returns-in-Refused c =
