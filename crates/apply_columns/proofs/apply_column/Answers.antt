@@ -1,5 +1,4 @@
 -- `apply_column` meets its contract: the two ways by whether every number computed is finite. Assumes nothing.
-use borrow.Author.Rules.{rules}
 use native.Mathlib.Omega.{arith}
 use Rattle.column_laws.proofs.Permutes.{started_long, started_finite}
 use Rattle.column_laws.proofs.Ends.{apply_ends, apply_fails}
@@ -10,7 +9,7 @@ pub start_block-requires : goal.start_block-requires
 start_block-requires c =
     let r = apply_ready c.requires in
     rw (c.tile_start-a.ensures, c.list_start-p.ensures)
-    (record { rows_most = r.side_most; width_most = r.side_most; few = r.few; room = r.room }, (r.list_room, omega (arith, r.lists_few), r.entries))
+    (record { block = record { rows_most = r.side_most; width_most = r.side_most; few = r.few; room = r.room }; t_in_bounds = (r.list_room, omega (arith, r.lists_few), r.entries) })
 
 pub apply_rows-requires : goal.apply_rows-requires
 apply_rows-requires c =
@@ -43,7 +42,7 @@ overflow_mul-t c =
 pub fill_numbers-requires : goal.fill_numbers-requires
 fill_numbers-requires c =
     let r = apply_ready c.requires in
-    omega (arith, r.room, c.tile_start-a.ensures, c.apply_rows.auto.m, c.start_block.auto.0)
+    omega (arith, r.room, c.tile_start-a.ensures, c.apply_rows.auto.m, c.start_block.auto.m)
 
 pub returns : goal.returns
 returns c =

@@ -1,7 +1,5 @@
 -- A refusal leaves everything; else each part is as the definition has it. Assumes nothing.
 use mathlib.Core.Path.{refl}
-use borrow.Author.Rules.{rules}
-use borrow.Author.Tests.{not-true, not-false}
 use native.Mathlib.Omega.{arith}
 use Rattle.opening.proofs.Laws.{checked_then, refused, accepted}
 use Rattle.opening.proofs.open.Goals as goal
