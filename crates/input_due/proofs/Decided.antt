@@ -46,7 +46,7 @@ order_small {text} {N} {t} h =
     let c = passed 12 1 (malformed 0 H) _ b.1 in
     let d = passed 13 1 (not (eqb (kind_in H) 1)) _ c.1 in
     let e = passed 1 1 (bad_shape (tiles_in H) (side_in H) || ltb 48 (tiles_in H * side_in H)) _ d.1 in
-    rw (h.tiles_in_lem, h.side_in_lem) (ltb-false 48 (tiles_in H * side_in H) (or_false_right (bad_shape (tiles_in H) (side_in H)) (ltb 48 (tiles_in H * side_in H)) e.0))
+    rw (h.tiles_told, h.side_told) (ltb-false 48 (tiles_in H * side_in H) (or_false_right (bad_shape (tiles_in H) (side_in H)) (ltb 48 (tiles_in H * side_in H)) e.0))
 
 -- what the code multiplies, and how many bytes are due at most
 pub record Limits (N t : ℕ) : Type 0 where

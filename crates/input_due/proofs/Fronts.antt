@@ -43,6 +43,6 @@ module _ (limit : ℕ) where
   pub same_headed : (text front : List ℕ) (N t : ℕ) → take 7 text ≡ take 7 front → Headed limit front N t → Headed limit text N t
   same_headed text front N t e h = record {
     accepted = same_header text front e ∙ h.accepted;
-    tiles_in_lem = h.tiles_in_lem ∙ ap tiles_in (sym e);
-    side_in_lem = h.side_in_lem ∙ ap side_in (sym e);
+    tiles_told = h.tiles_told ∙ ap tiles_in (sym e);
+    side_told = h.side_told ∙ ap side_in (sym e);
   }

@@ -104,7 +104,7 @@ module _ (text : List ℕ) (m : List Float) (l : List ℕ) where
             let o = outcome_read t N text f.long p in
             let tiles = tiles_read t N text start p.middle (start_placed text f.long) p.to_lists in
             let lists = lists_read t N text f.long p in
-            rw (by_lengths false both ∙ e, f.lines, ← h.tiles_in_lem, ← h.side_in_lem)
+            rw (by_lengths false both ∙ e, f.lines, ← h.tiles_told, ← h.side_told)
             (λ i. record { answer = ResultRead N t (outcome_in (sym o i)); matrix = sym tiles i; lists = sym lists i })
 
 pub result_lines_lem : {limit : ℕ} (text : List ℕ) (N t : ℕ) → Headed limit text N t → text_end text (follow t text (result_frames N) start) ≡ Accepted → ResultLines N t text

@@ -57,7 +57,7 @@ header_facts limit text e =
         record { long = l; lines = whole_line 7 text (omega arith) l (well_formed 0 (header_line text) q); tiles = f.0; side = f.1 }
 
 pub facts : {limit N t : ℕ} {text : List ℕ} → Headed limit text N t → HeaderFacts text N t
-facts {limit} {N} {t} {text} h = rw (h.tiles_in_lem, h.side_in_lem) (header_facts limit text h.accepted)
+facts {limit} {N} {t} {text} h = rw (h.tiles_told, h.side_told) (header_facts limit text h.accepted)
 
 -- what the header's reader answered
 pub shape_read : (limit : ℕ) (text : List ℕ) (r : Header) (N t : ℕ) → r ≡ header_of limit text → r ≡ Shape N t → Headed limit text N t
@@ -65,7 +65,7 @@ unfolding header_of
 shape_read limit text r N t e q = go (header_answer limit text) refl (sym q ∙ e)
   where
     go : (a : Answer) → header_answer limit text ≡ a → Shape N t ≡ shaped a (header_line text) → Headed limit text N t
-    go Accepted p e = record { accepted = p; tiles_in_lem = cc; side_in_lem = cc }
+    go Accepted p e = record { accepted = p; tiles_told = cc; side_told = cc }
     go (Refused n x) p e = let z : ◌≡◌ {A = ℕ} 0 1 = cc in absurd (omega arith)
 
 pub refusal_read : (limit : ℕ) (text : List ℕ) (r : Header) (n x : ℕ) → r ≡ header_of limit text → r ≡ Unread n x → header_answer limit text ≡ Refused n x
@@ -88,7 +88,7 @@ module _ (limit : ℕ) (frames : ℕ → List Frame) (lengths : ℕ → ℕ → 
   module _ (N t : ℕ) (h : Headed limit text N t) where
     pub file_followed : file_answer limit frames lengths (lines_from [] text) ≡ refuse 2 0 (lengths N t) (text_end text (follow t text (frames N) start))
     file_followed =
-        rw (h.tiles_in_lem, h.side_in_lem)
+        rw (h.tiles_told, h.side_told)
         (file_headed limit frames lengths text
         ∙ ap (λ (a : Answer). passed a (behind_header limit frames lengths (header_line text) (lines_from [] (drop 7 text)))) h.accepted
         ∙ ap (refuse 2 0 (lengths (tiles_in (header_line text)) (side_in (header_line text)))) (lines_followed (side_in (header_line text)) text (frames (tiles_in (header_line text))) start))

@@ -35,7 +35,7 @@ module _ (lengths : ℕ → ℕ → Bool) (limit : ℕ) (text : List ℕ) (m : L
     accepted e =
         let z = to_end t text (tile_frames N) start e in
         let tiles = tiles_read t N text start z.end (start_placed text (facts h).long) z.followed in
-        rw (by_frames ∙ e, (facts h).lines, ← h.tiles_in_lem, ← h.side_in_lem) (ap (λ (f : List Float). record { answer = SystemRead N t; matrix = f }) (sym tiles))
+        rw (by_frames ∙ e, (facts h).lines, ← h.tiles_told, ← h.side_told) (ap (λ (f : List Float). record { answer = SystemRead N t; matrix = f }) (sym tiles))
 
 -- ---- checked alone
 

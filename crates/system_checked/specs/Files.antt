@@ -9,8 +9,8 @@ use Rattle.header_read.specs.Heads.{header_line, header_answer}
 -- line 1 is accepted and tells N and t
 pub record Headed (limit : ℕ) (text : List ℕ) (N t : ℕ) : Type 0 where
   pub accepted : header_answer limit text ≡ Accepted
-  pub tiles_in_lem : N ≡ tiles_in (header_line text)
-  pub side_in_lem : t ≡ side_in (header_line text)
+  pub tiles_told : N ≡ tiles_in (header_line text)
+  pub side_told : t ≡ side_in (header_line text)
 
 -- the cursor after the header
 abbrev pub start : Cursor
