@@ -1,7 +1,7 @@
 -- The bytes read are the record's. Assumes nothing.
 use Prim.Native.Nat.{ℕ}
 use mathlib.Core.Path.{sym, ◌∙◌}
-use mathlib.Core.List.{List}
+use mathlib.Core.List.{List, []}
 use lib.ListN.{get_or}
 use Rattle.records.specs.Records.{record_from}
 use Rattle.records.proofs.Laws.{get_record}
