@@ -20,11 +20,14 @@ apply_rows-requires c =
     let p = c.list_start-p.ensures in
     let x = c.start_block.ensures in
     let room = rw (← e) at r.room in
-    let long = started_long t t a.c c.tile_start-a.result c.list_start-p.result a.lists.now a.matrix.now _ room x in record { block = record { rows_most = r.side_most; width_most = r.side_most; few = omega (arith, long, r.few); room = omega (arith, long, room) }; c_lt_t = (
+    let long = started_long t t a.c c.tile_start-a.result c.list_start-p.result a.lists.now a.matrix.now _ room x in record {
+      block = record { rows_most = r.side_most; width_most = r.side_most; few = omega (arith, long, r.few); room = omega (arith, long, room) };
+      c_lt_t = (
         r.column,
         rw (e, c.tile_start-f.ensures) r.mult_left,
         started_finite t t a.c c.tile_start-a.result c.list_start-p.result a.lists.now a.matrix.now _ room x (rw p r.list_room) (rw p r.entries) (rw e r.tile_finite),
-      ) }
+      );
+    }
 
 pub returns-then-apply_rows : goal.returns-then-apply_rows
 returns-then-apply_rows c =

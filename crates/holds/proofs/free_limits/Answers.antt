@@ -19,7 +19,7 @@ unfolding finished
 returns-then-mark-2 c =
     let ties_are : c.if-mark.ties ≡ cond (eqb c.args.mark 2 || eqb c.args.mark 3) (c.args.z.side * c.args.z.side) 0 = let t : ℕ = c.args.z.side in
     elim c.if-mark.branch [
-      then-mark w ↦ w.ties-is ∙ sym (ap (λ (b : Bool). cond b (t * t) 0) w.if-mark.true)
+      | then-mark w ↦ w.ties-is ∙ sym (ap (λ (b : Bool). cond b (t * t) 0) w.if-mark.true)
       | else-mark w ↦ w.ties-is ∙ sym (ap (λ (b : Bool). cond b (t * t) 0) w.if-mark.false)
     ] in let a = c.args in
     let s = c.requires in
@@ -31,7 +31,7 @@ unfolding finished
 returns-else-mark-2 c =
     let ties_are : c.if-mark.ties ≡ cond (eqb c.args.mark 2 || eqb c.args.mark 3) (c.args.z.side * c.args.z.side) 0 = let t : ℕ = c.args.z.side in
     elim c.if-mark.branch [
-      then-mark w ↦ w.ties-is ∙ sym (ap (λ (b : Bool). cond b (t * t) 0) w.if-mark.true)
+      | then-mark w ↦ w.ties-is ∙ sym (ap (λ (b : Bool). cond b (t * t) 0) w.if-mark.true)
       | else-mark w ↦ w.ties-is ∙ sym (ap (λ (b : Bool). cond b (t * t) 0) w.if-mark.false)
     ] in let a = c.args in
     λ r h p e d. allowed_free a.z r h p a.mark e d _ _ (ties_are) (sym (ap (λ (b : Bool). cond b (suc a.z.side) 0) c.if-mark-2.false)) (omega arith)

@@ -51,15 +51,13 @@ loop-v-preserved c =
     let more = c.loop-v-test.true in
     let inv = c.loop-v.invariant in
     elim c.if-h-p.branch [
-      then-h-p w ↦ (omega arith, omega arith, omega arith, keep_counts _ _ _ _ _ _ more inv.3 w.if-h-p.true w.n-is, sum_adds _ _ _ _ _ _ _ _ more inv.4 w.if-h-p.true w.column-is)
+      | then-h-p w ↦ (omega arith, omega arith, omega arith, keep_counts _ _ _ _ _ _ more inv.3 w.if-h-p.true w.n-is, sum_adds _ _ _ _ _ _ _ _ more inv.4 w.if-h-p.true w.column-is)
       | else-h-p w ↦ (omega arith, omega arith, omega arith, keep_passes _ _ _ _ _ _ more inv.3 w.if-h-p.false w.n-is, sum_passes _ _ _ _ _ _ _ _ more inv.4 w.if-h-p.false w.column-is)
     ]
 
 pub returns : goal.returns
-returns c =
-    (
+returns c = (
   keep_ends _ _ _ _ _ c.loop-v-test.false c.loop-v.invariant.3 ∙ sym (keep_workers _ _ (holds c.args.p)),
   sum_ends _ _ _ _ _ _ _ c.loop-v-test.false c.loop-v.invariant.4,
   omega arith,
-
 )

@@ -1,6 +1,5 @@
 -- T-2(k), then T-4(k,i) for i rising. Assumes nothing.
-use borrow.Author.Rules.{rules}
-use mathlib.Core.Path.{◌≡◌, sym, ap, ◌∙◌}
+use mathlib.Core.Path.{sym, ap, ◌∙◌}
 use Prim.Native.Nat.{ℕ}
 use native.Mathlib.Omega.{arith}
 use Rattle.model.specs.Lists.{in_turn}
@@ -21,12 +20,11 @@ returns-in-Stopped c =
 
 pub pair_below-requires : goal.pair_below-requires
 pair_below-requires c =
-    let p = (c.requires.solvable, (c.requires.right_side, c.requires.k_lt_tiles)) in
-    record { solvable = p.0; right_side = record { long = c.apply-p.auto.1.1.1.0 ∙ p.1.0.long; all_finite_lem = c.apply-p.ensures.finite_then c.enum_told-1.given.1 }; k_lt_tiles = p.1.1 }
+    record { solvable = c.requires.solvable; right_side = record { long = c.apply-p.auto.y ∙ c.requires.right_side.long; all_finite_lem = c.apply-p.ensures.finite_then c.in_default.is }; k_lt_tiles = c.requires.k_lt_tiles }
 
 pub returns : goal.returns
 unfolding stage_passed plan
 returns c =
-    let e = went _ _ _ c.apply-p.ensures.is c.enum_told-1.given.1 in
+    let e = went _ _ _ c.apply-p.ensures.is c.in_default.is in
     let r = c.pair_below.ensures in
     record { is = r.is ∙ ap (in_turn (pair_all _ _ _) (after _ _)) e; finite_then = r.finite_then }
