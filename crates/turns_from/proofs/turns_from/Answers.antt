@@ -46,14 +46,6 @@ pub bounds-left-w-then-h : goal.bounds-left-w-then-h
 bounds-left-w-then-h c =
     let i = c.turns.invariant in omega (arith, i.turn_of, (sizes i).few_workers)
 
-pub overflow_cast-h : goal.overflow_cast-h
-overflow_cast-h c =
-    omega (arith, c.type_inv.UNKNOWN)
-
-pub search_start-from-requires : goal.search_start-from-requires
-search_start-from-requires c =
-    omega (arith, c.type_inv.UNKNOWN)
-
 pub overflow_add-n : goal.overflow_add-n
 overflow_add-n c =
     omega (arith, c.turns-test.true, c.ranges.budget)
@@ -111,9 +103,9 @@ turns-smaller-then-from-records c =
 
 pub turns-preserved-then-from-records : goal.turns-preserved-then-from-records
 turns-preserved-then-from-records c =
-    let t = (c.take_task.ensures.value, (c.take_task.ensures.records_after, c.take_task.ensures.records_len_unchanged)) in
+    let t = c.take_task.ensures in
     take_goes c.turns.invariant _ c.lowest_ready-from.ensures c.if-h.false c.if-from-records.true (omega (arith, c.turns-test.true))
-    _ t.0 _ t.1.0 t.1.1 _ c.worker_after-w-then-from-records.ensures
+    _ t.value _ t.records_after t.records_len_unchanged _ c.worker_after-w-then-from-records.ensures
 
 -- ---- neither: the first busy worker from this one on, or else below it
 
