@@ -27,7 +27,7 @@ returns-then-not-pair_right_column c =
     let i = c.loop-c.invariant in
     record {
       is = left_stops _ (paired_keeps _ _ _ _) _ _ _ _ _ i.3 c.loop-c-test.true (c.pair_right_column.ensures.stops c.if-not-pair_right_column.true);
-      finite_then = λ q. let x : ◌≡◌ {A = ℕ} 0 1 = cc in absurd (omega arith);
+      finite_then = λ q. cc;
     }
 
 pub overflow_add-c : goal.overflow_add-c

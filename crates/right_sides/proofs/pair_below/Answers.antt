@@ -32,7 +32,7 @@ returns-in-Stopped c =
     let i = c.loop-i.invariant in
     record {
       is = left_stops _ (pairs_keep _ _ _) _ _ _ _ _ i.4 c.loop-i-test.true (halted _ _ _ c.pair-p.ensures.is _ c.in-Stopped.is);
-      finite_then = λ q. let x : ◌≡◌ {A = ℕ} 0 1 = cc in absurd (omega arith);
+      finite_then = λ q. cc;
     }
 
 pub overflow_add-i-in-loop-i : goal.overflow_add-i-in-loop-i

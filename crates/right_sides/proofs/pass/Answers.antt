@@ -27,7 +27,7 @@ returns-in-Stopped c =
     let i = c.loop-k.invariant in record {
       passing = record {
         is = left_stops _ (stage_keeps _ _) _ _ _ _ _ i.3 c.loop-k-test.true (halted _ _ _ c.stage-p.ensures.is _ c.in-Stopped.is);
-        finite_then = λ q. let x : ◌≡◌ {A = ℕ} 0 1 = cc in absurd (omega arith);
+        finite_then = λ q. cc;
       };
       y_len_unchanged = c.stage-p.auto.y ∙ i.1;
     }

@@ -15,7 +15,7 @@ returns-in-Stopped c =
     let e = halted _ _ _ c.apply-p.ensures.is _ c.in-Stopped.is in
     record {
       is = sym (turns_stop (pair_all _ _ _) (pairs_keep _ _ _) (after _ _) _) ∙ ap (in_turn (pair_all _ _ _) (after _ _)) e;
-      finite_then = λ q. let x : ◌≡◌ {A = ℕ} 0 1 = cc in absurd (omega arith);
+      finite_then = λ q. cc;
     }
 
 pub pair_below-requires : goal.pair_below-requires

@@ -10,9 +10,9 @@ returns-in-Refused c =
 
 pub take_turns-requires : goal.take_turns-requires
 take_turns-requires c =
-    sym c.run_answer-answer.ensures ∙ c.enum_told-1.given.1
+    sym c.run_answer-answer.ensures ∙ c.in_default.is
 
 pub returns : goal.returns
 returns c =
     let t = c.take_turns in record { workers_after = t.ensures.0 ∙ accepted _ _ _ _ c.run_answer-answer.ensures
-          c.enum_told-1.given.1; others_kept = t.ensures.1 }
+          c.in_default.is; others_kept = t.ensures.1 }
