@@ -14,5 +14,5 @@ take_turns-requires c =
 
 pub returns : goal.returns
 returns c =
-    let t = c.take_turns in record { workers_after = t.ensures.0 ∙ accepted _ _ _ _ c.run_answer-answer.ensures
-          c.in_default.is; others_kept = t.ensures.1 }
+    let t = c.take_turns.ensures in
+    record { workers_after = t.workers_after ∙ accepted _ _ _ _ c.run_answer-answer.ensures c.in_default.is; others_kept = t.others_kept }
