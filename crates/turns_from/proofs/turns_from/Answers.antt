@@ -1,18 +1,11 @@
 -- The invariant: what is left to do from here ends as all from the first turn on. A turn of the loop is a turn of the run, or passes to the next busy worker.
 -- Assumes nothing.
-use Prim.Native.Nat.{ℕ, ◌-◌, ◌≤◌, ◌<◌}
-use mathlib.Core.Bool.{false}
-use mathlib.Core.Path.{◌≡◌, refl}
+use mathlib.Core.Path.{refl}
 use native.Mathlib.Omega.{arith}
 use borrow.Author.Count.{below_more}
-use lib.ListN.{get_or}
-use Rattle.worker.specs.Holding.{idle}
-use Rattle.model.specs.Plan.{plan_of}
-use Rattle.model.specs.Calls.{run_from}
-use Rattle.records.specs.Records.{lent}
 use Rattle.records.proofs.Laws.{length_slots}
 use Rattle.next_worker.proofs.Rounds.{found_above, found_below, both_parts, above_more}
-use Rattle.turns_from.proofs.Going.{Going, starts, sizes, few_calls, few_records, searched, take_goes, pass_goes, run_over, column_due, work_goes, run_ends, matrix_kept, lists_kept, records_kept, recounted, others_kept, turns_left, call_less, pass_less}
+use Rattle.turns_from.proofs.Going.{starts, sizes, few_calls, few_records, searched, take_goes, pass_goes, run_over, column_due, work_goes, run_ends, matrix_kept, lists_kept, records_kept, recounted, others_kept, call_less, pass_less}
 use Rattle.turns_from.proofs.turns_from.Goals as goal
 
 pub turns-init : goal.turns-init
