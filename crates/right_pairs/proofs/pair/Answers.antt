@@ -1,6 +1,5 @@
 -- All columns of T-4(k,i): what is left from column c on is the whole. Assumes nothing.
 use mathlib.Core.Path.{refl, ◌∙◌}
-use Prim.Native.Nat.{ℕ}
 use native.Mathlib.Omega.{arith}
 use Rattle.model.specs.Plan.{plan}
 use Rattle.progress.specs.Right.{passed_of, pair_all}

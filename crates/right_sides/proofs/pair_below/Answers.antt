@@ -1,6 +1,6 @@
 -- T-4(k,i) for i rising: what is left from i on is the whole. Assumes nothing.
 use mathlib.Core.Path.{◌≡◌, refl, ◌∙◌}
-use Prim.Native.Nat.{ℕ, suc, ◌+◌}
+use Prim.Native.Nat.{suc, ◌+◌}
 use native.Mathlib.Omega.{arith}
 use Rattle.model.specs.Task.{after}
 use Rattle.progress.specs.Right.{passed_of}

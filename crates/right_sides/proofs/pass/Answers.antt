@@ -1,6 +1,5 @@
 -- The stages in turn are the tasks in number order. Assumes nothing.
 use mathlib.Core.Path.{refl, sym, ◌∙◌}
-use Prim.Native.Nat.{ℕ}
 use native.Mathlib.Omega.{arith}
 use Rattle.model.specs.Plan.{plan}
 use Rattle.progress.specs.Right.{passed_of}

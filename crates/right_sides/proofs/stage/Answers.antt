@@ -1,7 +1,5 @@
 -- T-2(k), then T-4(k,i) for i rising. Assumes nothing.
 use mathlib.Core.Path.{sym, ap, ◌∙◌}
-use Prim.Native.Nat.{ℕ}
-use native.Mathlib.Omega.{arith}
 use Rattle.model.specs.Lists.{in_turn}
 use Rattle.model.specs.Task.{after}
 use Rattle.model.specs.Plan.{plan}

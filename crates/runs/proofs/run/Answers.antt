@@ -1,6 +1,5 @@
 -- A refusal leaves everything; else the turns are the whole run. Assumes nothing.
 use mathlib.Core.Path.{refl, sym, ◌∙◌}
-use borrow.Author.Rules.{rules}
 use Rattle.runs.proofs.Replies.{refused, accepted}
 use Rattle.runs.proofs.run.Goals as goal
 

@@ -1,5 +1,4 @@
 -- The first refusal that holds, in the table's order. Assumes nothing.
-use borrow.Author.Rules.{rules}
 use Rattle.solve_checks.proofs.Laws.{rest_8, rest_9, rest_10, rest_good}
 use Rattle.solve_checks.proofs.rest_answer.Goals as goal
 

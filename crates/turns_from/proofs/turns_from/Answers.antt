@@ -190,8 +190,11 @@ returns-in-turns c =
     let i = c.turns.invariant in
     let a = c.loop-v.invariant in
     let b = c.loop-u.invariant in
-    record { workers_after = recounted _ _ _ c.args.workers c.requires.accepted i _ _ _ _ (run_over i _ c.lowest_ready-from.ensures c.if-h.false c.if-from-records.false
-          (both_parts _ _ _ (λ x k l. a.3 x k (omega (arith, l, c.loop-v-test.false))) (λ x k. b.2 x (omega (arith, k, c.loop-u-test.false, a.0, b.0))))); others_kept = others_kept _ _ _ c.args.workers c.requires.accepted i }
+    record {
+      workers_after = recounted _ _ _ c.args.workers c.requires.accepted i _ _ _ _ (run_over i _ c.lowest_ready-from.ensures c.if-h.false c.if-from-records.false
+          (both_parts _ _ _ (λ x k l. a.3 x k (omega (arith, l, c.loop-v-test.false))) (λ x k. b.2 x (omega (arith, k, c.loop-u-test.false, a.0, b.0)))));
+      others_kept = others_kept _ _ _ c.args.workers c.requires.accepted i;
+    }
 
 pub shape_of-matrix : goal.shape_of-matrix
 shape_of-matrix c =
