@@ -80,7 +80,7 @@ returns-then-most-found c =
     let p = c.loop-p.p in
     let m : c.record_at-found.result.mark ≡ mark (marks_from a.records.now) p = ap (λ (x : TaskRecord). x.mark) c.record_at-found.ensures ∙ sym (get_mark a.records.now p) in
     let allowed : Allowed a.z a.records.now a.workers p c.if-found-eq1.most = elim c.if-found-eq1.branch [
-      then-found-eq1 v ↦ subst (Allowed a.z a.records.now a.workers p) (sym v.most-is) (v.held_limits-most.ensures a.records.now (sym v.if-found-eq1.true ∙ m))
+      | then-found-eq1 v ↦ subst (Allowed a.z a.records.now a.workers p) (sym v.most-is) (v.held_limits-most.ensures a.records.now (sym v.if-found-eq1.true ∙ m))
       | else-found-eq1 v ↦ subst (Allowed a.z a.records.now a.workers p) (sym v.most-is) (c.free_limits-most.ensures a.records.now a.workers p m v.if-found-eq1.false)
     ] in
     found_bad a.z a.records.now a.workers a.number
@@ -94,17 +94,19 @@ overflow_add-calls c =
     let f = c.record_at-found.ensures in
     let m : c.record_at-found.result.mark ≡ mark (marks_from a.records.now) p = ap (λ (x : TaskRecord). x.mark) f ∙ sym (get_mark a.records.now p) in
     let passed : Allowed a.z a.records.now a.workers p c.if-found.most × (inner a.z a.records.now a.workers a.number p ≡ false) = elim c.if-found.branch [
-      then-found+else-most-found w ↦
-        let allowed : Allowed a.z a.records.now a.workers p w.if-found-eq1.most = elim w.if-found-eq1.branch [
-          then-found-eq1 v ↦ subst (Allowed a.z a.records.now a.workers p) (sym v.most-is) (v.held_limits-most.ensures a.records.now (sym v.if-found-eq1.true ∙ m))
-          | else-found-eq1 v ↦ subst (Allowed a.z a.records.now a.workers p) (sym v.most-is) (c.free_limits-most.ensures a.records.now a.workers p m v.if-found-eq1.false)
-        ] in
-        (subst (Allowed a.z a.records.now a.workers p) (sym w.most-is) allowed,
-        sym (inner_tested a.z a.records.now a.workers a.number p _ allowed _ f) ∙ w.if-most-found.false)
+      | then-found+else-most-found w ↦
+          let allowed : Allowed a.z a.records.now a.workers p w.if-found-eq1.most = elim w.if-found-eq1.branch [
+            | then-found-eq1 v ↦ subst (Allowed a.z a.records.now a.workers p) (sym v.most-is) (v.held_limits-most.ensures a.records.now (sym v.if-found-eq1.true ∙ m))
+            | else-found-eq1 v ↦ subst (Allowed a.z a.records.now a.workers p) (sym v.most-is) (c.free_limits-most.ensures a.records.now a.workers p m v.if-found-eq1.false)
+          ] in (
+            subst (Allowed a.z a.records.now a.workers p) (sym w.most-is) allowed,
+            sym (inner_tested a.z a.records.now a.workers a.number p _ allowed _ f) ∙ w.if-most-found.false,
+          )
       | else-found w ↦
-        let free : c.record_at-found.result.mark ≡ 1 → ⊥ = eqb-false c.record_at-found.result.mark 1 (or_false (eqb c.record_at-found.result.mark 1) (not (eqb c.record_at-found.result.ties 0)) w.if-found.false).0 in
-        (subst (Allowed a.z a.records.now a.workers p) (sym w.most-is) (c.free_limits-most.ensures a.records.now a.workers p m free),
-        quiet a.z a.records.now a.workers a.number p c.record_at-found.result f w.if-found.false)
+          let free : c.record_at-found.result.mark ≡ 1 → ⊥ = eqb-false c.record_at-found.result.mark 1 (or_false (eqb c.record_at-found.result.mark 1) (not (eqb c.record_at-found.result.ties 0)) w.if-found.false).0 in (
+            subst (Allowed a.z a.records.now a.workers p) (sym w.most-is) (c.free_limits-most.ensures a.records.now a.workers p m free),
+            quiet a.z a.records.now a.workers a.number p c.record_at-found.result f w.if-found.false,
+          )
     ] in
     omega (arith, (passed).0.few, c.loop-p.invariant.5, c.loop-p-test.true, c.task_count-count.ensures, few_tasks c.args.z.tiles c.requires.0.few_tiles)
 
@@ -131,17 +133,19 @@ loop-p-preserved c =
     let f = c.record_at-found.ensures in
     let m : c.record_at-found.result.mark ≡ mark (marks_from a.records.now) p = ap (λ (x : TaskRecord). x.mark) f ∙ sym (get_mark a.records.now p) in
     let passed : Allowed a.z a.records.now a.workers p c.if-found.most × (inner a.z a.records.now a.workers a.number p ≡ false) = elim c.if-found.branch [
-      then-found+else-most-found w ↦
-        let allowed : Allowed a.z a.records.now a.workers p w.if-found-eq1.most = elim w.if-found-eq1.branch [
-          then-found-eq1 v ↦ subst (Allowed a.z a.records.now a.workers p) (sym v.most-is) (v.held_limits-most.ensures a.records.now (sym v.if-found-eq1.true ∙ m))
-          | else-found-eq1 v ↦ subst (Allowed a.z a.records.now a.workers p) (sym v.most-is) (c.free_limits-most.ensures a.records.now a.workers p m v.if-found-eq1.false)
-        ] in
-        (subst (Allowed a.z a.records.now a.workers p) (sym w.most-is) allowed,
-        sym (inner_tested a.z a.records.now a.workers a.number p _ allowed _ f) ∙ w.if-most-found.false)
+      | then-found+else-most-found w ↦
+          let allowed : Allowed a.z a.records.now a.workers p w.if-found-eq1.most = elim w.if-found-eq1.branch [
+            | then-found-eq1 v ↦ subst (Allowed a.z a.records.now a.workers p) (sym v.most-is) (v.held_limits-most.ensures a.records.now (sym v.if-found-eq1.true ∙ m))
+            | else-found-eq1 v ↦ subst (Allowed a.z a.records.now a.workers p) (sym v.most-is) (c.free_limits-most.ensures a.records.now a.workers p m v.if-found-eq1.false)
+          ] in (
+            subst (Allowed a.z a.records.now a.workers p) (sym w.most-is) allowed,
+            sym (inner_tested a.z a.records.now a.workers a.number p _ allowed _ f) ∙ w.if-most-found.false,
+          )
       | else-found w ↦
-        let free : c.record_at-found.result.mark ≡ 1 → ⊥ = eqb-false c.record_at-found.result.mark 1 (or_false (eqb c.record_at-found.result.mark 1) (not (eqb c.record_at-found.result.ties 0)) w.if-found.false).0 in
-        (subst (Allowed a.z a.records.now a.workers p) (sym w.most-is) (c.free_limits-most.ensures a.records.now a.workers p m free),
-        quiet a.z a.records.now a.workers a.number p c.record_at-found.result f w.if-found.false)
+          let free : c.record_at-found.result.mark ≡ 1 → ⊥ = eqb-false c.record_at-found.result.mark 1 (or_false (eqb c.record_at-found.result.mark 1) (not (eqb c.record_at-found.result.ties 0)) w.if-found.false).0 in (
+            subst (Allowed a.z a.records.now a.workers p) (sym w.most-is) (c.free_limits-most.ensures a.records.now a.workers p m free),
+            quiet a.z a.records.now a.workers a.number p c.record_at-found.result f w.if-found.false,
+          )
     ] in
     let outer_is : (c.differs.result || c.bad_calls.result) ≡ outer a.z a.records.now a.workers a.number c.loop-p.p =
     outer_tested a.z a.records.now a.workers a.number c.loop-p.p _ _ _ (omega (arith, c.loop-p-test.true, c.task_count-count.ensures, c.requires.1)) c.requires.0.few_tiles

@@ -1,7 +1,6 @@
 -- Each kind fills what it writes. Assumes nothing.
 use mathlib.Core.Path.{◌∙◌}
 use native.Mathlib.Omega.{arith}
-use borrow.Author.Rules.{rules}
 use Rattle.filling.proofs.Laws.{filled_1, filled_2, filled_3, filled_4}
 use Rattle.filling.proofs.fill_task.Goals as goal
 

@@ -1,7 +1,5 @@
 -- Nothing is passed over but the rest of a row whose first task hasn't finished. Assumes nothing.
 use native.Mathlib.Omega.{arith}
-use borrow.Author.Rules.{rules}
-use borrow.Author.Tests.{not-true}
 use Rattle.next_task.proofs.Passed.{none_passed, row_ends, row_passed}
 use Rattle.next_task.proofs.candidate_after.Goals as goal
 

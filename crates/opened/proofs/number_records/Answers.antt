@@ -11,14 +11,12 @@ overflow_cast-n c =
     omega arith
 
 pub loop-p-init : goal.loop-p-init
-loop-p-init c =
-    (
+loop-p-init c = (
   omega arith,
   refl,
   number_first _ c.first-a.result c.first-a.ensures,
   (λ h. in_first _ c.first-a.result c.first-a.ensures (omega arith)),
   λ q h. absurd (omega arith),
-
 )
 
 pub put_record-requires : goal.put_record-requires

@@ -23,18 +23,18 @@ pub pair_rows-requires : goal.pair_rows-requires
 pair_rows-requires c =
     let r = pair_ready c.requires in
     rw (c.tile_start-u.ensures, c.tile_start-d.ensures, c.tile_start-f.ensures, c.wide-e.ensures, c.list_start-p.ensures) (
-      record {
-        two_blocks = record {
-          rows_most = r.side_most;
-          width_most = r.side_most;
-          few = r.few;
-          upper_room = r.upper_room;
-          lower_room = r.lower_room;
-          apart = r.apart;
-        };
-        c_lt_t = (r.column, r.entry, r.mult_below, r.mult_left);
-        m_value = (r.upper_finite, r.lower_finite);
-      }
+    record {
+      two_blocks = record {
+        rows_most = r.side_most;
+        width_most = r.side_most;
+        few = r.few;
+        upper_room = r.upper_room;
+        lower_room = r.lower_room;
+        apart = r.apart;
+      };
+      c_lt_t = (r.column, r.entry, r.mult_below, r.mult_left);
+      m_value = (r.upper_finite, r.lower_finite);
+    }
     )
 
 pub returns-then-pair_rows : goal.returns-then-pair_rows

@@ -16,4 +16,4 @@ slice_bounds-solve_in-end-2 c =
 
 pub solve_in-requires : goal.solve_in-requires
 solve_in-requires c =
-    let few : c.args.z.tiles * c.args.z.side ≤ 256 = mul-le-mul c.requires.solvable.tiles_most c.requires.solvable.side_most in    record { solvable = c.requires.solvable; right_side = c.requires.right_side; matrix_value = (c.requires.matrix_value.0, c.requires.matrix_value.1, length-take-le _ _ (omega (arith, few, c.requires.matrix_value.2))) }
+    let few : c.args.z.tiles * c.args.z.side ≤ 256 = mul-le-mul c.requires.solvable.tiles_most c.requires.solvable.side_most in record { solvable = c.requires.solvable; right_side = c.requires.right_side; matrix_value = (c.requires.matrix_value.0, c.requires.matrix_value.1, length-take-le _ _ (omega (arith, few, c.requires.matrix_value.2))) }

@@ -1,5 +1,4 @@
 -- The whole run is what is done from the first turn on. Assumes nothing.
-use borrow.Author.Rules.{rules}
 use Rattle.turns.proofs.Starts.{starts, whole}
 use Rattle.turns.proofs.take_turns.Goals as goal
 

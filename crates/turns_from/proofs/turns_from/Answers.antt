@@ -1,18 +1,11 @@
 -- The invariant: what is left to do from here ends as all from the first turn on. A turn of the loop is a turn of the run, or passes to the next busy worker.
 -- Assumes nothing.
-use Prim.Native.Nat.{ℕ, ◌-◌, ◌≤◌, ◌<◌}
-use mathlib.Core.Bool.{false}
-use mathlib.Core.Path.{◌≡◌, refl}
+use mathlib.Core.Path.{refl}
 use native.Mathlib.Omega.{arith}
 use borrow.Author.Count.{below_more}
-use lib.ListN.{get_or}
-use Rattle.worker.specs.Holding.{idle}
-use Rattle.model.specs.Plan.{plan_of}
-use Rattle.model.specs.Calls.{run_from}
-use Rattle.records.specs.Records.{lent}
 use Rattle.records.proofs.Laws.{length_slots}
 use Rattle.next_worker.proofs.Rounds.{found_above, found_below, both_parts, above_more}
-use Rattle.turns_from.proofs.Going.{Going, starts, sizes, few_calls, few_records, searched, take_goes, pass_goes, run_over, column_due, work_goes, run_ends, matrix_kept, lists_kept, records_kept, recounted, others_kept, turns_left, call_less, pass_less}
+use Rattle.turns_from.proofs.Going.{starts, sizes, few_calls, few_records, searched, take_goes, pass_goes, run_over, column_due, work_goes, run_ends, matrix_kept, lists_kept, records_kept, recounted, others_kept, call_less, pass_less}
 use Rattle.turns_from.proofs.turns_from.Goals as goal
 
 pub turns-init : goal.turns-init
@@ -197,8 +190,11 @@ returns-in-turns c =
     let i = c.turns.invariant in
     let a = c.loop-v.invariant in
     let b = c.loop-u.invariant in
-    record { workers_after = recounted _ _ _ c.args.workers c.requires.accepted i _ _ _ _ (run_over i _ c.lowest_ready-from.ensures c.if-h.false c.if-from-records.false
-          (both_parts _ _ _ (λ x k l. a.3 x k (omega (arith, l, c.loop-v-test.false))) (λ x k. b.2 x (omega (arith, k, c.loop-u-test.false, a.0, b.0))))); others_kept = others_kept _ _ _ c.args.workers c.requires.accepted i }
+    record {
+      workers_after = recounted _ _ _ c.args.workers c.requires.accepted i _ _ _ _ (run_over i _ c.lowest_ready-from.ensures c.if-h.false c.if-from-records.false
+          (both_parts _ _ _ (λ x k l. a.3 x k (omega (arith, l, c.loop-v-test.false))) (λ x k. b.2 x (omega (arith, k, c.loop-u-test.false, a.0, b.0)))));
+      others_kept = others_kept _ _ _ c.args.workers c.requires.accepted i;
+    }
 
 pub shape_of-matrix : goal.shape_of-matrix
 shape_of-matrix c =
