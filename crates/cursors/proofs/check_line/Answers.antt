@@ -1,5 +1,4 @@
 -- `cursors::check_line` meets its contract, a law for each way out. Assumes nothing.
-use borrow.Author.Rules.{rules}
 use Rattle.model.specs.declared.Answer.TheVariants.{Accepted, Refused}
 use Rattle.cursors.proofs.Steps.{at_end, too_short, by_line}
 use Rattle.cursors.proofs.check_line.Goals as goal

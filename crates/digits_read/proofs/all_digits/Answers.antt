@@ -1,9 +1,7 @@
 -- `digits_read::all_digits` meets its contract. The loop's invariant: the flag is the test on the bytes passed. Assumes nothing.
-use Prim.Native.Nat.{◌≤◌, ◌-◌}
-use mathlib.Core.Path.{◌≡◌, refl, ap, ◌∙◌}
+use mathlib.Core.Path.{refl, ap, ◌∙◌}
 use native.Mathlib.Numerals.{add-one}
 use native.Mathlib.Omega.{arith}
-use lib.ListN.{length, take}
 use lib.Seq.{take_all}
 use Rattle.model.specs.Lists.{every}
 use Rattle.model.specs.Read.{is_digit}

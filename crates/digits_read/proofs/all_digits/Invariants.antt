@@ -1,13 +1,9 @@
 -- `digits_read::all_digits` meets its contract. The loop's invariant: the flag is the test on the bytes passed. Assumes nothing.
 use Prim.Native.Nat.{◌≤◌, ◌-◌}
-use mathlib.Core.Path.{◌≡◌, refl, ap, ◌∙◌}
-use native.Mathlib.Numerals.{add-one}
-use native.Mathlib.Omega.{arith}
+use mathlib.Core.Path.{◌≡◌}
 use lib.ListN.{length, take}
-use lib.Seq.{take_all}
 use Rattle.model.specs.Lists.{every}
 use Rattle.model.specs.Read.{is_digit}
-use Rattle.laws.proofs.Every.{every_more}
 use Rattle.digits_read.proofs.all_digits.Given as goal
 
 abbrev pub invariant-loop-k : goal.invariant-loop-k

@@ -1,11 +1,7 @@
 -- `digits_read::field_at` meets its contract. The loop's invariant: v is the field of the digits passed. Assumes nothing.
-use Prim.Native.Nat.{ℕ, ◌≤◌, ◌<◌, ◌-◌, ◌^◌}
-use mathlib.Core.Path.{◌≡◌, sym, ap, ◌∙◌}
-use native.Mathlib.Numerals.{add-one}
-use native.Mathlib.Omega.{arith}
+use Prim.Native.Nat.{◌≤◌, ◌-◌}
+use mathlib.Core.Path.{◌≡◌}
 use Rattle.model.specs.Read.{field}
-use Rattle.laws.proofs.Texts.{value_lt}
-use Rattle.digits_read.proofs.Fields.{field_none, field_suc, field_room}
 use Rattle.digits_read.proofs.field_at.Given as goal
 
 abbrev pub invariant-loop-k : goal.invariant-loop-k

@@ -1,5 +1,4 @@
 -- `digits_read::finite_at` meets its contract: the first three digits hold the exponent. Assumes nothing.
-use borrow.Author.Rules.{rules}
 use mathlib.Core.Path.{ap, ◌∙◌}
 use mathlib.Core.Bool.{not}
 use Prim.Native.Nat.{ℕ, ◌%◌}

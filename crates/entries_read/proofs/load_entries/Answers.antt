@@ -1,10 +1,10 @@
 -- `entries_read::load_entries` meets its contract: after x turns the first x entries are written. Assumes nothing.
-use Prim.Native.Nat.{ℕ, ◌≤◌, ◌-◌, ◌+◌, ◌*◌}
+use Prim.Native.Nat.{ℕ, ◌+◌, ◌*◌}
 use mathlib.Core.Path.{◌≡◌, refl, ap, ◌∙◌}
 use mathlib.Core.List.{List}
 use native.Mathlib.Omega.{arith}
 use lib.ListN.{length, set, length-set}
-use Rattle.model.specs.Read.{field, entries_in}
+use Rattle.model.specs.Read.{entries_in}
 use Rattle.digits_read.specs.Digits.{FieldOfDigits}
 use Rattle.digits_read.proofs.Fields.{field_lt}
 use Rattle.lines_read.proofs.Tested.{field_in}

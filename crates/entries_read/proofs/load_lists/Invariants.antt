@@ -1,16 +1,10 @@
 -- `entries_read::load_lists` meets its contract: after i turns the first i rows of lists are written. Assumes nothing.
-use Prim.Native.Nat.{ℕ, suc, ◌≤◌, ◌-◌, ◌+◌, ◌*◌}
-use mathlib.Core.Path.{◌≡◌, sym, ap, ◌∙◌}
+use Prim.Native.Nat.{ℕ, ◌≤◌, ◌-◌, ◌+◌, ◌*◌}
+use mathlib.Core.Path.{◌≡◌}
 use mathlib.Core.List.{List}
-use native.Mathlib.Nat.{mul-le-mul}
-use native.Mathlib.Numerals.{add-one}
-use native.Mathlib.Omega.{arith}
 use lib.ListN.{length}
-use Rattle.model.specs.Lists.{below, run, joined}
-use Rattle.entries_read.specs.Entries.{list_size, ListLines, above, row_from, lists_from}
-use Rattle.numbers_read.proofs.Filled.{length_lent, parted, parted_none, turn, parted_all}
-use Rattle.laws.proofs.Blocks.{row_end}
-use Rattle.entries_read.proofs.Held.{length_row, above_next, above_grows, further}
+use Rattle.entries_read.specs.Entries.{list_size, above, row_from}
+use Rattle.numbers_read.proofs.Filled.{parted}
 use Rattle.entries_read.proofs.load_lists.Given as goal
 
 -- the lists of row i

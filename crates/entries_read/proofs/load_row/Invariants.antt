@@ -1,12 +1,9 @@
 -- `entries_read::load_row` meets its contract: after j turns the first j lists are written. Assumes nothing.
-use Prim.Native.Nat.{ℕ, ◌≤◌, ◌-◌, ◌+◌, ◌*◌}
-use mathlib.Core.Path.{◌≡◌, sym, ap, ◌∙◌}
-use native.Mathlib.Omega.{arith}
+use Prim.Native.Nat.{◌≤◌, ◌-◌, ◌*◌}
+use mathlib.Core.Path.{◌≡◌}
 use lib.ListN.{length}
-use Rattle.entries_read.specs.Entries.{list_from, row_from}
-use Rattle.numbers_read.proofs.Filled.{length_lent, parted, parted_none, turn, parted_all}
-use Rattle.laws.proofs.Blocks.{row_end}
-use Rattle.entries_read.proofs.Held.{length_list}
+use Rattle.entries_read.specs.Entries.{list_from}
+use Rattle.numbers_read.proofs.Filled.{parted}
 use Rattle.entries_read.proofs.load_row.Given as goal
 
 abbrev pub invariant-loop-j : goal.invariant-loop-j

@@ -1,18 +1,12 @@
 -- `frames_read::check_lists` meets its contract. The loop's invariant: following what is left from here is following all lists. Assumes nothing.
-use borrow.Author.Rules.{rules}
-use Prim.Native.Nat.{ℕ, suc, ◌+◌, ◌-◌, ◌≤◌}
-use mathlib.Core.Path.{◌≡◌, sym, ap, ◌∙◌}
+use Prim.Native.Nat.{ℕ, suc, ◌-◌, ◌≤◌}
+use mathlib.Core.Path.{◌≡◌}
 use mathlib.Core.List.{List, map}
-use native.Mathlib.Numerals.{add-one}
-use native.Mathlib.Omega.{arith}
-use Rattle.model.specs.Lists.{below, run, joined}
+use Rattle.model.specs.Lists.{joined}
 use Rattle.model.specs.Read.{Frame, list_frames}
 use Rattle.lines_read.proofs.Runs.{up_to}
-use Rattle.cursors.specs.declared.Cursor.{Cursor}
-use Rattle.cursors.specs.declared.Step.{Step}
 use Rattle.cursors.specs.Steps.{CursorFits}
 use Rattle.frames_read.specs.Follow.{follow, row_frames}
-use Rattle.frames_read.proofs.Rows.{follow_placed, rows_none, rows_stop, rows_go_on}
 use Rattle.frames_read.proofs.check_lists.Given as goal
 
 -- the lists of row i

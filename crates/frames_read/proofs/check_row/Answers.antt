@@ -1,14 +1,11 @@
 -- `frames_read::check_row` meets its contract. The loop's invariant: following what is left from here is following the row. Assumes nothing.
-use borrow.Author.Rules.{rules}
-use Prim.Native.Nat.{ℕ, ◌-◌, ◌≤◌}
+use Prim.Native.Nat.{ℕ}
 use mathlib.Core.Path.{◌≡◌, sym, ap, ◌∙◌}
 use mathlib.Core.List.{List, map}
 use native.Mathlib.Omega.{arith}
 use Rattle.model.specs.Lists.{below, run}
-use Rattle.model.specs.Read.{Frame}
 use Rattle.lines_read.proofs.Runs.{up_to}
 use Rattle.cursors.specs.declared.Cursor.{Cursor}
-use Rattle.cursors.specs.Steps.{CursorFits}
 use Rattle.frames_read.specs.Follow.{follow, row_frames}
 use Rattle.cursors.proofs.Steps.{step_placed}
 use Rattle.frames_read.proofs.Rows.{row_none, row_stops, row_goes_on}

@@ -1,6 +1,5 @@
 -- `frames_read::check_tiles` meets its contract. The loop's invariant: following what is left from here is following all tiles. Assumes nothing.
-use borrow.Author.Rules.{rules}
-use Prim.Native.Nat.{ℕ, ◌-◌, ◌≤◌}
+use Prim.Native.Nat.{ℕ}
 use mathlib.Core.Path.{◌≡◌, sym, ap, ◌∙◌}
 use mathlib.Core.List.{List, map}
 use native.Mathlib.Omega.{arith}
@@ -8,7 +7,6 @@ use Rattle.model.specs.Lists.{below, run, joined}
 use Rattle.model.specs.Read.{tile_frames}
 use Rattle.lines_read.proofs.Runs.{up_to}
 use Rattle.cursors.specs.declared.Cursor.{Cursor}
-use Rattle.cursors.specs.Steps.{CursorFits}
 use Rattle.frames_read.specs.Follow.{follow, row_frames}
 use Rattle.frames_read.proofs.Rows.{follow_placed, rows_none, rows_stop, rows_go_on}
 use Rattle.frames_read.proofs.check_tiles.Goals as goal

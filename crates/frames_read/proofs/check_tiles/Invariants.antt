@@ -1,16 +1,12 @@
 -- `frames_read::check_tiles` meets its contract. The loop's invariant: following what is left from here is following all tiles. Assumes nothing.
-use borrow.Author.Rules.{rules}
-use Prim.Native.Nat.{ℕ, ◌-◌, ◌≤◌}
-use mathlib.Core.Path.{◌≡◌, sym, ap, ◌∙◌}
-use mathlib.Core.List.{List, map}
-use native.Mathlib.Omega.{arith}
-use Rattle.model.specs.Lists.{below, run, joined}
+use Prim.Native.Nat.{◌-◌, ◌≤◌}
+use mathlib.Core.Path.{◌≡◌}
+use mathlib.Core.List.{map}
+use Rattle.model.specs.Lists.{joined}
 use Rattle.model.specs.Read.{tile_frames}
 use Rattle.lines_read.proofs.Runs.{up_to}
-use Rattle.cursors.specs.declared.Cursor.{Cursor}
 use Rattle.cursors.specs.Steps.{CursorFits}
 use Rattle.frames_read.specs.Follow.{follow, row_frames}
-use Rattle.frames_read.proofs.Rows.{follow_placed, rows_none, rows_stop, rows_go_on}
 use Rattle.frames_read.proofs.check_tiles.Given as goal
 
 abbrev pub invariant-loop-i : goal.invariant-loop-i

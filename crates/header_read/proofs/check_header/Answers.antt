@@ -1,5 +1,4 @@
 -- `header_read::check_header` meets its contract, a law for each way out. Assumes nothing.
-use borrow.Author.Rules.{rules}
 use mathlib.Core.Path.{sym, ◌∙◌}
 use native.Mathlib.Omega.{arith}
 use Rattle.model.specs.Read.{kind_in, tiles_in, side_in}

@@ -1,5 +1,4 @@
 -- Line 1 by itself answers what the header does. Assumes nothing.
-use borrow.Author.Rules.{rules}
 use mathlib.Core.Path.{sym, ◌∙◌}
 use Rattle.header_read.proofs.Heads.{sizes_alone, foretold}
 use Rattle.header_read.proofs.read_sizes.Goals as goal

@@ -1,16 +1,14 @@
 -- `lines_read::bad_entries` meets its contract. The loop's invariant: what is left to test answers for the whole. Assumes nothing.
-use Prim.Native.Nat.{ℕ, ◌+◌, ◌-◌, ◌*◌, ◌≤◌, ◌<◌}
+use Prim.Native.Nat.{ℕ, ◌+◌, ◌*◌, ◌≤◌, ◌<◌}
 use mathlib.Core.Path.{◌≡◌, sym, ap, ◌∙◌}
 use mathlib.Core.Bool.{Bool, false, ◌||◌}
 use mathlib.Core.List.{List, map}
 use native.Mathlib.Omega.{arith}
 use lib.Dec.{ltb}
-use lib.ListN.{length}
 use borrow.Author.Tests.{lt-ltb, le-ltb}
 use Rattle.model.specs.Lists.{run, below, some}
 use Rattle.model.specs.Read.{field, entries_in}
-use Rattle.lines_read.specs.Line.{bad_entries}
-use Rattle.lines_read.proofs.Runs.{up_to, some_next, some_none}
+use Rattle.lines_read.proofs.Runs.{some_next, some_none}
 use Rattle.lines_read.proofs.Tested.{field_in, other_size, right_size}
 use Rattle.lines_read.proofs.bad_entries.Invariants.{exceeds}
 use Rattle.lines_read.proofs.bad_entries.Goals as goal

@@ -1,17 +1,16 @@
 -- `lines_read::not_finite` meets its contract. The loop's invariant: what is left to test answers for the whole. Assumes nothing.
-use Prim.Native.Nat.{ℕ, ◌+◌, ◌-◌, ◌*◌, ◌≤◌, ◌<◌}
+use Prim.Native.Nat.{ℕ, ◌+◌, ◌*◌, ◌≤◌, ◌<◌}
 use mathlib.Core.Path.{◌≡◌, sym, ap, ◌∙◌}
 use mathlib.Core.Bool.{Bool, true, false, ◌&&◌}
 use mathlib.Core.List.{List, map}
 use native.Mathlib.Omega.{arith}
 use lib.Ieee.{binary64, of_bits}
-use borrow.Author.Tests.{not-true, not-false}
 use Rattle.model.specs.Lists.{run, below, every}
 use Rattle.model.specs.Num.{finite}
 use Rattle.model.specs.Tile.{all_finite}
 use Rattle.model.specs.Read.{field, numbers_in}
 use Rattle.laws.proofs.Blocks.{square_most}
-use Rattle.lines_read.proofs.Runs.{up_to, every_next, every_none}
+use Rattle.lines_read.proofs.Runs.{every_next, every_none}
 use Rattle.lines_read.proofs.Tested.{field_in, tile_length, no_tile, tile_finite}
 use Rattle.lines_read.proofs.not_finite.Invariants.{finite_from}
 use Rattle.lines_read.proofs.not_finite.Goals as goal

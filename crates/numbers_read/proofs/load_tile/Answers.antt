@@ -1,13 +1,12 @@
 -- `numbers_read::load_tile` meets its contract: after x turns the first x numbers are written. Assumes nothing.
-use borrow.Author.Rules.{rules}
-use Prim.Native.Nat.{ℕ, ◌≤◌, ◌-◌, ◌+◌, ◌*◌}
+use Prim.Native.Nat.{ℕ}
 use mathlib.Core.Path.{◌≡◌, refl, ap, ◌∙◌}
 use mathlib.Core.List.{List, [], ◌∷◌}
 use native.Mathlib.Omega.{arith}
 use lib.ListN.{length, set, length-set}
-use lib.Ieee.{Float, nan, binary64, of_bits}
+use lib.Ieee.{Float, nan}
 use Rattle.model.specs.Lists.{run, below, table}
-use Rattle.model.specs.Read.{field, digit_value}
+use Rattle.model.specs.Read.{digit_value}
 use Rattle.lines_read.proofs.Tested.{field_in}
 use Rattle.numbers_read.specs.Decoded.{digit_values, numbers_of}
 use Rattle.numbers_read.proofs.Filled.{written, written_none, written_next, written_all}

@@ -1,15 +1,11 @@
 -- `numbers_read::load_tiles` meets its contract: after q turns the first q tiles are written. Assumes nothing.
 use Prim.Native.Nat.{ℕ, ◌≤◌, ◌-◌, ◌+◌, ◌*◌}
-use mathlib.Core.Path.{◌≡◌, sym, ap, ◌∙◌}
+use mathlib.Core.Path.{◌≡◌}
 use mathlib.Core.List.{List}
-use native.Mathlib.Nat.{add-sub_cancel_left}
-use native.Mathlib.Omega.{arith}
-use lib.ListN.{length, take, drop}
+use lib.ListN.{length}
 use lib.Ieee.{Float}
-use Rattle.laws.proofs.Blocks.{row_end}
-use Rattle.numbers_read.specs.Decoded.{line_at, tile_size, numbers_of, tiles_from}
-use Rattle.numbers_read.proofs.Filled.{place_fits, length_lent, parted, parted_none, turn, parted_all}
-use Rattle.numbers_read.proofs.Held.{length_numbers}
+use Rattle.numbers_read.specs.Decoded.{line_at, tile_size, numbers_of}
+use Rattle.numbers_read.proofs.Filled.{parted}
 use Rattle.numbers_read.proofs.load_tiles.Given as goal
 
 -- the numbers of tile q

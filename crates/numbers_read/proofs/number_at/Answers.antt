@@ -1,5 +1,4 @@
 -- `numbers_read::number_at` meets its contract: a finite number's bits are no NaN's. Assumes nothing.
-use borrow.Author.Rules.{rules}
 use mathlib.Core.Path.{ap}
 use lib.Ieee.{binary64, of_bits}
 use Rattle.digits_read.proofs.Bits.{no_nan_bits}

@@ -1,5 +1,4 @@
 -- `result_checked::check_result_lines` meets its contract: the frames of a result in their three parts. Assumes nothing.
-use borrow.Author.Rules.{rules}
 use mathlib.Core.Path.{sym, ◌∙◌}
 use Rattle.frames_read.proofs.Rows.{follow_placed}
 use Rattle.system_checked.specs.Files.{start}

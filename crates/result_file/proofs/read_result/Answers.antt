@@ -1,5 +1,4 @@
 -- `result_file::read_result` meets its contract. Assumes nothing.
-use borrow.Author.Rules.{rules}
 use Rattle.system_checked.proofs.Headers.{shape_read, refusal_read}
 use Rattle.result_file.proofs.Results.{header_refused}
 use Rattle.result_file.proofs.read_result.Goals as goal

@@ -1,5 +1,4 @@
 -- `result_loaded::load_result` meets its contract. Assumes nothing.
-use borrow.Author.Rules.{rules}
 use Prim.Native.Nat.{ℕ, ◌-◌, ◌≤◌}
 use mathlib.Core.Path.{◌≡◌, ◌∙◌}
 use mathlib.Core.List.{List}
@@ -60,8 +59,7 @@ pub returns : goal.returns
 unfolding loaded_result
 returns c =
     λ i. record {
-  answer = ResultRead c.args.tiles c.args.side (c.outcome_at-outcome.ensures i);
-  matrix = c.load_tiles.ensures i;
-  lists = c.load_lists.ensures i;
-
-}
+      answer = ResultRead c.args.tiles c.args.side (c.outcome_at-outcome.ensures i);
+      matrix = c.load_tiles.ensures i;
+      lists = c.load_lists.ensures i;
+    }

@@ -1,5 +1,4 @@
 -- `script::bits` meets its contract: what equals itself is no NaN. Assumes nothing.
-use borrow.Author.Rules.{rules}
 use Rattle.laws.proofs.Finite.{no_nan}
 use Rattle.script.proofs.bits.Goals as goal
 

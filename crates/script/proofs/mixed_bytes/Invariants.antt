@@ -1,6 +1,5 @@
 -- `script::mixed_bytes` meets its contract. Assumes nothing.
 use Prim.Native.Nat.{◌≤◌, ◌-◌}
-use borrow.Author.Rules.{rules}
 use lib.ListN.{length}
 use Rattle.script.proofs.mixed_bytes.Given as goal
 

@@ -1,6 +1,5 @@
 -- `script::mixed_numbers` meets its contract. Assumes nothing.
 use Prim.Native.Nat.{◌≤◌, ◌-◌}
-use borrow.Author.Rules.{rules}
 use lib.ListN.{length}
 use Rattle.script.proofs.mixed_numbers.Given as goal
 

@@ -1,6 +1,5 @@
 -- `script::number` meets its contract. Assumes nothing.
 use Prim.Native.Nat.{◌≤◌, ◌-◌}
-use borrow.Author.Rules.{rules}
 use Rattle.script.proofs.number.Given as goal
 
 abbrev pub invariant-loop-k : goal.invariant-loop-k

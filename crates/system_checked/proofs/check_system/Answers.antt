@@ -1,5 +1,4 @@
 -- `system_checked::check_system` meets its contract. Assumes nothing.
-use borrow.Author.Rules.{rules}
 use mathlib.Core.Path.{sym, ◌∙◌}
 use Rattle.system_checked.proofs.Headers.{facts, shape_read, refusal_read}
 use Rattle.system_checked.proofs.Systems.{check_header_refused, check_refused, check_accepted}

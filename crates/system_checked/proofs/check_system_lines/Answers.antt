@@ -1,5 +1,4 @@
 -- `system_checked::check_system_lines` meets its contract. Assumes nothing.
-use borrow.Author.Rules.{rules}
 use mathlib.Core.Path.{ap, ◌∙◌}
 use Rattle.model.specs.Read.{system_frames}
 use Rattle.frames_read.specs.Follow.{text_end}

@@ -1,5 +1,4 @@
 -- `system_checked::text_end` meets its contract. Assumes nothing.
-use borrow.Author.Rules.{rules}
 use borrow.Author.Tests.{lt-ltb, le-ltb}
 use Rattle.model.specs.Refusal.{refuse}
 use Rattle.frames_read.specs.Follow.{text_end}

@@ -1,5 +1,4 @@
 -- `system_file::read_system` meets its contract. Assumes nothing.
-use borrow.Author.Rules.{rules}
 use Rattle.system_checked.proofs.Headers.{shape_read, refusal_read}
 use Rattle.system_file.proofs.Systems.{header_refused}
 use Rattle.system_file.proofs.read_system.Goals as goal
