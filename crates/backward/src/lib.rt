@@ -16,11 +16,11 @@ use progress::Progress;
 fn back_tile(z: Sizes, matrix: &[f64], y: &mut [f64], i: usize) -> Progress
     requires backward_fits { BackwardFits z matrix.now y.old }
     requires i_lt_tiles { i < z.tiles }
-    ensures by_index { (lists : List ℕ) → back_below (plan_of z) (record { matrix = matrix.old; lists = lists }) (i * z.side) (passed_of result y.new)
-        ≡ back_below (plan_of z) (record { matrix = matrix.old; lists = lists }) (i * z.side + z.side) (going y.old) }
+    ensures by_index { (lists : List ℕ) → back_below (plan_of z) (record { matrix = matrix.now; lists = lists }) (i * z.side) (passed_of result y.new)
+        ≡ back_below (plan_of z) (record { matrix = matrix.now; lists = lists }) (i * z.side + z.side) (going y.old) }
     ensures result_bound { lowest_done (i * z.side) result ≤ i * z.side + z.side }
     ensures by_index_2 { (lists : List ℕ) → going y.new
-        ≡ back_between (plan_of z) (record { matrix = matrix.old; lists = lists }) (lowest_done (i * z.side) result) (i * z.side + z.side) (going y.old) }
+        ≡ back_between (plan_of z) (record { matrix = matrix.now; lists = lists }) (lowest_done (i * z.side) result) (i * z.side + z.side) (going y.old) }
 {
     let t = z.side;
     let mut r = t;
@@ -40,9 +40,9 @@ fn back_tile(z: Sizes, matrix: &[f64], y: &mut [f64], i: usize) -> Progress
 pub fn back_rows(z: Sizes, matrix: &[f64], y: &mut [f64]) -> Progress
     requires { BackwardFits z matrix.now y.old }
     ensures by_index { (lists : List ℕ) → passed_of result y.new
-        ≡ back_below (plan_of z) (record { matrix = matrix.old; lists = lists }) (z.tiles * z.side) (going y.old) }
+        ≡ back_below (plan_of z) (record { matrix = matrix.now; lists = lists }) (z.tiles * z.side) (going y.old) }
     ensures by_index_2 { (lists : List ℕ) → going y.new
-        ≡ back_between (plan_of z) (record { matrix = matrix.old; lists = lists }) (lowest_done 0 result) (z.tiles * z.side) (going y.old) }
+        ≡ back_between (plan_of z) (record { matrix = matrix.now; lists = lists }) (lowest_done 0 result) (z.tiles * z.side) (going y.old) }
 {
     let mut i = z.tiles;
     while i > 0 {

@@ -15,7 +15,7 @@ use subtractions::{subtract, subtract_tiles};
 pub fn back_row(z: Sizes, matrix: &[f64], y: &[f64], i: usize, r: usize) -> Row
     requires backward_fits { BackwardFits z matrix.now y.now }
     requires i_lt_tiles { (i < z.tiles) × (r < z.side) }
-    ensures { (lists : List ℕ) → result ≡ row_of (plan_of z) (record { matrix = matrix.old; lists = lists }) (i * z.side + r) y.now }
+    ensures { (lists : List ℕ) → result ≡ row_of (plan_of z) (record { matrix = matrix.now; lists = lists }) (i * z.side + r) y.now }
 {
     let t = z.side;
     let x = i * t + r;

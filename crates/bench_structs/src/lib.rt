@@ -107,9 +107,9 @@ pub extern "C" fn bench_open(
     records: &mut [TaskRecord],
     number: u32,
 ) -> u8
-    ensures { (result ≡ answer_number (open_call z (whole matrix.old lists.old records.old (idles z.workers number))).answer)
-        × (record { matrix = matrix.old; lists = lists.new } ≡ (open_call z (whole matrix.old lists.old records.old (idles z.workers number))).left.buffers)
-        × (records.new ≡ (open_call z (whole matrix.old lists.old records.old (idles z.workers number))).left.records) }
+    ensures { (result ≡ answer_number (open_call z (whole matrix.now lists.old records.old (idles z.workers number))).answer)
+        × (record { matrix = matrix.now; lists = lists.new } ≡ (open_call z (whole matrix.now lists.old records.old (idles z.workers number))).left.buffers)
+        × (records.new ≡ (open_call z (whole matrix.now lists.old records.old (idles z.workers number))).left.records) }
 {
     let reply = open_call::open(z, matrix, lists, records, idle_workers(z, number));
     number_in(reply)

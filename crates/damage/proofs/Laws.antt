@@ -1,5 +1,5 @@
 -- A record against the one due, and refusal 4 as its tests. Assumes nothing.
-use Prim.Native.Nat.{ℕ, suc, ◌+◌, ◌-◌, ◌*◌, ◌<◌}
+use Prim.Native.Nat.{ℕ, suc, ◌+◌, ◌-◌, ◌*◌, ◌≤◌, ◌<◌}
 use mathlib.Core.Path.{◌≡◌, refl, sym, ap, ◌∙◌, subst}
 use mathlib.Core.Logic.{◌⊎◌, inl, inr, ◌≢◌}
 use mathlib.Core.Bool.{Bool, true, false, not, ◌&&◌, ◌||◌}
@@ -11,6 +11,7 @@ use lib.ListN.{length, get_or}
 use Rattle.model.specs.declared.Sizes.{Sizes}
 use Rattle.model.specs.declared.TaskRecord.{TaskRecord}
 use Rattle.worker.specs.declared.Worker.{Worker}
+use Rattle.model.specs.Limits.{most_tiles}
 use Rattle.model.specs.Lists.{below, some, keep, total}
 use Rattle.model.specs.Task.{Task, kind_of, k_of, i_of, j_of, tasks}
 use Rattle.model.specs.Plan.{plan, plan_of}
@@ -186,6 +187,22 @@ module _ (z : Sizes) (r : List (List ℕ)) (h : List Worker) (n : ℕ) where
 
   abbrev pub inner : ℕ → Bool
   inner p = bad_hold (plan_of z) state p || bad_ties (plan_of z) state p
+
+  -- the tests as the code makes them, first the outer two and then, by the limits, the inner two
+  pub outer_tested : (p k i j : ℕ) → p < length r → z.tiles ≤ most_tiles → In z.tiles (key k i j) → number z.tiles (key k i j) ≡ p
+      → (found : TaskRecord) → found ≡ get_or (records_from r) p blank → (due : ℕ) → due ≡ name_at k i j
+      → (v w : Bool) → ((task : TaskRecord) → Bytes task → due ≡ name_of task → v ≡ apart found task) → w ≡ overdue found n z.workers → (v || w) ≡ outer p
+  outer_tested p k i j long few small m found f due d v w differs over =
+      let bytes : Bytes (record_of (task_at (key k i j))) = name_bytes k i j (omega (arith, small.row, small.row_fits, few)) (omega (arith, small.row_fits, few)) (omega (arith, small.column_fits, few)) in
+      let x = record_bad z r p k i j long small m found (record_of (task_at (key k i j))) f refl v (differs (record_of (task_at (key k i j))) bytes d) h n in
+      let y = calls_bad p long found f w over in
+      λ q. x q || y q
+
+  pub inner_tested : (p : ℕ) (m : Limits) → Allowed z r h p m → (found : TaskRecord) → found ≡ get_or (records_from r) p blank → (not m.held || ltb m.ties found.ties) ≡ inner p
+  inner_tested p m a found f =
+      let x = hold_by p m a in
+      let y = ties_by p m a found f in
+      λ q. x q || y q
 
   pub bad_outer : (p : ℕ) → outer p ≡ true → bad p ≡ true
   bad_outer p e = first_bad (bad_record (plan_of z) state p) (bad_hold (plan_of z) state p) (bad_ties (plan_of z) state p) (bad_calls (plan_of z) state p) e

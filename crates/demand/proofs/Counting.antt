@@ -1,42 +1,36 @@
 -- The run's number is the sum of the accepted takes and columns of all tasks, and each of them is a count that its columns carry along.
 -- Assumes nothing.
 use Prim.Native.Nat.{ℕ, zero, suc, ◌+◌, ◌<◌}
-use mathlib.Core.Bool.{Bool, true, false, cond}
+use mathlib.Core.Bool.{Bool, true, cond}
 use mathlib.Core.Path.{◌≡◌, refl, sym, ap, ◌∙◌, subst}
-use mathlib.Core.List.{List, [], map}
+use mathlib.Core.List.{List, map}
 use native.Mathlib.Omega.{arith}
 use lib.Dec.{eqb}
 use lib.ListN.{length}
 use Rattle.model.specs.declared.Sizes.{Sizes}
 use Rattle.model.specs.declared.Answer.TheVariants.{Accepted}
-use Rattle.model.specs.Lists.{total, run, below}
+use Rattle.model.specs.Lists.{total, below}
 use Rattle.model.specs.Task.{tasks}
-use Rattle.model.specs.Plan.{plan, plan_of}
-use Rattle.model.specs.Links.{mark}
-use Rattle.model.specs.Links as ML
-use Rattle.model.specs.Calls.{Lent, marks_of, worker, took, advanced, all_finished, opened}
+use Rattle.model.specs.Plan.{plan_of}
+use Rattle.model.specs.Calls.{Lent, worker, took, advanced, opened}
 use Rattle.model.specs.Refusal.{open_call}
 use Rattle.model.specs.History.{Call, spent_on}
 use Rattle.demand.specs.Demand.{end}
-use Rattle.order_free.specs.Graph.{finished, is_waiting}
 use Rattle.order_free.specs.Machine as OM
 use Rattle.order_free.specs.Machine.{State, Worker, take, column, accepts, step, effect, about, works_on}
-use Rattle.order_free.specs.Sums.{summed, loop_gain}
-use Rattle.order_free.specs.Counting.{ones, begun, made_for}
+use Rattle.order_free.specs.Sums.{summed}
+use Rattle.order_free.specs.Counting.{ones, made_for}
 use Rattle.order_free.proofs.Invariant.{Inv}
-use Rattle.order_free.proofs.Graph.{finished_begun}
 use Rattle.order_free.proofs.Calls.{always}
 use Rattle.order_free.proofs.Sums.{Sums, start_sums, summed_sums}
 use Rattle.order_free.proofs.Counting.{made_step, sums_same}
-use Rattle.laws.proofs.Every.{every_at}
 use Rattle.cells.specs.Cells.{Val}
 use Rattle.cells.proofs.Valid.{tasks_valid}
 use Rattle.cells.proofs.Instance.{system_laws}
-use Rattle.cells.proofs.Marks.{to_mark, finished_is}
 use Rattle.cells.proofs.Loops.{σ₀}
-use Rattle.cells.proofs.Machine.{S, count, busy_of, abs, length_marks, opened_is, took_is, advanced_is}
+use Rattle.cells.proofs.Machine.{S, count, busy_of, abs, opened_is, took_is, advanced_is}
 use Rattle.laws.proofs.Totals.{total_zero, total_last, total_same, total_one_more}
-use Rattle.demand.proofs.Whole.{Whole, in_range}
+use Rattle.demand.proofs.Whole.{in_range}
 use Rattle.demand.proofs.Moves.{Move, takes, works}
 use Rattle.demand.proofs.Reach.{Reach, move_reach, may_take, may_column}
 use Rattle.demand.proofs.Opening.{Opened, opened_by}

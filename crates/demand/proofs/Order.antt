@@ -1,10 +1,10 @@
 -- K9: the numbers of takes and ends are all different, and a task's take comes after the ends of those that it waits for.
 -- Assumes nothing.
-use Prim.Native.Nat.{ℕ, zero, suc, ◌+◌, ◌≤◌, ◌<◌}
+use Prim.Native.Nat.{ℕ, suc, ◌<◌}
 use mathlib.Core.Bool.{Bool, true, false, cond, not}
 use mathlib.Core.Path.{◌≡◌, refl, sym, ap, ◌∙◌, subst}
 use mathlib.Core.Logic.{◌⊎◌, inl, inr, ◌≢◌}
-use mathlib.Core.List.{List, [], ◌∷◌, ◌++◌, map}
+use mathlib.Core.List.{List, [], ◌∷◌, ◌++◌}
 use native.Mathlib.Omega.{arith}
 use lib.Dec.{eqb}
 use lib.Ieee.{Float}
@@ -31,7 +31,7 @@ use Rattle.cells.proofs.Elements.{map_set}
 use Rattle.cells.proofs.Marks.{opened_marks}
 use Rattle.cells.proofs.Machine.{count, record_at}
 use Rattle.demand.specs.Numbered.{took_numbers, ended_numbers, distinct, InOrder}
-use Rattle.demand.proofs.Distinct.{some_number, Most, nil, cons, distinct_set, set_left, set_right, set_own, most_both, most_of}
+use Rattle.demand.proofs.Distinct.{some_number, Most, cons, distinct_set, set_left, set_right, set_own, most_both, most_of}
 use Rattle.demand.proofs.Whole.{AtWork, Whole, opened_untouched}
 use Rattle.demand.proofs.Stores.{stored, record_here, record_there, mark_here, mark_there}
 use Rattle.demand.proofs.Steps.{ready_waits}

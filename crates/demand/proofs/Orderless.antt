@@ -15,7 +15,7 @@ use Rattle.worker.specs.Holding.{idle, holding}
 use Rattle.model.specs.declared.Answer.TheVariants.{Accepted}
 use Rattle.model.specs.Lists.{below}
 use Rattle.model.specs.Task.{Task, t_1, kind_of, k_of, i_of, j_of, tasks}
-use Rattle.model.specs.Plan.{plan, plan_of}
+use Rattle.model.specs.Plan.{plan_of}
 use Rattle.model.specs.Links.{task, mark, finished}
 use Rattle.model.specs.Buffer.{Ended}
 use Rattle.model.specs.Calls.{Lent, marks_of, ties_of, record_of, with_take, with_column, without_calls, changed, worker, opened, took, advanced, column_of, all_finished}
@@ -26,7 +26,7 @@ use Rattle.laws.proofs.Every.{every_at}
 use Rattle.laws.proofs.Tests.{never, same_or_not}
 use Rattle.run_laws.proofs.Undamaged.{Due}
 use Rattle.cells.proofs.Elements.{get_or_same}
-use Rattle.cells.proofs.Machine.{count, record_at, length_marks}
+use Rattle.cells.proofs.Machine.{record_at, length_marks}
 use Rattle.demand.specs.Demand.{end}
 use Rattle.demand.specs.Numbered.{records_with}
 use Rattle.demand.proofs.Whole.{Whole, mark_at}

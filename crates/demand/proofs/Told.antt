@@ -1,5 +1,5 @@
 -- K9: the run's number counts the deeds, and each record tells the deeds that took and that finished its task. Assumes nothing.
-use Prim.Native.Nat.{ℕ, zero, suc, ◌+◌, ◌<◌}
+use Prim.Native.Nat.{ℕ, suc, ◌+◌, ◌<◌}
 use mathlib.Core.Bool.{Bool, true, false, cond, ◌&&◌, ◌||◌}
 use mathlib.Core.Path.{◌≡◌, refl, sym, ap, ◌∙◌, subst}
 use mathlib.Core.Logic.{◌⊎◌, inl, inr, ◌≢◌}
@@ -16,7 +16,7 @@ use Rattle.model.specs.declared.Answer.TheVariants.{Accepted}
 use Rattle.model.specs.Task.{tasks}
 use Rattle.model.specs.Plan.{Plan, plan, plan_of}
 use Rattle.model.specs.Links.{finished, broken}
-use Rattle.model.specs.Buffer.{Buffers, Ended}
+use Rattle.model.specs.Buffer.{Ended}
 use Rattle.model.specs.Calls.{Lent, with_take, with_column, changed, worker, opened, took, advanced, column_of}
 use Rattle.model.specs.Refusal.{open_call, take_answer, column_answer}
 use Rattle.model.specs.History.{Call}

@@ -5,12 +5,12 @@ ghost use Rattle.std.specs.Prelude.{◌≡◌, map, ◌+◌, ◌*◌, ◌<◌, �
 ghost use Rattle.std.specs.Float.{binary64};
 ghost use Rattle.std.specs.Float.Ieee.{to_bits};
 ghost use Rattle.model.specs.Lists.{joined, part, table, with_part};
-ghost use Rattle.model.specs.Text.{digit as digitOf, hex, bits};
+ghost use Rattle.model.specs.Text.{digit as digit_of, hex, bits};
 
 // The digit of a number below 16: '0' and x further, from 10 on another 7, where 'A' begins.
 fn digit(x: u64) -> u8
     requires { x < 16 }
-    ensures { result ≡ digitOf x }
+    ensures { result ≡ digit_of x }
 {
     (48 + x + (x + 6) / 16 * 7) as u8
 }
@@ -42,7 +42,7 @@ fn bits_of(x: f64) -> u64
 // Writes the 16 digits of a value. They are looked up, which is faster than computing them.
 fn put_bits(text: &mut [u8], at: usize, value: u64, digits: &[u8])
     requires at_in_bounds { at + 16 ≤ length text.old }
-    requires digits_value { digits.now ≡ table 16 digitOf }
+    requires digits_value { digits.now ≡ table 16 digit_of }
     ensures { text.new ≡ with_part at 16 (hex 16 value) text.old }
 {
     let mut left = 16;

@@ -60,7 +60,7 @@ fn first_zero_row(z: Sizes, matrix: &[f64]) -> Lowest
 pub fn outcome_of(z: Sizes, matrix: &[f64], records: &[Record]) -> Outcome
     requires { Sized z × MatrixFits z matrix.now × RecordsFit z records.now }
     ensures { (lists : List ℕ) → result ≡ outcome_of (plan_of z) (record {
-      buffers = record { matrix = matrix.old; lists = lists };
+      buffers = record { matrix = matrix.now; lists = lists };
       marks = marks_from records.now;
       ties = ties_from records.now;
     }) }

@@ -63,7 +63,7 @@ module _ (N t : ℕ) (m : List Float) (l : List ℕ) (r : List (List ℕ)) (ws :
 
   opens : (open_call z s).answer ≡ Accepted
   unfolding open_call open_answer refuse replied lent
-  opens = rw (right_sizes, right_lengths, h.all_finite_lem)
+  opens = rw (right_sizes, right_lengths, h.finite_all)
 
   -- ---- the run is accepted, and finishes
 

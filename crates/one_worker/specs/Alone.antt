@@ -16,7 +16,7 @@ pub record Lendable (N t : ℕ) (m : List Float) (l : List ℕ) (r : List (List 
   pub tiles : (1 ≤ N) × (N ≤ most_tiles)
   pub side : (1 ≤ t) × (t ≤ most_side)
   pub lengths : LentFits (sizes N t 1) m l r
-  pub all_finite_lem : all_finite m ≡ true
+  pub finite_all : all_finite m ≡ true
 
 -- the buffers and the task records at the end, and the outcome
 pub record Result : Type 0 where

@@ -25,7 +25,7 @@ fn pair_right_column(
     requires right_side { RightSide z y.old }
     requires k_lt_i { (k < i) × (i < z.tiles) × (c < z.side) }
     ensures { ColumnPassed i y.new result
-        (paired (plan_of z) (record { matrix = matrix.old; lists = lists.now }) k i c (going y.old)) }
+        (paired (plan_of z) (record { matrix = matrix.now; lists = lists.now }) k i c (going y.old)) }
 {
     let n = z.tiles;
     let t = z.side;
@@ -41,7 +41,7 @@ pub fn pair(z: Sizes, matrix: &[f64], lists: &[u8], y: &mut [f64], k: usize, i: 
     requires right_side { RightSide z y.old }
     requires k_lt_i { (k < i) × (i < z.tiles) }
     ensures { Passing result y.new
-        (pair_all (plan_of z) (record { matrix = matrix.old; lists = lists.now }) k i (going y.old)) }
+        (pair_all (plan_of z) (record { matrix = matrix.now; lists = lists.now }) k i (going y.old)) }
 {
     let t = z.side;
     let mut c = 0;

@@ -28,7 +28,7 @@ fn apply_right_column(
     requires right_side { RightSide z y.old }
     requires k_lt_tiles { (k < z.tiles) × (c < z.side) }
     ensures { ColumnPassed k y.new result
-        (applied (plan_of z) (record { matrix = matrix.old; lists = lists.now }) k c (going y.old)) }
+        (applied (plan_of z) (record { matrix = matrix.now; lists = lists.now }) k c (going y.old)) }
 {
     let n = z.tiles;
     let t = z.side;
@@ -45,7 +45,7 @@ fn apply(z: Sizes, matrix: &[f64], lists: &[u8], y: &mut [f64], k: usize) -> Pro
     requires right_side { RightSide z y.old }
     requires k_lt_tiles { k < z.tiles }
     ensures { Passing result y.new
-        (apply_all (plan_of z) (record { matrix = matrix.old; lists = lists.now }) k (going y.old)) }
+        (apply_all (plan_of z) (record { matrix = matrix.now; lists = lists.now }) k (going y.old)) }
 {
     let t = z.side;
     let mut c = 0;
@@ -64,7 +64,7 @@ fn pair_below(z: Sizes, matrix: &[f64], lists: &[u8], y: &mut [f64], k: usize) -
     requires right_side { RightSide z y.old }
     requires k_lt_tiles { k < z.tiles }
     ensures { Passing result y.new
-        (in_turn (pair_all (plan_of z) (record { matrix = matrix.old; lists = lists.now }) k) (after z.tiles k) (going y.old)) }
+        (in_turn (pair_all (plan_of z) (record { matrix = matrix.now; lists = lists.now }) k) (after z.tiles k) (going y.old)) }
 {
     let n = z.tiles;
     let mut i = k + 1;
@@ -84,7 +84,7 @@ fn stage(z: Sizes, matrix: &[f64], lists: &[u8], y: &mut [f64], k: usize) -> Pro
     requires right_side { RightSide z y.old }
     requires k_lt_tiles { k < z.tiles }
     ensures { Passing result y.new
-        (stage_passed (plan_of z) (record { matrix = matrix.old; lists = lists.now }) k (going y.old)) }
+        (stage_passed (plan_of z) (record { matrix = matrix.now; lists = lists.now }) k (going y.old)) }
 {
     let p = apply(z, matrix, lists, y, k);
     if let Progress::Stopped(x) = p {
@@ -99,7 +99,7 @@ pub fn pass(z: Sizes, matrix: &[f64], lists: &[u8], y: &mut [f64]) -> Progress
     requires solvable { Solvable z matrix.now lists.now }
     requires right_side { RightSide z y.old }
     ensures passing { Passing result y.new
-        (in_turn (passOf (plan_of z) (record { matrix = matrix.old; lists = lists.now })) (tasks z.tiles) (going y.old)) }
+        (in_turn (passOf (plan_of z) (record { matrix = matrix.now; lists = lists.now })) (tasks z.tiles) (going y.old)) }
     ensures y_len_unchanged { length y.new ≡ length y.old }
 {
     let n = z.tiles;

@@ -39,7 +39,7 @@ pub fn solve_in(
     requires right_side { RightSide z right.now }
     requires matrix_value { (all_finite matrix.now ≡ true) × (length answers.old ≡ z.tiles * z.side) × (length y.old ≡ z.tiles * z.side) }
     ensures { record { answer = result; left = answers.new }
-        ≡ answered Accepted answers.old (solved (plan_of z) (record { matrix = matrix.old; lists = lists.now }) right.now) }
+        ≡ answered Accepted answers.old (solved (plan_of z) (record { matrix = matrix.now; lists = lists.now }) right.now) }
 {
     copy(right, y);
     let forward = pass(z, matrix, lists, y);

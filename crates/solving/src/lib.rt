@@ -29,7 +29,7 @@ fn solve_with(
     requires right_side { RightSide z right.now }
     requires matrix_value { (all_finite matrix.now ≡ true) × (length answers.old ≡ z.tiles * z.side) × (length work.old ≡ most_order) }
     ensures { record { answer = result; left = answers.new }
-        ≡ answered Accepted answers.old (solved (plan_of z) (record { matrix = matrix.old; lists = lists.now }) right.now) }
+        ≡ answered Accepted answers.old (solved (plan_of z) (record { matrix = matrix.now; lists = lists.now }) right.now) }
 {
     let order = z.tiles * z.side;
     solve_in(z, matrix, lists, right, answers, &mut work[..order])

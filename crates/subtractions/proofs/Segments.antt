@@ -8,7 +8,6 @@ use lib.ListN.{length, get_or}
 use lib.Ieee.{Float, nan}
 use Rattle.model.specs.Lists.{run}
 use Rattle.model.specs.Num.{update}
-use Rattle.model.specs.Tile.{at}
 use Rattle.model.specs.Plan.{Plan, plan}
 use Rattle.model.specs.Buffer.{Buffers, tile, element}
 use Rattle.model.specs.Solve.{coefficient, row_left}

@@ -40,7 +40,7 @@ pub fn subtract(matrix: &[f64], y: &[f64], a: usize, b: usize, count: usize, d: 
 pub fn subtract_tiles(z: Sizes, matrix: &[f64], y: &[f64], i: usize, r: usize, d: f64) -> f64
     requires backward_fits { BackwardFits z matrix.now y.now }
     requires i_lt_tiles { (i < z.tiles) × (r < z.side) }
-    ensures { (lists : List ℕ) → result ≡ row_left (plan_of z) (record { matrix = matrix.old; lists = lists }) (i * z.side + r) y.now
+    ensures { (lists : List ℕ) → result ≡ row_left (plan_of z) (record { matrix = matrix.now; lists = lists }) (i * z.side + r) y.now
         (run (suc i * z.side) (z.tiles * z.side - suc i * z.side)) d }
 {
     let n = z.tiles;

@@ -29,16 +29,16 @@ use Rattle.system_checked.proofs.Held.{tiles_kind}
 
 -- ---- the numbers of accepted tiles are finite
 
-finite_tiles_lem : (t x : ℕ) (fs : List Frame) (ls : List (List ℕ)) → AllKind 2 fs → lines_answer t x fs ls ≡ Accepted
+finite_tiles : (t x : ℕ) (fs : List Frame) (ls : List (List ℕ)) → AllKind 2 fs → lines_answer t x fs ls ≡ Accepted
     → all_finite (joined (map (numbers_in t) (take (length fs) ls))) ≡ true
 unfolding lines_answer line_answer all_finite every joined
-finite_tiles_lem t x [] ls a e = refl
-finite_tiles_lem t x (f ∷ fs) [] a e = let z : ◌≡◌ {A = ℕ} 0 1 = cc in absurd (omega arith)
-finite_tiles_lem t x (f ∷ fs) (l ∷ ls) (k, a) e =
+finite_tiles t x [] ls a e = refl
+finite_tiles t x (f ∷ fs) [] a e = let z : ◌≡◌ {A = ℕ} 0 1 = cc in absurd (omega arith)
+finite_tiles t x (f ∷ fs) (l ∷ ls) (k, a) e =
     let p = passed 12 x (bad_line t f.kind l) _ e in
     let q = passed 13 x (wrong_frame f l) _ p.1 in
     let r = passed 3 x (not_finite_in t f l) _ q.1 in
-    every_both finite (numbers_in t l) (joined (map (numbers_in t) (take (length fs) ls))) (finite_of t f l k r.0) (finite_tiles_lem t (suc x) fs ls a r.1)
+    every_both finite (numbers_in t l) (joined (map (numbers_in t) (take (length fs) ls))) (finite_of t f l k r.0) (finite_tiles t (suc x) fs ls a r.1)
 
 -- ---- a checked system
 
@@ -46,7 +46,7 @@ pub record Checked (text : List ℕ) (N t : ℕ) : Type 0 where
   pub shape : bad_shape N t ≡ false
   pub small : N * t ≤ 48
   pub numbers : List Float
-  pub all_finite_lem : all_finite numbers ≡ true
+  pub finite_all : all_finite numbers ≡ true
   pub prints : program text ≡ result_of (plan N t) numbers
   pub reads : (m : List Float) → length m ≡ N * t * (N * t) → read_system text m ≡ record { answer = SystemRead N t; matrix = numbers }
 
@@ -92,7 +92,7 @@ module _ (text h : List ℕ) (ls : List (List ℕ)) (lines : lines_from [] text 
     shape = all_passed.shape;
     small = all_passed.small;
     numbers = tiles_of N t ls;
-    all_finite_lem = rw (length_tile_frames N) at (finite_tiles_lem t 2 (tile_frames N) ls (tiles_kind N) all_passed.behind);
+    finite_all = rw (length_tile_frames N) at (finite_tiles t 2 (tile_frames N) ls (tiles_kind N) all_passed.behind);
     prints = ap (λ (ks : List (List ℕ)). printed (answer_in ks) ks) lines ∙ ap (λ (a : Answer). printed a (h ∷ ls)) accepted;
     reads = λ m e.
         ap (λ (ks : List (List ℕ)). system_reading (file_answer no_limit system_frames (λ N t. bad_matrix N t m) ks) ks m) lines

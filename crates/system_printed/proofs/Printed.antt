@@ -42,7 +42,7 @@ module _ (text : List ℕ) (N t : ℕ) (c : Checked text N t) where
         buffers = record { matrix_fits = h ∙ fit.buffers.matrix_fits; lists_fit = fit.buffers.lists_fit };
         records_fit = fit.records_fit;
       };
-      all_finite_lem = rw numbers_read c.all_finite_lem;
+      finite_all = rw numbers_read c.finite_all;
     }
 
   -- ---- what is written

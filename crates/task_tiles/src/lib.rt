@@ -34,7 +34,7 @@ fn finite_pair(z: Sizes, matrix: &[f64], i: usize, j: usize, k: usize, l: usize)
 // Whether an element of a tile that the task touches isn't finite.
 pub fn bad_tiles(z: Sizes, matrix: &[f64], task: TaskRecord) -> bool
     requires { Sized z × MatrixFits z matrix.now × Inside z.tiles task }
-    ensures { (lists : List ℕ) → result ≡ not (finite_tiles (plan_of z) (task_from task) (record { matrix = matrix.old; lists = lists })) }
+    ensures { (lists : List ℕ) → result ≡ not (finite_tiles (plan_of z) (task_from task) (record { matrix = matrix.now; lists = lists })) }
 {
     let k = task.k as usize;
     let i = task.i as usize;

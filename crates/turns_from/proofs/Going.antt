@@ -19,7 +19,7 @@ use Rattle.model.specs.declared.RunAnswer.TheVariants.{Finished, Spent}
 use Rattle.model.specs.Lists.{every}
 use Rattle.model.specs.Task.{t_1, tasks}
 use Rattle.model.specs.Plan.{plan, plan_of}
-use Rattle.model.specs.Links.{task, mark, finished, ready}
+use Rattle.model.specs.Links.{task, finished, ready}
 use Rattle.model.specs.Buffer.{Ended, mark_after, ties_after, finite_tiles}
 use Rattle.model.specs.Calls.{Lent, RunEnd, marks_of, record_of, with_take, with_column, changed, worker, took, advanced, all_finished, run_from}
 use Rattle.worker.specs.Holding.{idle, holding}

@@ -4,7 +4,6 @@ use mathlib.Core.Path.{ap, ◌∙◌}
 use mathlib.Core.Bool.{cond}
 use mathlib.Core.List.{[]}
 use native.Mathlib.Omega.{arith}
-use borrow.Author.Rules.{rules}
 use Rattle.worker.specs.Holding.{idle, holding}
 use Rattle.model.specs.Calls.{with_column, changed}
 use Rattle.model.specs.Links.{finished}

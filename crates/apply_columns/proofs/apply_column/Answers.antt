@@ -1,5 +1,4 @@
 -- `apply_column` meets its contract: the two ways by whether every number computed is finite. Assumes nothing.
-use borrow.Author.Rules.{rules}
 use native.Mathlib.Omega.{arith}
 use Rattle.column_laws.proofs.Permutes.{started_long, started_finite}
 use Rattle.column_laws.proofs.Ends.{apply_ends, apply_fails}
@@ -10,7 +9,7 @@ pub start_block-requires : goal.start_block-requires
 start_block-requires c =
     let r = apply_ready c.requires in
     rw (c.tile_start-a.ensures, c.list_start-p.ensures)
-    (record { rows_most = r.side_most; width_most = r.side_most; few = r.few; room = r.room }, (r.list_room, omega (arith, r.lists_few), r.entries))
+    (record { block = record { rows_most = r.side_most; width_most = r.side_most; few = r.few; room = r.room }; t_in_bounds = (r.list_room, omega (arith, r.lists_few), r.entries) })
 
 pub apply_rows-requires : goal.apply_rows-requires
 apply_rows-requires c =
@@ -21,11 +20,14 @@ apply_rows-requires c =
     let p = c.list_start-p.ensures in
     let x = c.start_block.ensures in
     let room = rw (← e) at r.room in
-    let long = started_long t t a.c c.tile_start-a.result c.list_start-p.result a.lists.now a.matrix.now _ room x in record { block = record { rows_most = r.side_most; width_most = r.side_most; few = omega (arith, long, r.few); room = omega (arith, long, room) }; c_lt_t = (
+    let long = started_long t t a.c c.tile_start-a.result c.list_start-p.result a.lists.now a.matrix.now _ room x in record {
+      block = record { rows_most = r.side_most; width_most = r.side_most; few = omega (arith, long, r.few); room = omega (arith, long, room) };
+      c_lt_t = (
         r.column,
         rw (e, c.tile_start-f.ensures) r.mult_left,
         started_finite t t a.c c.tile_start-a.result c.list_start-p.result a.lists.now a.matrix.now _ room x (rw p r.list_room) (rw p r.entries) (rw e r.tile_finite),
-      ) }
+      );
+    }
 
 pub returns-then-apply_rows : goal.returns-then-apply_rows
 returns-then-apply_rows c =
@@ -43,7 +45,7 @@ overflow_mul-t c =
 pub fill_numbers-requires : goal.fill_numbers-requires
 fill_numbers-requires c =
     let r = apply_ready c.requires in
-    omega (arith, r.room, c.tile_start-a.ensures, c.apply_rows.auto.m, c.start_block.auto.0)
+    omega (arith, r.room, c.tile_start-a.ensures, c.apply_rows.auto.m, c.start_block.auto.m)
 
 pub returns : goal.returns
 returns c =

@@ -1,15 +1,10 @@
 -- The rows below i·t are left. Assumes nothing.
-use borrow.Author.Rules.{rules}
 use mathlib.Core.Path.{◌≡◌, refl, sym, ◌∙◌, ap}
-use mathlib.Core.List.{List}
-use Prim.Native.Nat.{ℕ, suc, ◌+◌, ◌-◌, ◌*◌, ◌≤◌}
+use Prim.Native.Nat.{ℕ, suc, ◌+◌, ◌-◌, ◌*◌}
 use native.Mathlib.Nat.{mul-le-mul}
 use native.Mathlib.Omega.{arith}
-use lib.ListN.{length}
-use Rattle.model.specs.Plan.{plan_of}
-use Rattle.model.specs.Solve.{going}
 use Rattle.progress.specs.Right.{passed_of}
-use Rattle.backward.specs.Rows.{back_below, back_between, lowest_done}
+use Rattle.backward.specs.Rows.{lowest_done}
 use Rattle.backward.proofs.Backs.{back_none, tile_goes, tile_stops, between_none, tile_between}
 use Rattle.backward.proofs.back_rows.Goals as goal
 
@@ -24,7 +19,7 @@ back_tile-p-requires c =
 
 pub shape_of-y-in-Stopped : goal.shape_of-y-in-Stopped
 shape_of-y-in-Stopped c =
-    c.back_tile-p.auto.1.1.0 ∙ c.loop-i.invariant.1
+    c.back_tile-p.auto.y ∙ c.loop-i.invariant.1
 
 pub returns-in-Stopped : goal.returns-in-Stopped
 unfolding passed_of lowest_done
@@ -32,10 +27,9 @@ returns-in-Stopped c =
     let a = c.args in
     let k = c.loop-i.i in
     let i = c.loop-i.invariant in
-    let t = (c.back_tile-p.ensures.by_index, (c.back_tile-p.ensures.result_bound, c.back_tile-p.ensures.by_index_2)) in
     let stops = c.in-Stopped.is in
     let one : suc (k - 1) ≡ k = omega (arith, c.loop-i-test.true) in
-    let e : (k - 1) * a.z.side + a.z.side ≡ k * a.z.side = omega (arith, ap (λ (k : ℕ). k * a.z.side) one) in record { by_index = λ lists. tile_stops _ _ _ _ _ _ (rw e at (t.0 lists)) _ stops ∙ i.2 lists; by_index_2 = λ lists. tile_between _ _ _ _ _ _ _ _ (rw (stops, e, lowest_done) at t.1.0) (mul-le-mul i.0 (omega arith)) (i.3 lists) (rw (stops, e, lowest_done) at (t.1.1 lists)) }
+    let e : (k - 1) * a.z.side + a.z.side ≡ k * a.z.side = omega (arith, ap (λ (k : ℕ). k * a.z.side) one) in record { by_index = λ lists. tile_stops _ _ _ _ _ _ (rw e at (c.back_tile-p.ensures.by_index lists)) _ stops ∙ i.2 lists; by_index_2 = λ lists. tile_between _ _ _ _ _ _ _ _ (rw (stops, e, lowest_done) at c.back_tile-p.ensures.result_bound) (mul-le-mul i.0 (omega arith)) (i.3 lists) (rw (stops, e, lowest_done) at (c.back_tile-p.ensures.by_index_2 lists)) }
 
 pub loop-i-smaller : goal.loop-i-smaller
 loop-i-smaller c =
@@ -47,14 +41,13 @@ loop-i-preserved c =
     let a = c.args in
     let k = c.loop-i.i in
     let i = c.loop-i.invariant in
-    let t = (c.back_tile-p.ensures.by_index, (c.back_tile-p.ensures.result_bound, c.back_tile-p.ensures.by_index_2)) in
-    let goes = c.enum_told-1.given.1 in
+    let goes = c.in_default.is in
     let one : suc (k - 1) ≡ k = omega (arith, c.loop-i-test.true) in
     let e : (k - 1) * a.z.side + a.z.side ≡ k * a.z.side = omega (arith, ap (λ (k : ℕ). k * a.z.side) one) in (
       omega (arith, i.0),
-      c.back_tile-p.auto.1.1.0 ∙ i.1,
-      λ lists. tile_goes _ _ _ _ _ _ (rw e at (t.0 lists)) goes ∙ i.2 lists,
-      λ lists. tile_between _ _ _ _ _ _ _ _ (rw (goes, e, lowest_done) at t.1.0) (mul-le-mul i.0 (omega arith)) (i.3 lists) (rw (goes, e, lowest_done) at (t.1.1 lists)),
+      c.back_tile-p.auto.y ∙ i.1,
+      λ lists. tile_goes _ _ _ _ _ _ (rw e at (c.back_tile-p.ensures.by_index lists)) goes ∙ i.2 lists,
+      λ lists. tile_between _ _ _ _ _ _ _ _ (rw (goes, e, lowest_done) at c.back_tile-p.ensures.result_bound) (mul-le-mul i.0 (omega arith)) (i.3 lists) (rw (goes, e, lowest_done) at (c.back_tile-p.ensures.by_index_2 lists)),
     )
 
 pub shape_of-y : goal.shape_of-y

@@ -1,14 +1,10 @@
 -- The rows below i·t + r are left. Assumes nothing.
-use borrow.Author.Rules.{rules}
 use mathlib.Core.Path.{◌≡◌, refl, sym, ◌∙◌}
-use mathlib.Core.List.{List}
-use Prim.Native.Nat.{ℕ, suc, ◌+◌, ◌-◌, ◌*◌, ◌≤◌}
+use Prim.Native.Nat.{suc, ◌+◌, ◌-◌, ◌*◌}
 use native.Mathlib.Omega.{arith}
-use lib.ListN.{length, length-set}
-use Rattle.model.specs.Plan.{plan_of}
-use Rattle.model.specs.Solve.{going}
+use lib.ListN.{length-set}
 use Rattle.progress.specs.Right.{passed_of}
-use Rattle.backward.specs.Rows.{back_below, back_between, lowest_done}
+use Rattle.backward.specs.Rows.{lowest_done}
 use Rattle.subtractions.proofs.Places.{Placed, placed}
 use Rattle.backward.proofs.Backs.{back_stopped, back_number, back_not_finite, between_none, between_row}
 use Rattle.backward.proofs.back_tile.Goals as goal
@@ -38,9 +34,13 @@ pub returns-in_default : goal.returns-in_default
 unfolding passed_of lowest_done
 returns-in_default c =
     let e : suc (c.args.i * c.args.z.side + (c.loop-r.r - 1)) ≡ c.args.i * c.args.z.side + c.loop-r.r = omega (arith, c.loop-r-test.true) in
-    let i = c.loop-r.invariant in record { by_index = λ lists.
-          let q = back_not_finite _ _ _ _ _ (c.back_row-found.ensures lists) c.enum_told-1.given.1 in
-          back_stopped _ _ _ _ ∙ sym q ∙ rw e (i.2 lists); result_bound = omega (arith, e, i.0); by_index_2 = λ lists. rw e (i.3 lists) }
+    let i = c.loop-r.invariant in record {
+      by_index = λ lists.
+          let q = back_not_finite _ _ _ _ _ (c.back_row-found.ensures lists) c.in_default.is in
+          back_stopped _ _ _ _ ∙ sym q ∙ rw e (i.2 lists);
+      result_bound = omega (arith, e, i.0);
+      by_index_2 = λ lists. rw e (i.3 lists);
+    }
 
 pub offset_bounds-y-x : goal.offset_bounds-y-x
 offset_bounds-y-x c =
@@ -59,8 +59,8 @@ loop-r-preserved c =
     let e : suc (c.args.i * c.args.z.side + (c.loop-r.r - 1)) ≡ c.args.i * c.args.z.side + c.loop-r.r = omega (arith, c.loop-r-test.true) in (
       omega (arith, c.loop-r.invariant.0),
       simp length-set c.loop-r.invariant.1,
-      λ lists. sym (back_number _ _ _ _ _ (c.back_row-found.ensures lists) _ c.found-1.given.1) ∙ rw e (c.loop-r.invariant.2 lists),
-      λ lists. between_row _ _ _ _ _ _ _ (c.back_row-found.ensures lists) _ c.found-1.given.1 (omega (arith, e, c.loop-r.invariant.0)) (rw e (c.loop-r.invariant.3 lists)),
+      λ lists. sym (back_number _ _ _ _ _ (c.back_row-found.ensures lists) _ c.in-Number.is) ∙ rw e (c.loop-r.invariant.2 lists),
+      λ lists. between_row _ _ _ _ _ _ _ (c.back_row-found.ensures lists) _ c.in-Number.is (omega (arith, e, c.loop-r.invariant.0)) (rw e (c.loop-r.invariant.3 lists)),
     )
 
 pub shape_of-y : goal.shape_of-y

@@ -1,5 +1,4 @@
 -- The columns beside the diagonal in its tile, then the tiles further right, then the quotient. Assumes nothing.
-use borrow.Author.Rules.{rules}
 use mathlib.Core.Path.{sym, ◌∙◌}
 use native.Mathlib.Omega.{arith}
 use Rattle.model.specs.Num.{quotient}

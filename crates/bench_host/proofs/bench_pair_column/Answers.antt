@@ -1,6 +1,5 @@
 -- `bench_pair_column` meets its contract: it hands on the column's. Assumes nothing.
 use Rattle.bench_host.proofs.Laws.{ends}
-use borrow.Author.Rules.{rules}
 use Rattle.bench_host.proofs.bench_pair_column.Goals as goal
 
 pub returns : goal.returns

@@ -2,7 +2,6 @@
 use mathlib.Core.Path.{ap}
 use lib.ListN.{replicate}
 use Rattle.bench_structs.specs.Bench.{idles}
-use borrow.Author.Rules.{rules}
 use Rattle.bench_structs.proofs.idle_workers.Goals as goal
 
 pub returns : goal.returns

@@ -3,15 +3,13 @@ use mathlib.Core.Path.{ap}
 use lib.ListN.{set, replicate}
 use Rattle.worker.specs.Holding.{holding}
 use Rattle.bench_structs.specs.Bench.{one_holding}
-use borrow.Author.Rules.{rules}
 use Rattle.bench_structs.proofs.one_holding.Goals as goal
 
 pub returns : goal.returns
 unfolding one_holding
 returns c =
     λ i. record {
-  slots = ap (λ h. set (replicate 32 h) 0 (holding c.args.p c.args.c)) c.idle-h.ensures i;
-  count = c.args.z.workers;
-  number = c.args.number;
-
-}
+      slots = ap (λ h. set (replicate 32 h) 0 (holding c.args.p c.args.c)) c.idle-h.ensures i;
+      count = c.args.z.workers;
+      number = c.args.number;
+    }

@@ -5,7 +5,6 @@ use lib.ListN.{get_or-eq_default}
 use Rattle.worker.specs.declared.Worker.{Worker}
 use Rattle.worker.specs.Holding.{idle}
 use Rattle.records.proofs.Laws.{length_slots}
-use borrow.Author.Rules.{rules}
 use Rattle.column_call.proofs.task_held.Goals as goal
 
 pub returns : goal.returns

@@ -2,7 +2,6 @@
 use mathlib.Core.Path.{sym, ap, ◌∙◌, subst}
 use mathlib.Core.Bool.{not}
 use native.Mathlib.Omega.{arith}
-use borrow.Author.Rules.{rules}
 use borrow.Author.Tests.{not-true, not-false}
 use Rattle.model.specs.declared.TaskRecord.{TaskRecord}
 use Rattle.model.specs.Plan.{plan_of}
@@ -29,23 +28,23 @@ bounds-slots-w c =
 
 pub returns-then-not-h : goal.returns-then-not-h
 returns-then-not-h c =
-    idle_worker c.args.z _ _ _ c.args.workers.slots c.args.workers.count c.args.workers.number c.args.w _ c.state_answer-state.ensures _ c.accepted.ensures c.if-not-accepted.false c.if-z-w.false c.if-not-h.true
+    idle_worker c.args.z _ _ _ c.args.workers.slots c.args.workers.count c.args.workers.number c.args.w _ c.state_answer-state.ensures _ c.accepted.ensures c.if-not-accepted.false c.if-z-w.false (not-true _ c.if-not-h.true)
 
 pub record_at-requires : goal.record_at-requires
 record_at-requires c =
-    omega (arith, task_exists c.args.z _ _ _ c.args.workers.slots c.args.workers.count c.args.workers.number c.args.w _ c.state_answer-state.ensures _ c.accepted.ensures c.if-not-accepted.false c.if-z-w.false c.if-not-h.false, (is_sound c.args.z _ _ _ c.args.workers.slots c.args.workers.count c.args.workers.number c.args.w _ c.state_answer-state.ensures _ c.accepted.ensures c.if-not-accepted.false).lengths.records_fit)
+    omega (arith, task_exists c.args.z _ _ _ c.args.workers.slots c.args.workers.count c.args.workers.number c.args.w _ c.state_answer-state.ensures _ c.accepted.ensures c.if-not-accepted.false c.if-z-w.false (not-false _ c.if-not-h.false), (is_sound c.args.z _ _ _ c.args.workers.slots c.args.workers.count c.args.workers.number c.args.w _ c.state_answer-state.ensures _ c.accepted.ensures c.if-not-accepted.false).lengths.records_fit)
 
 pub bad_tiles-requires : goal.bad_tiles-requires
 bad_tiles-requires c =
     let s = is_sound c.args.z _ _ _ c.args.workers.slots c.args.workers.count c.args.workers.number c.args.w _ c.state_answer-state.ensures _ c.accepted.ensures c.if-not-accepted.false in
-    (s.sizes, s.lengths.buffers.matrix_fits, subst (λ (r : TaskRecord). Inside c.args.z.tiles r) (sym c.record_at.ensures) (tiles_there c.args.z _ _ _ c.args.workers.slots c.args.workers.count c.args.workers.number c.args.w _ c.state_answer-state.ensures _ c.accepted.ensures c.if-not-accepted.false c.if-z-w.false c.if-not-h.false))
+    (s.sizes, s.lengths.buffers.matrix_fits, subst (λ (r : TaskRecord). Inside c.args.z.tiles r) (sym c.record_at.ensures) (tiles_there c.args.z _ _ _ c.args.workers.slots c.args.workers.count c.args.workers.number c.args.w _ c.state_answer-state.ensures _ c.accepted.ensures c.if-not-accepted.false c.if-z-w.false (not-false _ c.if-not-h.false)))
 
 pub returns-then-bad_tiles : goal.returns-then-bad_tiles
 returns-then-bad_tiles c =
-    tiles_bad c.args.z _ _ _ c.args.workers.slots c.args.workers.count c.args.workers.number c.args.w _ c.state_answer-state.ensures _ c.accepted.ensures c.if-not-accepted.false c.if-z-w.false c.if-not-h.false _
+    tiles_bad c.args.z _ _ _ c.args.workers.slots c.args.workers.count c.args.workers.number c.args.w _ c.state_answer-state.ensures _ c.accepted.ensures c.if-not-accepted.false c.if-z-w.false (not-false _ c.if-not-h.false) _
     (c.bad_tiles.ensures _ ∙ ap (λ (r : TaskRecord). not (finite_tiles (plan_of c.args.z) (task_from r) (record { matrix = c.args.matrix.now; lists = c.args.lists.now }))) c.record_at.ensures) c.if-bad_tiles.true
 
 pub returns : goal.returns
 returns c =
-    tiles_good c.args.z _ _ _ c.args.workers.slots c.args.workers.count c.args.workers.number c.args.w _ c.state_answer-state.ensures _ c.accepted.ensures c.if-not-accepted.false c.if-z-w.false c.if-not-h.false _
+    tiles_good c.args.z _ _ _ c.args.workers.slots c.args.workers.count c.args.workers.number c.args.w _ c.state_answer-state.ensures _ c.accepted.ensures c.if-not-accepted.false c.if-z-w.false (not-false _ c.if-not-h.false) _
     (c.bad_tiles.ensures _ ∙ ap (λ (r : TaskRecord). not (finite_tiles (plan_of c.args.z) (task_from r) (record { matrix = c.args.matrix.now; lists = c.args.lists.now }))) c.record_at.ensures) c.if-bad_tiles.false

@@ -27,7 +27,7 @@ pub couple_pivot-found-requires : goal.couple_pivot-found-requires
 couple_pivot-found-requires c =
     let r = couple_ready c.requires in
     rw (c.tile_start-u.ensures, c.tile_start-d.ensures)
-    (record { rows_most = r.side_most; width_most = r.side_most; few = r.few; upper_room = r.upper_room; lower_room = r.lower_room; apart = r.apart }, (r.column, r.upper_finite, r.lower_finite))
+    (record { two_blocks = record { rows_most = r.side_most; width_most = r.side_most; few = r.few; upper_room = r.upper_room; lower_room = r.lower_room; apart = r.apart }; c_lt_t = (r.column, r.upper_finite, r.lower_finite) })
 
 pub overflow_cast-lists : goal.overflow_cast-lists
 overflow_cast-lists c =
@@ -115,11 +115,11 @@ fill_coupled-requires c =
 
 pub shape_of-matrix : goal.shape_of-matrix
 shape_of-matrix c =
-    c.fill_coupled.auto.m ∙ c.couple_rows.auto.m
+    c.fill_coupled.auto.matrix ∙ c.couple_rows.auto.m
 
 pub shape_of-lists : goal.shape_of-lists
 shape_of-lists c =
-    c.fill_coupled.auto.l.0 ∙ simp length-set
+    c.fill_coupled.auto.lists ∙ simp length-set
 
 pub returns : goal.returns
 unfolding of_bits is_zero

@@ -1,6 +1,5 @@
 -- The fields' tests are those of the contract. Assumes nothing.
 use mathlib.Core.Path.{refl}
-use borrow.Author.Rules.{rules}
 use Rattle.damage.proofs.bad_calls.Goals as goal
 
 pub returns : goal.returns

@@ -1,5 +1,4 @@
 -- The tests in turn. Assumes nothing.
-use borrow.Author.Rules.{rules}
 use Rattle.damage.proofs.Laws.{damaged_1, damaged_2, damaged_3}
 use Rattle.damage.proofs.damaged.Goals as goal
 

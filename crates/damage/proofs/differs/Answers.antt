@@ -2,7 +2,6 @@
 use mathlib.Core.Bool.{not, ◌&&◌}
 use mathlib.Core.Path.{◌∙◌}
 use lib.Dec.{eqb, leb}
-use borrow.Author.Rules.{rules}
 use Rattle.damage.proofs.Laws.{bytes_same}
 use Rattle.damage.proofs.differs.Goals as goal
 

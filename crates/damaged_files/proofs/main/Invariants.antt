@@ -1,5 +1,4 @@
 -- `damaged_files::main` meets its contract. Assumes nothing.
-use borrow.Author.Rules.{rules}
 use Prim.Native.Nat.{◌-◌, ◌≤◌}
 use Rattle.damaged_files.proofs.main.Given as goal
 

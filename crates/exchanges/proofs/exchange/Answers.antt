@@ -1,9 +1,8 @@
 -- `exchange` meets its contract: after i turns the first i pairs are exchanged. Assumes nothing.
-use Prim.Native.Nat.{◌≤◌, ◌-◌}
 use mathlib.Core.Path.{◌≡◌}
 use native.Mathlib.Omega.{arith}
 use lib.ListN.{length-set}
-use Rattle.exchanges.proofs.Swapped.{Swapped, swapped_none, swapped_more, swapped_is}
+use Rattle.exchanges.proofs.Swapped.{swapped_none, swapped_more, swapped_is}
 use Rattle.exchanges.proofs.exchange.Goals as goal
 
 pub loop-i-init : goal.loop-i-init

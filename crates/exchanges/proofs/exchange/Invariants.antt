@@ -1,9 +1,6 @@
 -- `exchange` meets its contract: after i turns the first i pairs are exchanged. Assumes nothing.
 use Prim.Native.Nat.{◌≤◌, ◌-◌}
-use mathlib.Core.Path.{◌≡◌}
-use native.Mathlib.Omega.{arith}
-use lib.ListN.{length-set}
-use Rattle.exchanges.proofs.Swapped.{Swapped, swapped_none, swapped_more, swapped_is}
+use Rattle.exchanges.proofs.Swapped.{Swapped}
 use Rattle.exchanges.proofs.exchange.Given as goal
 
 abbrev pub invariant-loop-i : goal.invariant-loop-i

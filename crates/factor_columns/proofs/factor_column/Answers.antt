@@ -22,7 +22,7 @@ list_start-p-requires c =
 pub factor_pivot-found-requires : goal.factor_pivot-found-requires
 factor_pivot-found-requires c =
     let r = factor_ready c.requires in
-    rw c.tile_start-a.ensures (record { rows_most = r.side_most; width_most = r.side_most; few = r.few; room = r.room }, (r.column, r.tile_finite))
+    rw c.tile_start-a.ensures (record { block = record { rows_most = r.side_most; width_most = r.side_most; few = r.few; room = r.room }; c_lt_t = (r.column, r.tile_finite) })
 
 pub overflow_cast-lists : goal.overflow_cast-lists
 overflow_cast-lists c =
@@ -108,11 +108,11 @@ fill_entries-requires c =
 
 pub shape_of-matrix : goal.shape_of-matrix
 shape_of-matrix c =
-    c.fill_numbers.auto.m ∙ c.factor_rows.auto.0
+    c.fill_numbers.auto.m ∙ c.factor_rows.auto.m
 
 pub shape_of-lists : goal.shape_of-lists
 shape_of-lists c =
-    c.fill_entries.auto.l ∙ simp length-set
+    c.fill_entries.auto.lists ∙ simp length-set
 
 pub returns : goal.returns
 unfolding of_bits is_zero

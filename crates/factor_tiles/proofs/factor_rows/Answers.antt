@@ -55,7 +55,8 @@ eliminate-requires c =
     let ends : suc a.c + k ≡ a.t = omega (arith, c.requires.c_lt_t.0) in
     let split : (suc a.c + k) * a.t ≡ a.t * a.t = rw ends in
     let x = exchange_at a.t a.a a.c a.y a.m.now _ c.requires.c_lt_t.0 c.requires.c_lt_t.1 b.room c.exchange.ensures in
-    let long = kept_long a.t a.c k a.y a.a (a.a + (a.c + 1) * a.t) (a.a + a.c * a.t) ends a.m.now b.room (omega arith) refl _ x in record { rows = record {
+    let long = kept_long a.t a.c k a.y a.a (a.a + (a.c + 1) * a.t) (a.a + a.c * a.t) ends a.m.now b.room (omega arith) refl _ x in record {
+      rows = record {
         rows_most = omega (arith, b.rows_most);
         width_most = b.rows_most;
         column = c.requires.c_lt_t.0;
@@ -63,7 +64,10 @@ eliminate-requires c =
         room = omega (arith, long, b.room, split);
         top_room = omega (arith, long, b.room, split);
         apart = inl (omega arith);
-      }; m_value = factored_finite a.t a.c k a.y a.a (a.a + (a.c + 1) * a.t) (a.a + a.c * a.t) ends a.m.now b.room (omega arith) refl _ x c.requires.c_lt_t.1 c.requires.c_lt_t.2; by_index = factored_fine a.t a.c k a.y a.a (a.a + (a.c + 1) * a.t) (a.a + a.c * a.t) ends a.m.now b.room (omega arith) refl _ x c.requires.by_index }
+      };
+      m_value = factored_finite a.t a.c k a.y a.a (a.a + (a.c + 1) * a.t) (a.a + a.c * a.t) ends a.m.now b.room (omega arith) refl _ x c.requires.c_lt_t.1 c.requires.c_lt_t.2;
+      by_index = factored_fine a.t a.c k a.y a.a (a.a + (a.c + 1) * a.t) (a.a + a.c * a.t) ends a.m.now b.room (omega arith) refl _ x c.requires.by_index;
+    }
 
 pub returns : goal.returns
 returns c =

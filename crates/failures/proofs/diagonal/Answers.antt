@@ -1,6 +1,5 @@
 -- Element (x,x) stands in tile (x / t, x / t), row and column x % t. Assumes nothing.
 use native.Mathlib.Omega.{arith}
-use borrow.Author.Rules.{rules}
 use Rattle.failures.proofs.Laws.{diagonal_at, diagonal_is}
 use Rattle.failures.proofs.diagonal.Goals as goal
 

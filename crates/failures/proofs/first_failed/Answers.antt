@@ -1,18 +1,16 @@
 -- The first from p on is the first of all. Assumes nothing.
-use Prim.Native.Nat.{ℕ, ◌-◌}
-use mathlib.Core.Path.{◌≡◌, sym, ap, ◌∙◌}
+use Prim.Native.Nat.{ℕ}
+use mathlib.Core.Path.{sym, ap, ◌∙◌}
 use native.Mathlib.Omega.{arith}
-use borrow.Author.Rules.{rules}
 use borrow.Author.Tests.{eq-eqb, ne_eqb}
 use lib.Dec.{eqb}
-use lib.ListN.{length}
 use Rattle.model.specs.Lists.{below, keep, first_or}
 use Rattle.model.specs.Links.{mark, failed}
 use Rattle.model.specs.Loops.{failed_tasks}
 use Rattle.records.specs.Records.{marks_from}
 use Rattle.records.proofs.Laws.{length_marks}
 use Rattle.finite_numbers.specs.declared.Lowest.TheVariants.{None, At}
-use Rattle.unfinished.proofs.First.{first_from, first_begins, first_stops, first_goes_on, first_ends}
+use Rattle.unfinished.proofs.First.{first_begins, first_stops, first_goes_on, first_ends}
 use Rattle.failures.proofs.first_failed.Goals as goal
 
 pub loop-p-init : goal.loop-p-init

@@ -1,17 +1,13 @@
 -- The first from x on is the first of all. Assumes nothing.
 use Prim.Native.Nat.{◌-◌}
-use mathlib.Core.Path.{◌≡◌, sym, ap, ◌∙◌}
-use native.Mathlib.Omega.{arith}
-use borrow.Author.Rules.{rules}
-use lib.Ieee.{of_bits}
+use mathlib.Core.Path.{◌≡◌}
 use Rattle.model.specs.Lists.{first_or}
 use Rattle.model.specs.Num.{is_zero}
-use Rattle.model.specs.Plan.{plan, plan_of, order}
+use Rattle.model.specs.Plan.{plan_of}
 use Rattle.model.specs.Buffer.{element}
 use Rattle.model.specs.Loops.{zero_rows}
 use Rattle.finite_numbers.specs.declared.Lowest.TheVariants.{None, At}
-use Rattle.checks.proofs.Laws.{small}
-use Rattle.unfinished.proofs.First.{first_from, first_begins, first_stops, first_goes_on, first_ends}
+use Rattle.unfinished.proofs.First.{first_from}
 use Rattle.failures.proofs.first_zero_row.Given as goal
 
 abbrev pub invariant-loop-x : goal.invariant-loop-x

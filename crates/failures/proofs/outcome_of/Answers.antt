@@ -1,6 +1,5 @@
 -- The lowest failed task, else the lowest zero row, else neither. Assumes nothing.
 use native.Mathlib.Omega.{arith}
-use borrow.Author.Rules.{rules}
 use Rattle.records.proofs.Laws.{length_marks}
 use Rattle.task_counts.proofs.Laws.{few_tasks}
 use Rattle.checks.proofs.Laws.{small}
@@ -9,22 +8,22 @@ use Rattle.failures.proofs.outcome_of.Goals as goal
 
 pub overflow_cast-result : goal.overflow_cast-result
 overflow_cast-result c =
-    omega (arith, failed_below _ _ _ c.first_failed-task.ensures c.task-1.given.1, length_marks c.args.records.now, few_tasks _ c.requires.0.few_tiles)
+    omega (arith, failed_below _ _ _ c.first_failed-task.ensures c.in-At.is, length_marks c.args.records.now, few_tasks _ c.requires.0.few_tiles)
 
 pub returns-in-At : goal.returns-in-At
 returns-in-At c =
-    λ lists. outcome_failed c.args.z _ lists _ _ _ _ c.first_failed-task.ensures c.task-1.given.1
+    λ lists. outcome_failed c.args.z _ lists _ _ _ _ c.first_failed-task.ensures c.in-At.is
 
 pub overflow_cast-result-in-At-row : goal.overflow_cast-result-in-At-row
 overflow_cast-result-in-At-row c =
-    omega (arith, zero_below c.args.z _ _ _ c.first_zero_row-row.ensures c.row-1.given.1, small _ _ c.requires.0.few_tiles c.requires.0.small_side)
+    omega (arith, zero_below c.args.z _ _ _ c.first_zero_row-row.ensures c.in-At-row.is, small _ _ c.requires.0.few_tiles c.requires.0.small_side)
 
 pub returns-in-At-row : goal.returns-in-At-row
 returns-in-At-row c =
-    λ lists. outcome_zero c.args.z _ lists _ _ _ c.first_failed-task.ensures c.enum_told-1.given.1
-    _ _ c.first_zero_row-row.ensures c.row-1.given.1
+    λ lists. outcome_zero c.args.z _ lists _ _ _ c.first_failed-task.ensures c.in_default.is
+    _ _ c.first_zero_row-row.ensures c.in-At-row.is
 
 pub returns-in-None : goal.returns-in-None
 returns-in-None c =
-    λ lists. outcome_good c.args.z _ lists _ _ _ c.first_failed-task.ensures c.enum_told-1.given.1
-    _ c.first_zero_row-row.ensures c.enum_told-in-None-1.given.1
+    λ lists. outcome_good c.args.z _ lists _ _ _ c.first_failed-task.ensures c.in_default.is
+    _ c.first_zero_row-row.ensures c.in-None.is

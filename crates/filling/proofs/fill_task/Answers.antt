@@ -1,7 +1,6 @@
 -- Each kind fills what it writes. Assumes nothing.
 use mathlib.Core.Path.{◌∙◌}
 use native.Mathlib.Omega.{arith}
-use borrow.Author.Rules.{rules}
 use Rattle.filling.proofs.Laws.{filled_1, filled_2, filled_3, filled_4}
 use Rattle.filling.proofs.fill_task.Goals as goal
 
@@ -15,11 +14,11 @@ fill_list-requires c =
 
 pub shape_of-matrix-then-task-eq1 : goal.shape_of-matrix-then-task-eq1
 shape_of-matrix-then-task-eq1 c =
-    c.fill_tile.auto.1.0
+    c.fill_tile.auto.matrix
 
 pub shape_of-lists-then-task-eq1 : goal.shape_of-lists-then-task-eq1
 shape_of-lists-then-task-eq1 c =
-    c.fill_list.auto.1.0
+    c.fill_list.auto.lists
 
 pub returns-then-task-eq1 : goal.returns-then-task-eq1
 returns-then-task-eq1 c =
@@ -31,7 +30,7 @@ fill_tile-requires-then-task-eq2 c =
 
 pub shape_of-matrix-then-task-eq2 : goal.shape_of-matrix-then-task-eq2
 shape_of-matrix-then-task-eq2 c =
-    c.fill_tile-then-task-eq2.auto.1.0
+    c.fill_tile-then-task-eq2.auto.matrix
 
 pub returns-then-task-eq2 : goal.returns-then-task-eq2
 returns-then-task-eq2 c =
@@ -43,7 +42,7 @@ fill_tile-requires-then-task-eq3 c =
 
 pub fill_upper_part-requires : goal.fill_upper_part-requires
 fill_upper_part-requires c =
-    let p = c.requires in (p.0, c.fill_tile-then-task-eq3.auto.1.0 ∙ p.1, omega (arith, p.3))
+    let p = c.requires in (p.0, c.fill_tile-then-task-eq3.auto.matrix ∙ p.1, omega (arith, p.3))
 
 pub fill_list-requires-then-task-eq3 : goal.fill_list-requires-then-task-eq3
 fill_list-requires-then-task-eq3 c =
@@ -51,11 +50,11 @@ fill_list-requires-then-task-eq3 c =
 
 pub shape_of-matrix-then-task-eq3 : goal.shape_of-matrix-then-task-eq3
 shape_of-matrix-then-task-eq3 c =
-    c.fill_upper_part.auto.1.0 ∙ c.fill_tile-then-task-eq3.auto.1.0
+    c.fill_upper_part.auto.matrix ∙ c.fill_tile-then-task-eq3.auto.matrix
 
 pub shape_of-lists-then-task-eq3 : goal.shape_of-lists-then-task-eq3
 shape_of-lists-then-task-eq3 c =
-    c.fill_list-then-task-eq3.auto.1.0
+    c.fill_list-then-task-eq3.auto.lists
 
 pub returns-then-task-eq3 : goal.returns-then-task-eq3
 returns-then-task-eq3 c =
@@ -67,11 +66,11 @@ fill_tile-requires-2 c =
 
 pub fill_tile-requires-3 : goal.fill_tile-requires-3
 fill_tile-requires-3 c =
-    let p = c.requires in (p.0, c.fill_tile-2.auto.1.0 ∙ p.1, p.3.k_fits, p.3.j_fits)
+    let p = c.requires in (p.0, c.fill_tile-2.auto.matrix ∙ p.1, p.3.k_fits, p.3.j_fits)
 
 pub shape_of-matrix : goal.shape_of-matrix
 shape_of-matrix c =
-    c.fill_tile-3.auto.1.0 ∙ c.fill_tile-2.auto.1.0
+    c.fill_tile-3.auto.matrix ∙ c.fill_tile-2.auto.matrix
 
 pub returns : goal.returns
 returns c =

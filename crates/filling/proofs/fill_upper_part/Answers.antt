@@ -2,9 +2,7 @@
 use Prim.Native.Nat.{ℕ, ◌*◌}
 use mathlib.Core.Path.{◌∙◌, ap}
 use native.Mathlib.Omega.{arith}
-use borrow.Author.Rules.{rules}
 use Rattle.model.specs.Lists.{part, with_part}
-use Rattle.model.specs.Plan.{plan}
 use Rattle.model.specs.Buffer.{tile, put_tile}
 use Rattle.model.specs.Tile.{upper_filled}
 use Rattle.checks.proofs.Laws.{tile_fits}

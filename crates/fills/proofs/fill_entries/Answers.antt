@@ -1,8 +1,7 @@
 -- `fills::fill_entries` meets its contract: after i turns the first i places are filled. Assumes nothing.
 use mathlib.Core.Path.{refl}
-use Prim.Native.Nat.{◌≤◌, ◌-◌}
 use native.Mathlib.Omega.{arith}
-use Rattle.fills.proofs.Stores.{Stored, stored_none, stored_more, stored_fill}
+use Rattle.fills.proofs.Stores.{stored_none, stored_more, stored_fill}
 use Rattle.fills.proofs.fill_entries.Goals as goal
 
 pub loop-i-init : goal.loop-i-init

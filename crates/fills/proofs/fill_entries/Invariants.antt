@@ -1,8 +1,6 @@
 -- `fills::fill_entries` meets its contract: after i turns the first i places are filled. Assumes nothing.
-use mathlib.Core.Path.{refl}
 use Prim.Native.Nat.{◌≤◌, ◌-◌}
-use native.Mathlib.Omega.{arith}
-use Rattle.fills.proofs.Stores.{Stored, stored_none, stored_more, stored_fill}
+use Rattle.fills.proofs.Stores.{Stored}
 use Rattle.fills.proofs.fill_entries.Given as goal
 
 abbrev pub invariant-loop-i : goal.invariant-loop-i

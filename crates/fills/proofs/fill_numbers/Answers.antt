@@ -1,11 +1,9 @@
 -- `fills::fill_numbers` meets its contract: after i turns the first i places are filled. Assumes nothing.
 use mathlib.Core.Path.{refl}
-use Prim.Native.Nat.{◌≤◌, ◌-◌}
 use native.Mathlib.Omega.{arith}
 use lib.Ieee.{nan, of_bits}
-use Rattle.model.specs.Num.{plus_zero}
 use Rattle.model.specs.Tile.{zeros}
-use Rattle.fills.proofs.Stores.{Stored, stored_none, stored_more, stored_fill}
+use Rattle.fills.proofs.Stores.{stored_none, stored_more, stored_fill}
 use Rattle.fills.proofs.fill_numbers.Goals as goal
 
 pub loop-i-init : goal.loop-i-init

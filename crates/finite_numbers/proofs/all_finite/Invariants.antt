@@ -1,16 +1,9 @@
 -- The flag is the test of the numbers passed. Assumes nothing.
 use Prim.Native.Nat.{◌≤◌, ◌-◌}
-use mathlib.Core.Path.{◌≡◌, refl, ap, ◌∙◌}
-use native.Mathlib.Numerals.{add-one}
-use native.Mathlib.Omega.{arith}
-use lib.Ieee.{nan}
+use mathlib.Core.Path.{◌≡◌}
 use lib.ListN.{length, take}
-use lib.Seq.{take_all}
-use borrow.Author.Rules.{rules}
 use Rattle.model.specs.Lists.{every}
 use Rattle.model.specs.Num.{finite}
-use Rattle.model.specs.Tile.{all_finite}
-use Rattle.laws.proofs.Every.{every_more}
 use Rattle.finite_numbers.proofs.all_finite.Given as goal
 
 abbrev pub invariant-loop-k : goal.invariant-loop-k

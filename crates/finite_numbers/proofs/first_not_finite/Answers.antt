@@ -1,15 +1,8 @@
 -- What is left to search gives the whole search's answer. Assumes nothing.
-use Prim.Native.Nat.{◌≤◌, ◌-◌}
-use mathlib.Core.Bool.{not, cond}
-use mathlib.Core.Path.{◌≡◌, sym, ap, ◌∙◌}
+use mathlib.Core.Bool.{not}
+use mathlib.Core.Path.{sym, ap, ◌∙◌}
 use native.Mathlib.Omega.{arith}
-use lib.ListN.{length}
-use borrow.Author.Rules.{rules}
-use Rattle.model.specs.Refusal.{first_not_finite}
-use Rattle.model.specs.Tile.{all_finite}
-use Rattle.model.specs.Lists.{run}
-use Rattle.finite_numbers.specs.declared.Lowest.TheVariants.{None, At}
-use Rattle.finite_numbers.proofs.Laws.{is_broken, lowest, lowest_begins, lowest_stops, lowest_goes_on, lowest_ends}
+use Rattle.finite_numbers.proofs.Laws.{lowest_begins, lowest_stops, lowest_goes_on, lowest_ends}
 use Rattle.finite_numbers.proofs.first_not_finite.Goals as goal
 
 pub returns-then-all_finite : goal.returns-then-all_finite
@@ -22,11 +15,11 @@ loop-x-init c =
 
 pub returns-then-not-is_finite : goal.returns-then-not-is_finite
 returns-then-not-is_finite c =
-    lowest_stops _ _ _ _ c.loop-x-test.true c.loop-x.invariant.1 (ap not (sym c.is_finite.ensures) ∙ c.if-not-is_finite.true)
+    lowest_stops _ _ _ _ c.loop-x-test.true c.loop-x.invariant.1 (ap not (sym c.is_finite.ensures ∙ c.if-not-is_finite.true))
 
 pub loop-x-preserved : goal.loop-x-preserved
 loop-x-preserved c =
-    (omega arith, lowest_goes_on _ _ _ _ c.loop-x-test.true c.loop-x.invariant.1 (ap not (sym c.is_finite.ensures) ∙ c.if-not-is_finite.false))
+    (omega arith, lowest_goes_on _ _ _ _ c.loop-x-test.true c.loop-x.invariant.1 (ap not (sym c.is_finite.ensures ∙ c.if-not-is_finite.false)))
 
 pub returns : goal.returns
 returns c =

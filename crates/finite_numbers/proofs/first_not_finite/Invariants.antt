@@ -1,15 +1,13 @@
 -- What is left to search gives the whole search's answer. Assumes nothing.
 use Prim.Native.Nat.{◌≤◌, ◌-◌}
-use mathlib.Core.Bool.{not, cond}
-use mathlib.Core.Path.{◌≡◌, sym, ap, ◌∙◌}
-use native.Mathlib.Omega.{arith}
+use mathlib.Core.Bool.{cond}
+use mathlib.Core.Path.{◌≡◌}
 use lib.ListN.{length}
-use borrow.Author.Rules.{rules}
 use Rattle.model.specs.Refusal.{first_not_finite}
 use Rattle.model.specs.Tile.{all_finite}
 use Rattle.model.specs.Lists.{run}
 use Rattle.finite_numbers.specs.declared.Lowest.TheVariants.{None, At}
-use Rattle.finite_numbers.proofs.Laws.{is_broken, lowest, lowest_begins, lowest_stops, lowest_goes_on, lowest_ends}
+use Rattle.finite_numbers.proofs.Laws.{is_broken, lowest}
 use Rattle.finite_numbers.proofs.first_not_finite.Given as goal
 
 abbrev pub invariant-loop-x : goal.invariant-loop-x

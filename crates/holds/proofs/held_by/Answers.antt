@@ -1,24 +1,12 @@
 -- Those counted and those left are all, and so with their columns. Assumes nothing.
-use Prim.Native.Nat.{ℕ, ◌+◌, ◌-◌, ◌*◌, ◌≤◌}
-use mathlib.Core.Logic.{⊎_elim}
-use mathlib.Core.Path.{◌≡◌, sym, ◌∙◌}
-use mathlib.Core.List.{List, []}
+use mathlib.Core.Path.{sym, ◌∙◌}
 use native.Mathlib.Omega.{arith}
-use lib.ListN.{length, get_or}
-use Rattle.worker.specs.declared.Worker.{Worker}
-use Rattle.worker.specs.Holding.{idle}
 use Rattle.model.specs.Refusal.{holds, next_column}
-use Rattle.model.specs.Lists.{run, below, keep}
 use Rattle.records.specs.Records.{crew, lent}
 use Rattle.records.proofs.Laws.{keep_workers}
-use Rattle.checks.specs.Checks.{held}
-use Rattle.laws.proofs.Searches.{keep_begins, keep_counts, keep_passes, keep_ends, left, sum_begins, sum_adds, sum_passes, sum_ends}
+use Rattle.laws.proofs.Searches.{keep_begins, keep_counts, keep_passes, keep_ends, sum_begins, sum_adds, sum_passes, sum_ends}
 use Rattle.holds.proofs.held_by.Goals as goal
-
--- the columns that slots from v on add
-
-abbrev rest : List Worker → ℕ → ℕ → ℕ → ℕ
-rest workers p count v = left (λ (w : ℕ). get_or workers w idle) (holds p) (λ (h : Worker). h.column) count v
+use Rattle.holds.proofs.held_by.Goals.{then-h-p, else-h-p}
 
 pub loop-v-init : goal.loop-v-init
 unfolding next_column lent crew
@@ -62,16 +50,14 @@ unfolding holds
 loop-v-preserved c =
     let more = c.loop-v-test.true in
     let inv = c.loop-v.invariant in
-    ⊎_elim
-    (λ u. (omega arith, omega arith, omega arith, keep_counts _ _ _ _ _ _ more inv.3 u.0.taken u.2, sum_adds _ _ _ _ _ _ _ _ more inv.4 u.0.taken u.3))
-    (λ u. (omega arith, omega arith, omega arith, keep_passes _ _ _ _ _ _ more inv.3 u.0.left u.1, sum_passes _ _ _ _ _ _ _ _ more inv.4 u.0.left u.2))
-    c.if-h-p.branch
+    elim c.if-h-p.branch [
+      | then-h-p w ↦ (omega arith, omega arith, omega arith, keep_counts _ _ _ _ _ _ more inv.3 w.if-h-p.true w.n-is, sum_adds _ _ _ _ _ _ _ _ more inv.4 w.if-h-p.true w.column-is)
+      | else-h-p w ↦ (omega arith, omega arith, omega arith, keep_passes _ _ _ _ _ _ more inv.3 w.if-h-p.false w.n-is, sum_passes _ _ _ _ _ _ _ _ more inv.4 w.if-h-p.false w.column-is)
+    ]
 
 pub returns : goal.returns
-returns c =
-    (
+returns c = (
   keep_ends _ _ _ _ _ c.loop-v-test.false c.loop-v.invariant.3 ∙ sym (keep_workers _ _ (holds c.args.p)),
   sum_ends _ _ _ _ _ _ _ c.loop-v-test.false c.loop-v.invariant.4,
   omega arith,
-
 )

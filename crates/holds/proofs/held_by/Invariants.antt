@@ -1,19 +1,19 @@
 -- Those counted and those left are all, and so with their columns. Assumes nothing.
 use Prim.Native.Nat.{ℕ, ◌+◌, ◌-◌, ◌*◌, ◌≤◌}
-use mathlib.Core.Logic.{⊎_elim}
-use mathlib.Core.Path.{◌≡◌, sym, ◌∙◌}
+use mathlib.Core.Path.{◌≡◌}
 use mathlib.Core.List.{List, []}
-use native.Mathlib.Omega.{arith}
 use lib.ListN.{length, get_or}
 use Rattle.worker.specs.declared.Worker.{Worker}
 use Rattle.worker.specs.Holding.{idle}
 use Rattle.model.specs.Refusal.{holds, next_column}
 use Rattle.model.specs.Lists.{run, below, keep}
-use Rattle.records.specs.Records.{crew, lent}
-use Rattle.records.proofs.Laws.{keep_workers}
 use Rattle.checks.specs.Checks.{held}
-use Rattle.laws.proofs.Searches.{keep_begins, keep_counts, keep_passes, keep_ends, left, sum_begins, sum_adds, sum_passes, sum_ends}
+use Rattle.laws.proofs.Searches.{left}
 use Rattle.holds.proofs.held_by.Given as goal
+
+-- the columns that slots from v on add
+abbrev pub rest : List Worker → ℕ → ℕ → ℕ → ℕ
+rest workers p count v = left (λ (w : ℕ). get_or workers w idle) (holds p) (λ (h : Worker). h.column) count v
 
 abbrev pub invariant-loop-v : goal.invariant-loop-v
 invariant-loop-v l = (l.v ≤ l.count) × (l.n ≤ l.v) × (l.column ≤ l.v * 255)

@@ -3,7 +3,6 @@ use Prim.Native.Nat.{◌*◌, ◌≤◌}
 use native.Mathlib.Nat.{mul-le-mul_right}
 use native.Mathlib.Omega.{arith}
 use Rattle.holds.proofs.Laws.{allowed_held}
-use borrow.Author.Rules.{rules}
 use Rattle.holds.proofs.held_limits.Goals as goal
 
 pub overflow_mul-result : goal.overflow_mul-result

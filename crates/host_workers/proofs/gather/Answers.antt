@@ -9,13 +9,13 @@ use Rattle.host_workers.proofs.gather.Goals as goal
 pub loop-v-init : goal.loop-v-init
 loop-v-init c =
     record {
-  at_most = omega arith;
-  slots = refl;
-  busy_long = search rules;
-  task_long = search rules;
-  column_long = search rules;
-  alike = λ i j. absurd (omega (arith, j));
-}
+      at_most = omega arith;
+      slots = refl;
+      busy_long = search rules;
+      task_long = search rules;
+      column_long = search rules;
+      alike = λ i j. absurd (omega (arith, j));
+    }
 
 pub bounds-busy-v : goal.bounds-busy-v
 bounds-busy-v c =

@@ -6,8 +6,7 @@ use Rattle.host_workers.proofs.Laws.{scattered, byte_put, all_alike, all_left}
 use Rattle.host_workers.proofs.scatter.Goals as goal
 
 pub loop-v-init : goal.loop-v-init
-loop-v-init c =
-    (
+loop-v-init c = (
   record {
     at_most = omega arith;
     slots = length_slots c.args.workers _ c.well_formed.0.1.1.0.1.0.1;
@@ -17,7 +16,6 @@ loop-v-init c =
     alike = λ i j. absurd (omega (arith, j));
   },
   record { left = λ i j. absurd (omega (arith, j)) },
-
 )
 
 pub offset_bounds-slots-v : goal.offset_bounds-slots-v

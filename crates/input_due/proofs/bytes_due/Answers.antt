@@ -1,5 +1,4 @@
 -- `input_due::bytes_due` meets its contract. Assumes nothing.
-use borrow.Author.Rules.{rules}
 use mathlib.Core.Path.{sym, ap, ◌∙◌}
 use native.Mathlib.Omega.{arith}
 use Rattle.system_checked.proofs.Headers.{shape_read, refusal_read}

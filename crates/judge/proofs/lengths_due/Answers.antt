@@ -1,5 +1,4 @@
 -- `judge::lengths_due` meets its contract. Assumes nothing.
-use borrow.Author.Rules.{rules}
 use native.Mathlib.Nat.{mul-le-mul}
 use native.Mathlib.Omega.{arith}
 use Rattle.system_checked.proofs.Headers.{facts, shape_read}

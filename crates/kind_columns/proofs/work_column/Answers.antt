@@ -1,5 +1,4 @@
 -- Each kind has its column. Assumes nothing.
-use borrow.Author.Rules.{rules}
 use Rattle.call_laws.proofs.Named.{named_1, named_2, named_3, named_4}
 use Rattle.kind_columns.proofs.Laws.{workable_as, ends_as}
 use Rattle.kind_columns.proofs.work_column.Goals as goal

@@ -2,7 +2,7 @@
 use mathlib.Core.Path.{sym, ap, ◌∙◌}
 use native.Mathlib.Omega.{arith}
 use Rattle.std.proofs.Common.{◌-◌, ◌+◌}
-use Rattle.records.specs.Records.{records_from, blank}
+use Rattle.records.specs.Records.{records_from}
 use Rattle.task_records.specs.Copies.{copied}
 use Rattle.task_records.proofs.Laws.{copied_more, copied_none}
 use Rattle.loading.proofs.load.Goals as goal

@@ -1,25 +1,15 @@
 -- Nothing is passed over but the rest of a row whose first task hasn't finished. Assumes nothing.
 use native.Mathlib.Omega.{arith}
-use borrow.Author.Rules.{rules}
-use borrow.Author.Tests.{not-true}
 use Rattle.next_task.proofs.Passed.{none_passed, row_ends, row_passed}
 use Rattle.next_task.proofs.candidate_after.Goals as goal
 
--- where a row is passed over: the start, and after the read of record p
-
-abbrev start : tie.After-struct-known2 → tie.Start
-start c = c.before.before.before.before.before.before
-
-abbrev read : tie.After-struct-known2 → tie.After-record_at
-read c = c.before.before.before.before.before
-
 pub overflow_sub-result : goal.overflow_sub-result
 overflow_sub-result c =
-    omega (arith, row_ends _ _ _ (start c).requires _ (read c).record_at.ensures c.if-r-eq0.true)
+    omega (arith, row_ends _ _ _ c.requires _ c.record_at-r.ensures c.if-r-eq0.true)
 
 pub returns-then-not-is_finished : goal.returns-then-not-is_finished
 returns-then-not-is_finished c =
-    row_passed _ _ _ (start c).requires _ (read c).record_at.ensures
+    row_passed _ _ _ c.requires _ c.record_at-r.ensures
     c.if-r-eq0.true _ c.is_finished.ensures c.if-not-is_finished.true
 
 pub returns : goal.returns

@@ -1,12 +1,6 @@
 -- None of the tasks passed is ready. Assumes nothing.
-use Prim.Native.Nat.{ℕ, ◌≤◌, ◌<◌, ◌-◌}
-use mathlib.Core.Bool.{false}
-use mathlib.Core.Path.{◌≡◌, sym, ◌∙◌}
+use mathlib.Core.Path.{sym, ◌∙◌}
 use native.Mathlib.Omega.{arith}
-use lib.ListN.{length}
-use Rattle.model.specs.Task.{tasks}
-use Rattle.model.specs.Links.{ready}
-use Rattle.records.specs.Records.{marks_from}
 use Rattle.next_task.proofs.Passed.{passed_over}
 use Rattle.next_task.proofs.lowest_ready.Goals as goal
 
@@ -20,16 +14,11 @@ is_ready-requires c =
 
 pub returns-then-is_ready : goal.returns-then-is_ready
 returns-then-is_ready c =
-    record {
-  none = c.loop-p.invariant.1;
-  within = c.loop-p.invariant.0;
-  found = λ l. sym c.is_ready.ensures ∙ c.if-is_ready.true;
-
-}
+    record { none = c.loop-p.invariant.1; within = c.loop-p.invariant.0; found = λ l. sym c.is_ready.ensures ∙ c.if-is_ready.true }
 
 pub candidate_after-p-requires : goal.candidate_after-p-requires
 candidate_after-p-requires c =
-    is_ready-requires c κs
+    c.requires.recorded c.loop-p.p (omega arith)
 
 pub loop-p-smaller : goal.loop-p-smaller
 loop-p-smaller c =

@@ -1,13 +1,11 @@
 -- None of the tasks passed is ready. Assumes nothing.
 use Prim.Native.Nat.{ℕ, ◌≤◌, ◌<◌, ◌-◌}
 use mathlib.Core.Bool.{false}
-use mathlib.Core.Path.{◌≡◌, sym, ◌∙◌}
-use native.Mathlib.Omega.{arith}
+use mathlib.Core.Path.{◌≡◌}
 use lib.ListN.{length}
 use Rattle.model.specs.Task.{tasks}
 use Rattle.model.specs.Links.{ready}
 use Rattle.records.specs.Records.{marks_from}
-use Rattle.next_task.proofs.Passed.{passed_over}
 use Rattle.next_task.proofs.lowest_ready.Given as goal
 
 abbrev pub invariant-loop-p : goal.invariant-loop-p

@@ -1,6 +1,5 @@
 -- By cases on the code's tests. Assumes nothing.
 use native.Mathlib.Omega.{arith}
-use borrow.Author.Rules.{rules}
 use Rattle.next_task.proofs.Laws.{begins_kept, begins_after, begins_before}
 use Rattle.next_task.proofs.search_start.Goals as goal
 

@@ -1,5 +1,4 @@
 -- What the record's store and the worker's take ensure. Assumes nothing.
-use borrow.Author.Rules.{rules}
 use Rattle.next_task.proofs.take_task.Goals as goal
 
 pub returns : goal.returns

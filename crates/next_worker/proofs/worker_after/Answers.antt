@@ -1,6 +1,5 @@
 -- Below the last worker the remainder is the number itself, and after the last it is 0. Assumes nothing.
 use native.Mathlib.Omega.{arith}
-use borrow.Author.Rules.{rules}
 use Rattle.next_worker.proofs.Rounds.{after_inside, after_last}
 use Rattle.next_worker.proofs.worker_after.Goals as goal
 

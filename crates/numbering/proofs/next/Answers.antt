@@ -1,6 +1,5 @@
 -- The next triple of the row, of the next row or of the next stage has the next number. Assumes nothing.
 use native.Mathlib.Omega.{arith}
-use borrow.Author.Rules.{rules}
 use Rattle.numbering.proofs.Laws.{next_column_lem, next_row, next_stage, next_inside}
 use Rattle.numbering.proofs.next.Goals as goal
 

@@ -12,7 +12,7 @@ unfolding of_bits is_zero
 returns-then-y c =
     let x = c.args.x in
     let chosen : c.if-x.y ≡ raised x = elim c.if-x.branch [
-      then-x w ↦ w.y-is ∙ sym (ap (λ (b : Bool). cond b (neg x) x) w.if-x.true)
+      | then-x w ↦ w.y-is ∙ sym (ap (λ (b : Bool). cond b (neg x) x) w.if-x.true)
       | else-x w ↦ w.y-is ∙ sym (ap (λ (b : Bool). cond b (neg x) x) w.if-x.false)
     ] in
     let tested : cond (is_zero c.if-x.y) plus_zero c.if-x.y ≡ magnitude x = ap (λ (y : Float). cond (is_zero y) plus_zero y) chosen ∙ magnitude_tested x c.well_formed.0.1 in
@@ -23,7 +23,7 @@ unfolding of_bits is_zero
 returns-else-y c =
     let x = c.args.x in
     let chosen : c.if-x.y ≡ raised x = elim c.if-x.branch [
-      then-x w ↦ w.y-is ∙ sym (ap (λ (b : Bool). cond b (neg x) x) w.if-x.true)
+      | then-x w ↦ w.y-is ∙ sym (ap (λ (b : Bool). cond b (neg x) x) w.if-x.true)
       | else-x w ↦ w.y-is ∙ sym (ap (λ (b : Bool). cond b (neg x) x) w.if-x.false)
     ] in
     let tested : cond (is_zero c.if-x.y) plus_zero c.if-x.y ≡ magnitude x = ap (λ (y : Float). cond (is_zero y) plus_zero y) chosen ∙ magnitude_tested x c.well_formed.0.1 in

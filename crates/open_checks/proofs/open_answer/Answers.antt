@@ -1,6 +1,5 @@
 -- The answer is the first refusal that holds. Assumes nothing.
 use mathlib.Core.Path.{sym, ◌∙◌}
-use borrow.Author.Rules.{rules}
 use Rattle.checks.proofs.Laws.{sized}
 use Rattle.open_checks.proofs.Laws.{answer_1, answer_2, answer_3, answer_4}
 use Rattle.open_checks.proofs.open_answer.Goals as goal

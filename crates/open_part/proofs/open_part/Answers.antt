@@ -1,16 +1,10 @@
 -- The part of the records goes on, and comes back in its place. Assumes nothing.
-use mathlib.Core.Path.{◌≡◌, sym, ◌∙◌}
-use lib.ListN.{length, take, drop}
+use mathlib.Core.Path.{◌≡◌, ◌∙◌}
+use lib.ListN.{length, drop}
 use lib.Seq.{length-take-le, take_at}
-use borrow.Author.Rules.{rules}
 use Rattle.open_part.proofs.open_part.Goals as goal
-
-pub slice_bounds-open-end-2 : goal.slice_bounds-open-end-2
-slice_bounds-open-end-2 c =
-    sym (length-take-le _ c.args.records.now (search rules))
 
 pub returns : goal.returns
 returns c =
-    let same : length c.open.new.1.1.1.0 ≡ length (take c.args.n c.args.records.now) = c.records-1.given.0 in
-    let long : length c.open.new.1.1.1.0 ≡ c.args.n = same ∙ length-take-le c.args.n c.args.records.now c.requires in
-    (rw (take_at c.open.new.1.1.1.0 (drop c.args.n c.args.records.now) c.args.n long) c.open.ensures.workers_after, c.open.ensures.others_kept)
+    let long : length c.open.new.records ≡ c.args.n = c.open.auto.records ∙ length-take-le c.args.n c.args.records.now c.requires in
+    (rw (take_at c.open.new.records (drop c.args.n c.args.records.now) c.args.n long) c.open.ensures.workers_after, c.open.ensures.others_kept)

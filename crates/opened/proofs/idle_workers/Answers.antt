@@ -1,9 +1,8 @@
 -- After v turns the first v workers are idle, and those from `count` on are as they were. Assumes nothing.
-use Prim.Native.Nat.{ℕ, ◌≤◌, ◌-◌}
+use Prim.Native.Nat.{ℕ}
 use mathlib.Core.Path.{◌≡◌, refl, ◌∙◌, subst}
 use native.Mathlib.Omega.{arith}
-use borrow.Author.Rules.{rules}
-use lib.ListN.{length, take, drop, replicate, length-set}
+use lib.ListN.{take, replicate, length-set}
 use lib.Seq.{drop-set-lt}
 use Rattle.worker.specs.Holding.{idle}
 use Rattle.records.proofs.Laws.{first_slots, length_slots}

@@ -1,13 +1,8 @@
 -- After v turns the first v workers are idle, and those from `count` on are as they were. Assumes nothing.
-use Prim.Native.Nat.{ℕ, ◌≤◌, ◌-◌}
-use mathlib.Core.Path.{◌≡◌, refl, ◌∙◌, subst}
-use native.Mathlib.Omega.{arith}
-use borrow.Author.Rules.{rules}
-use lib.ListN.{length, take, drop, replicate, length-set}
-use lib.Seq.{drop-set-lt}
+use Prim.Native.Nat.{◌≤◌, ◌-◌}
+use mathlib.Core.Path.{◌≡◌}
+use lib.ListN.{length, take, drop, replicate}
 use Rattle.worker.specs.Holding.{idle}
-use Rattle.records.proofs.Laws.{first_slots, length_slots}
-use Rattle.opened.proofs.Laws.{idle_more}
 use Rattle.opened.proofs.idle_workers.Given as goal
 
 abbrev pub invariant-loop-v : goal.invariant-loop-v

@@ -1,13 +1,9 @@
 -- After p turns the first p records are the numbering's, and the triple in hand is task p's. Assumes nothing.
-use Prim.Native.Nat.{ℕ, ◌+◌, ◌-◌, ◌≤◌, ◌<◌}
-use mathlib.Core.Path.{◌≡◌, refl, ap, ◌∙◌}
+use Prim.Native.Nat.{ℕ, ◌+◌}
+use mathlib.Core.Path.{refl, ap, ◌∙◌}
 use native.Mathlib.Omega.{arith}
-use borrow.Author.Rules.{rules}
-use lib.ListN.{length}
-use Rattle.records.specs.Records.{records_from}
 use Rattle.records.proofs.Laws.{length_records}
-use Rattle.links.specs.Closed.{key, In, number}
-use Rattle.opened.proofs.Laws.{Numbered, number_first, in_first, numbered_step, numbered_all}
+use Rattle.opened.proofs.Laws.{number_first, in_first, numbered_step, numbered_all}
 use Rattle.opened.proofs.number_records.Goals as goal
 
 pub overflow_cast-n : goal.overflow_cast-n
@@ -15,14 +11,12 @@ overflow_cast-n c =
     omega arith
 
 pub loop-p-init : goal.loop-p-init
-loop-p-init c =
-    (
+loop-p-init c = (
   omega arith,
   refl,
   number_first _ c.first-a.result c.first-a.ensures,
   (λ h. in_first _ c.first-a.result c.first-a.ensures (omega arith)),
   λ q h. absurd (omega arith),
-
 )
 
 pub put_record-requires : goal.put_record-requires

@@ -1,13 +1,10 @@
 -- After p turns the first p records are the numbering's, and the triple in hand is task p's. Assumes nothing.
-use Prim.Native.Nat.{ℕ, ◌+◌, ◌-◌, ◌≤◌, ◌<◌}
-use mathlib.Core.Path.{◌≡◌, refl, ap, ◌∙◌}
-use native.Mathlib.Omega.{arith}
-use borrow.Author.Rules.{rules}
+use Prim.Native.Nat.{◌-◌, ◌≤◌, ◌<◌}
+use mathlib.Core.Path.{◌≡◌}
 use lib.ListN.{length}
 use Rattle.records.specs.Records.{records_from}
-use Rattle.records.proofs.Laws.{length_records}
 use Rattle.links.specs.Closed.{key, In, number}
-use Rattle.opened.proofs.Laws.{Numbered, number_first, in_first, numbered_step, numbered_all}
+use Rattle.opened.proofs.Laws.{Numbered}
 use Rattle.opened.proofs.number_records.Given as goal
 
 abbrev pub invariant-loop-p : goal.invariant-loop-p

@@ -1,7 +1,5 @@
 -- A refusal leaves everything; else each part is as the definition has it. Assumes nothing.
 use mathlib.Core.Path.{refl}
-use borrow.Author.Rules.{rules}
-use borrow.Author.Tests.{not-true, not-false}
 use native.Mathlib.Omega.{arith}
 use Rattle.opening.proofs.Laws.{checked_then, refused, accepted}
 use Rattle.opening.proofs.open.Goals as goal
@@ -24,6 +22,9 @@ idle_workers-left-requires c =
 
 pub returns : goal.returns
 returns c =
-    record { workers_after = accepted _ _ _ _ c.args.workers.slots c.args.workers.count c.args.workers.number _ (c.open_answer-answer.ensures c.args.workers.slots c.args.workers.number)
+    record {
+      workers_after = accepted _ _ _ _ c.args.workers.slots c.args.workers.count c.args.workers.number _ (c.open_answer-answer.ensures c.args.workers.slots c.args.workers.number)
           _ c.accepted.ensures c.if-not-accepted.false
-          _ _ _ _ _ _ refl c.fill_entries.ensures c.number_records.ensures c.idle_workers-left.ensures.count_value.0 c.idle_workers-left.ensures.count_value.1; others_kept = c.idle_workers-left.ensures.others_kept }
+          _ _ _ _ _ _ refl c.fill_entries.ensures c.number_records.ensures c.idle_workers-left.ensures.count_value.0 c.idle_workers-left.ensures.count_value.1;
+      others_kept = c.idle_workers-left.ensures.others_kept;
+    }

@@ -1,6 +1,5 @@
 -- The first refusal that holds, else what was found. Assumes nothing.
 use mathlib.Core.Path.{sym, ◌∙◌}
-use borrow.Author.Rules.{rules}
 use Rattle.checks.proofs.Laws.{sized}
 use Rattle.outcomes.proofs.Laws.{answer_1, answer_2, answer_3, answer_4, fits}
 use Rattle.outcomes.proofs.outcome.Goals as goal
@@ -27,10 +26,10 @@ pub returns-in-At : goal.returns-in-At
 returns-in-At c =
     answer_3 _ _ _ _ _ _ _ _ c.bad_sizes.ensures c.if-bad_sizes.false
     _ (c.bad_lengths.ensures c.args.workers.slots c.args.workers.number) c.if-bad_lengths.false
-    _ c.first_unfinished-task.ensures _ c.task-1.given.1
+    _ c.first_unfinished-task.ensures _ c.in-At.is
 
 pub returns-in-None : goal.returns-in-None
 returns-in-None c =
     answer_4 _ _ _ _ _ _ _ _ c.bad_sizes.ensures c.if-bad_sizes.false
     _ (c.bad_lengths.ensures c.args.workers.slots c.args.workers.number) c.if-bad_lengths.false
-    _ c.first_unfinished-task.ensures _ c.enum_told-1.given.1 (c.outcome_of.ensures _)
+    _ c.first_unfinished-task.ensures _ c.in-None.is (c.outcome_of.ensures _)

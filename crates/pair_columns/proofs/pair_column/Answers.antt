@@ -1,5 +1,4 @@
 -- `pair_column` meets its contract: the two ways by whether every number computed is finite. Assumes nothing.
-use borrow.Author.Rules.{rules}
 use mathlib.Core.Path.{◌∙◌, ap}
 use Prim.Native.Nat.{◌+◌}
 use native.Mathlib.Omega.{arith}
@@ -24,15 +23,18 @@ pub pair_rows-requires : goal.pair_rows-requires
 pair_rows-requires c =
     let r = pair_ready c.requires in
     rw (c.tile_start-u.ensures, c.tile_start-d.ensures, c.tile_start-f.ensures, c.wide-e.ensures, c.list_start-p.ensures) (
-      record {
+    record {
+      two_blocks = record {
         rows_most = r.side_most;
         width_most = r.side_most;
         few = r.few;
         upper_room = r.upper_room;
         lower_room = r.lower_room;
         apart = r.apart;
-      },
-      ((r.column, r.entry, r.mult_below, r.mult_left), (r.upper_finite, r.lower_finite)),
+      };
+      c_lt_t = (r.column, r.entry, r.mult_below, r.mult_left);
+      m_value = (r.upper_finite, r.lower_finite);
+    }
     )
 
 pub returns-then-pair_rows : goal.returns-then-pair_rows
@@ -49,7 +51,7 @@ fill_numbers-requires c =
 
 pub fill_numbers-requires-2 : goal.fill_numbers-requires-2
 fill_numbers-requires-2 c =
-    omega (arith, (pair_ready c.requires).upper_room, c.tile_start-u.ensures, c.pair_rows.auto.m, c.fill_numbers.auto.0)
+    omega (arith, (pair_ready c.requires).upper_room, c.tile_start-u.ensures, c.pair_rows.auto.m, c.fill_numbers.auto.m)
 
 pub returns : goal.returns
 returns c =

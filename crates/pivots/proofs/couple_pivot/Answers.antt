@@ -26,8 +26,11 @@ pub search_pivot-requires : goal.search_pivot-requires
 search_pivot-requires c =
     let room_here : c.args.c * c.args.t + c.args.t ≤ c.args.t * c.args.t = let a = c.args in row_end a.c a.t a.t c.requires.c_lt_t.0 in let a = c.args in
     let b = c.requires.two_blocks in
-    let f = c.requires.c_lt_t in record { first_in_bounds = omega (arith, b, f.0, room_here); count_value = ap all_finite (couple_candidates_lem a.t a.c a.u a.d f.0 a.m.now b.upper_room b.lower_room _ _ refl refl)
-          ∙ couple_finite a.t a.c a.u a.d f.0 a.m.now b.upper_room b.lower_room f.1 f.2 }
+    let f = c.requires.c_lt_t in record {
+      first_in_bounds = omega (arith, b, f.0, room_here);
+      count_value = ap all_finite (couple_candidates_lem a.t a.c a.u a.d f.0 a.m.now b.upper_room b.lower_room _ _ refl refl)
+          ∙ couple_finite a.t a.c a.u a.d f.0 a.m.now b.upper_room b.lower_room f.1 f.2;
+    }
 
 pub returns : goal.returns
 returns c =

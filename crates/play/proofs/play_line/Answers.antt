@@ -2,7 +2,6 @@
 use mathlib.Core.Path.{sym}
 use native.Mathlib.Omega.{arith}
 use lib.Seq.{length-take-le}
-use borrow.Author.Rules.{rules}
 use Rattle.play.proofs.play_line.Goals as goal
 
 pub slice_bounds-answer_line-end-2 : goal.slice_bounds-answer_line-end-2

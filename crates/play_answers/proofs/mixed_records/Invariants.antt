@@ -1,6 +1,5 @@
 -- `play_answers::mixed_records` meets its contract. Assumes nothing.
 use Prim.Native.Nat.{◌≤◌, ◌-◌}
-use borrow.Author.Rules.{rules}
 use lib.ListN.{length}
 use Rattle.play_answers.proofs.mixed_records.Given as goal
 

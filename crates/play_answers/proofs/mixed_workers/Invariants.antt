@@ -1,6 +1,5 @@
 -- `play_answers::mixed_workers` meets its contract. Assumes nothing.
 use Prim.Native.Nat.{◌≤◌, ◌-◌}
-use borrow.Author.Rules.{rules}
 use Rattle.play_answers.proofs.mixed_workers.Given as goal
 
 abbrev pub invariant-loop-k : goal.invariant-loop-k

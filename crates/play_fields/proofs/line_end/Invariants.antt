@@ -1,6 +1,5 @@
 -- `play_fields::line_end` meets its contract. Assumes nothing.
 use Prim.Native.Nat.{◌≤◌, ◌-◌}
-use borrow.Author.Rules.{rules}
 use lib.ListN.{length}
 use Rattle.play_fields.proofs.line_end.Given as goal
 

@@ -1,8 +1,6 @@
 -- `play_fields::read_numbers` meets its contract. Assumes nothing.
-use Prim.Native.Nat.{◌≤◌, ◌-◌}
-use mathlib.Core.Path.{◌≡◌}
 use borrow.Author.Rules.{rules}
-use lib.ListN.{length, length-set}
+use lib.ListN.{length-set}
 use Rattle.play_fields.proofs.read_numbers.Goals as goal
 
 pub loop-k-preserved : goal.loop-k-preserved

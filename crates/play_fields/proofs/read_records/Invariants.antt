@@ -1,7 +1,6 @@
 -- `play_fields::read_records` meets its contract. Assumes nothing.
 use Prim.Native.Nat.{◌≤◌, ◌-◌}
 use mathlib.Core.Path.{◌≡◌}
-use borrow.Author.Rules.{rules}
 use lib.ListN.{length}
 use Rattle.play_fields.proofs.read_records.Given as goal
 

@@ -1,6 +1,5 @@
 -- `play_fields::read_workers` meets its contract. Assumes nothing.
 use Prim.Native.Nat.{◌≤◌, ◌-◌}
-use borrow.Author.Rules.{rules}
 use Rattle.play_fields.proofs.read_workers.Given as goal
 
 abbrev pub invariant-loop-k : goal.invariant-loop-k

@@ -1,12 +1,11 @@
 -- `printing::print_result` meets its contract. Assumes nothing.
-use borrow.Author.Rules.{rules}
 use mathlib.Core.Path.{sym, ◌∙◌}
 use Rattle.printing.proofs.Refused.{no_result, refusal_printed, refusal_short}
 use Rattle.printing.proofs.print_result.Goals as goal
 
 pub print_system-requires : goal.print_system-requires
 print_system-requires c =
-    sym c.tiles-1.given.1 ∙ c.check_system.ensures
+    sym c.in-SystemRead.is ∙ c.check_system.ensures
 
 pub returns-in-ReadRefused : goal.returns-in-ReadRefused
 returns-in-ReadRefused c =

@@ -27,13 +27,14 @@ returns c =
     let f = c.is_finished.ensures in
     let d = c.if-is_finished in
     let who : d.worker ≡ cond (finished a.mark) a.w r.worker = elim d.branch [
-      then-is_finished w ↦ w.worker-is ∙ sym (ap (λ (b : Bool). cond b a.w r.worker) (sym f ∙ w.if-is_finished.true))
+      | then-is_finished w ↦ w.worker-is ∙ sym (ap (λ (b : Bool). cond b a.w r.worker) (sym f ∙ w.if-is_finished.true))
       | else-is_finished w ↦ w.worker-is ∙ sym (ap (λ (b : Bool). cond b a.w r.worker) (sym f ∙ w.if-is_finished.false))
     ] in
     let when : d.ended ≡ cond (finished a.mark) a.number r.ended = elim d.branch [
-      then-is_finished w ↦ w.ended-is ∙ sym (ap (λ (b : Bool). cond b a.number r.ended) (sym f ∙ w.if-is_finished.true))
+      | then-is_finished w ↦ w.ended-is ∙ sym (ap (λ (b : Bool). cond b a.number r.ended) (sym f ∙ w.if-is_finished.true))
       | else-is_finished w ↦ w.ended-is ∙ sym (ap (λ (b : Bool). cond b a.number r.ended) (sym f ∙ w.if-is_finished.false))
-    ] in record { records_after = c.put_record.ensures.records_after
+    ] in record {
+      records_after = c.put_record.ensures.records_after
           ∙ (λ x. set (records_from a.records.now) a.p (record {
             kind = r.kind;
             k = r.k;
@@ -46,4 +47,6 @@ returns c =
             ended = when x;
           }))
           ∙ ap (λ (r : TaskRecord). set (records_from a.records.now) a.p (with_column a.w a.number a.mark a.ties r)) c.record_at-task.ensures
-          ∙ changed_is (with_column a.w a.number a.mark a.ties) (records_from a.records.now) a.p; records_len_unchanged = c.put_record.ensures.records_len_unchanged }
+          ∙ changed_is (with_column a.w a.number a.mark a.ties) (records_from a.records.now) a.p;
+      records_len_unchanged = c.put_record.ensures.records_len_unchanged;
+    }

@@ -9,7 +9,8 @@ pub returns : goal.returns
 unfolding record_from
 returns c =
     let a = c.args in
-    let r = a.task in record { records_after = set_record _ _ _
+    let r = a.task in record {
+      records_after = set_record _ _ _
           ∙ (λ x. set (records_from a.records.now) a.p (record {
             kind = r.kind;
             k = r.k;
@@ -20,4 +21,6 @@ returns c =
             ties = two_bytes_lem r.ties x;
             took = c.bytes_of-t.ensures x;
             ended = c.bytes_of-e.ensures x;
-          })); records_len_unchanged = simp length-set }
+          }));
+      records_len_unchanged = simp length-set;
+    }

@@ -10,6 +10,9 @@ use Rattle.record_changes.proofs.take_record.Goals as goal
 pub returns : goal.returns
 unfolding with_take
 returns c =
-    let a = c.args in record { records_after = c.put_record.ensures.records_after
+    let a = c.args in record {
+      records_after = c.put_record.ensures.records_after
           ∙ ap (λ (r : TaskRecord). set (records_from a.records.now) a.p (with_take a.number r)) c.record_at-task.ensures
-          ∙ changed_is (with_take a.number) (records_from a.records.now) a.p; records_len_unchanged = c.put_record.ensures.records_len_unchanged }
+          ∙ changed_is (with_take a.number) (records_from a.records.now) a.p;
+      records_len_unchanged = c.put_record.ensures.records_len_unchanged;
+    }

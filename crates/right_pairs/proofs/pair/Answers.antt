@@ -1,15 +1,9 @@
 -- All columns of T-4(k,i): what is left from column c on is the whole. Assumes nothing.
-use mathlib.Core.Path.{◌≡◌, refl, ◌∙◌}
-use mathlib.Core.Bool.{true}
-use Prim.Native.Nat.{ℕ, ◌-◌, ◌≤◌}
+use mathlib.Core.Path.{refl, ◌∙◌}
 use native.Mathlib.Omega.{arith}
-use lib.ListN.{length}
-use borrow.Author.Tests.{not-true, not-false}
-use Rattle.model.specs.Tile.{all_finite}
-use Rattle.model.specs.Plan.{plan, plan_of}
-use Rattle.model.specs.Solve.{going, paired}
+use Rattle.model.specs.Plan.{plan}
 use Rattle.progress.specs.Right.{passed_of, pair_all}
-use Rattle.progress.proofs.Turns.{Left, left_begins, left_goes, left_stops, left_ends, paired_keeps}
+use Rattle.progress.proofs.Turns.{left_begins, left_goes, left_stops, left_ends, paired_keeps}
 use Rattle.right_pairs.proofs.pair.Goals as goal
 
 pub loop-c-init : goal.loop-c-init
@@ -20,12 +14,11 @@ loop-c-init c =
 pub pair_right_column-requires : goal.pair_right_column-requires
 pair_right_column-requires c =
     let i = c.loop-c.invariant in
-    let p = (c.requires.solvable, (c.requires.right_side, c.requires.k_lt_i)) in
-    record { solvable = p.0; right_side = record { long = i.1 ∙ p.1.0.long; all_finite_lem = i.2 }; k_lt_i = (p.1.1.0, p.1.1.1, c.loop-c-test.true) }
+    record { solvable = c.requires.solvable; right_side = record { long = i.1 ∙ c.requires.right_side.long; all_finite_lem = i.2 }; k_lt_i = (c.requires.k_lt_i.0, c.requires.k_lt_i.1, c.loop-c-test.true) }
 
 pub shape_of-y-then-not-pair_right_column : goal.shape_of-y-then-not-pair_right_column
 shape_of-y-then-not-pair_right_column c =
-    c.pair_right_column.auto.1.1.1.0 ∙ c.loop-c.invariant.1
+    c.pair_right_column.auto.y ∙ c.loop-c.invariant.1
 
 pub returns-then-not-pair_right_column : goal.returns-then-not-pair_right_column
 unfolding passed_of
@@ -33,7 +26,7 @@ returns-then-not-pair_right_column c =
     let i = c.loop-c.invariant in
     record {
       is = left_stops _ (paired_keeps _ _ _ _) _ _ _ _ _ i.3 c.loop-c-test.true (c.pair_right_column.ensures.stops c.if-not-pair_right_column.true);
-      finite_then = λ q. let x : ◌≡◌ {A = ℕ} 0 1 = cc in absurd (omega arith);
+      finite_then = λ q. cc;
     }
 
 pub overflow_add-c : goal.overflow_add-c
@@ -49,7 +42,7 @@ loop-c-preserved c =
     let i = c.loop-c.invariant in
     let e = c.pair_right_column.ensures in
     let on = c.if-not-pair_right_column.false in
-    (omega arith, c.pair_right_column.auto.1.1.1.0 ∙ i.1, e.finite_then on, left_goes _ (paired_keeps _ _ _ _) _ _ _ _ _ i.3 c.loop-c-test.true (e.goes on))
+    (omega arith, c.pair_right_column.auto.y ∙ i.1, e.finite_then on, left_goes _ (paired_keeps _ _ _ _) _ _ _ _ _ i.3 c.loop-c-test.true (e.goes on))
 
 pub shape_of-y : goal.shape_of-y
 shape_of-y c =

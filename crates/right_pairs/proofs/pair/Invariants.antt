@@ -1,21 +1,19 @@
 -- All columns of T-4(k,i): what is left from column c on is the whole. Assumes nothing.
-use mathlib.Core.Path.{◌≡◌, refl, ◌∙◌}
+use mathlib.Core.Path.{◌≡◌}
 use mathlib.Core.Bool.{true}
-use Prim.Native.Nat.{ℕ, ◌-◌, ◌≤◌}
-use native.Mathlib.Omega.{arith}
+use Prim.Native.Nat.{◌-◌, ◌≤◌}
 use lib.ListN.{length}
-use borrow.Author.Tests.{not-true, not-false}
 use Rattle.model.specs.Tile.{all_finite}
-use Rattle.model.specs.Plan.{plan, plan_of}
+use Rattle.model.specs.Plan.{plan_of}
 use Rattle.model.specs.Solve.{going, paired}
-use Rattle.progress.specs.Right.{passed_of, pair_all}
-use Rattle.progress.proofs.Turns.{Left, left_begins, left_goes, left_stops, left_ends, paired_keeps}
+use Rattle.progress.specs.Right.{pair_all}
+use Rattle.progress.proofs.Turns.{Left, paired_keeps}
 use Rattle.right_pairs.proofs.pair.Given as goal
 
 abbrev pub invariant-loop-c : goal.invariant-loop-c
 invariant-loop-c l = (l.c ≤ l.t) × (length l.y ≡ length l.initial.y) × (all_finite l.y ≡ true)
-    × Left (paired (plan_of l.z) (record { l.matrix = l.matrix; l.lists = l.lists }) l.k l.i) (paired_keeps (plan_of l.z) (record { l.matrix = l.matrix; l.lists = l.lists }) l.k l.i) l.t l.c
-    (pair_all (plan_of l.z) (record { l.matrix = l.matrix; l.lists = l.lists }) l.k l.i (going l.initial.y)) l.c l.y
+    × Left (paired (plan_of l.z) (record { matrix = l.matrix; lists = l.lists }) l.k l.i) (paired_keeps (plan_of l.z) (record { matrix = l.matrix; lists = l.lists }) l.k l.i) l.t l.c
+    (pair_all (plan_of l.z) (record { matrix = l.matrix; lists = l.lists }) l.k l.i (going l.initial.y)) l.c l.y
 
 abbrev pub decreases-loop-c : goal.decreases-loop-c
 decreases-loop-c l = l.t - l.c

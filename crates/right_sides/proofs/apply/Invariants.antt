@@ -1,21 +1,19 @@
 -- All columns of T-2(k): what is left from column c on is the whole. Assumes nothing.
-use mathlib.Core.Path.{◌≡◌, refl, ◌∙◌}
+use mathlib.Core.Path.{◌≡◌}
 use mathlib.Core.Bool.{true}
-use Prim.Native.Nat.{ℕ, ◌-◌, ◌≤◌}
-use native.Mathlib.Omega.{arith}
+use Prim.Native.Nat.{◌-◌, ◌≤◌}
 use lib.ListN.{length}
-use borrow.Author.Tests.{not-true, not-false}
 use Rattle.model.specs.Tile.{all_finite}
-use Rattle.model.specs.Plan.{plan, plan_of}
+use Rattle.model.specs.Plan.{plan_of}
 use Rattle.model.specs.Solve.{going, applied}
-use Rattle.progress.specs.Right.{passed_of, apply_all}
-use Rattle.progress.proofs.Turns.{Left, left_begins, left_goes, left_stops, left_ends, applied_keeps}
+use Rattle.progress.specs.Right.{apply_all}
+use Rattle.progress.proofs.Turns.{Left, applied_keeps}
 use Rattle.right_sides.proofs.apply.Given as goal
 
 abbrev pub invariant-loop-c : goal.invariant-loop-c
 invariant-loop-c l = (l.c ≤ l.t) × (length l.y ≡ length l.initial.y) × (all_finite l.y ≡ true)
-    × Left (applied (plan_of l.z) (record { l.matrix = l.matrix; l.lists = l.lists }) l.k) (applied_keeps (plan_of l.z) (record { l.matrix = l.matrix; l.lists = l.lists }) l.k) l.t l.c
-    (apply_all (plan_of l.z) (record { l.matrix = l.matrix; l.lists = l.lists }) l.k (going l.initial.y)) l.c l.y
+    × Left (applied (plan_of l.z) (record { matrix = l.matrix; lists = l.lists }) l.k) (applied_keeps (plan_of l.z) (record { matrix = l.matrix; lists = l.lists }) l.k) l.t l.c
+    (apply_all (plan_of l.z) (record { matrix = l.matrix; lists = l.lists }) l.k (going l.initial.y)) l.c l.y
 
 abbrev pub decreases-loop-c : goal.decreases-loop-c
 decreases-loop-c l = l.t - l.c

@@ -1,17 +1,10 @@
 -- T-4(k,i) for i rising: what is left from i on is the whole. Assumes nothing.
-use borrow.Author.Rules.{rules}
 use mathlib.Core.Path.{◌≡◌, refl, ◌∙◌}
-use mathlib.Core.Bool.{true}
-use Prim.Native.Nat.{ℕ, suc, ◌+◌, ◌-◌, ◌<◌, ◌≤◌}
+use Prim.Native.Nat.{suc, ◌+◌}
 use native.Mathlib.Omega.{arith}
-use lib.ListN.{length}
-use Rattle.model.specs.Lists.{in_turn}
-use Rattle.model.specs.Tile.{all_finite}
 use Rattle.model.specs.Task.{after}
-use Rattle.model.specs.Plan.{plan_of}
-use Rattle.model.specs.Solve.{going}
-use Rattle.progress.specs.Right.{passed_of, pair_all}
-use Rattle.progress.proofs.Turns.{Left, left_goes, left_stops, left_ends, went, halted, pairs_keep}
+use Rattle.progress.specs.Right.{passed_of}
+use Rattle.progress.proofs.Turns.{left_goes, left_stops, left_ends, went, halted, pairs_keep}
 use Rattle.right_sides.proofs.pair_below.Goals as goal
 
 pub overflow_add-i : goal.overflow_add-i
@@ -27,12 +20,11 @@ loop-i-init c =
 pub pair-p-requires : goal.pair-p-requires
 pair-p-requires c =
     let i = c.loop-i.invariant in
-    let p = (c.requires.solvable, (c.requires.right_side, c.requires.k_lt_tiles)) in
-    record { solvable = p.0; right_side = record { long = i.2 ∙ p.1.0.long; all_finite_lem = i.3 }; k_lt_i = (i.1, c.loop-i-test.true) }
+    record { solvable = c.requires.solvable; right_side = record { long = i.2 ∙ c.requires.right_side.long; all_finite_lem = i.3 }; k_lt_i = (i.1, c.loop-i-test.true) }
 
 pub shape_of-y-in-Stopped : goal.shape_of-y-in-Stopped
 shape_of-y-in-Stopped c =
-    c.pair-p.auto.1.1.1.0 ∙ c.loop-i.invariant.2
+    c.pair-p.auto.y ∙ c.loop-i.invariant.2
 
 pub returns-in-Stopped : goal.returns-in-Stopped
 unfolding passed_of
@@ -40,7 +32,7 @@ returns-in-Stopped c =
     let i = c.loop-i.invariant in
     record {
       is = left_stops _ (pairs_keep _ _ _) _ _ _ _ _ i.4 c.loop-i-test.true (halted _ _ _ c.pair-p.ensures.is _ c.in-Stopped.is);
-      finite_then = λ q. let x : ◌≡◌ {A = ℕ} 0 1 = cc in absurd (omega arith);
+      finite_then = λ q. cc;
     }
 
 pub overflow_add-i-in-loop-i : goal.overflow_add-i-in-loop-i
@@ -55,8 +47,8 @@ pub loop-i-preserved : goal.loop-i-preserved
 loop-i-preserved c =
     let i = c.loop-i.invariant in
     let e = c.pair-p.ensures in
-    let on = c.enum_told-1.given.1 in
-    (omega arith, omega arith, c.pair-p.auto.1.1.1.0 ∙ i.2, e.finite_then on, left_goes _ (pairs_keep _ _ _) _ _ _ _ _ i.4 c.loop-i-test.true (went _ _ _ e.is on))
+    let on = c.in_default.is in
+    (omega arith, omega arith, c.pair-p.auto.y ∙ i.2, e.finite_then on, left_goes _ (pairs_keep _ _ _) _ _ _ _ _ i.4 c.loop-i-test.true (went _ _ _ e.is on))
 
 pub shape_of-y : goal.shape_of-y
 shape_of-y c =

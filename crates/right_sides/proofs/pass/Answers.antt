@@ -1,17 +1,9 @@
 -- The stages in turn are the tasks in number order. Assumes nothing.
-use borrow.Author.Rules.{rules}
-use mathlib.Core.Path.{◌≡◌, refl, sym, ◌∙◌}
-use mathlib.Core.Bool.{true}
-use Prim.Native.Nat.{ℕ, ◌-◌, ◌≤◌}
+use mathlib.Core.Path.{refl, sym, ◌∙◌}
 use native.Mathlib.Omega.{arith}
-use lib.ListN.{length}
-use Rattle.model.specs.Lists.{in_turn}
-use Rattle.model.specs.Tile.{all_finite}
-use Rattle.model.specs.Task.{tasks}
-use Rattle.model.specs.Plan.{plan, plan_of}
-use Rattle.model.specs.Solve.{going, pass}
-use Rattle.progress.specs.Right.{passed_of, stage_passed}
-use Rattle.progress.proofs.Turns.{Left, left_begins, left_goes, left_stops, left_ends, went, halted, stage_keeps, tasks_are}
+use Rattle.model.specs.Plan.{plan}
+use Rattle.progress.specs.Right.{passed_of}
+use Rattle.progress.proofs.Turns.{left_begins, left_goes, left_stops, left_ends, went, halted, stage_keeps, tasks_are}
 use Rattle.right_sides.proofs.pass.Goals as goal
 
 pub loop-k-init : goal.loop-k-init
@@ -22,20 +14,22 @@ loop-k-init c =
 pub stage-p-requires : goal.stage-p-requires
 stage-p-requires c =
     let i = c.loop-k.invariant in
-    let p = (c.requires.solvable, c.requires.right_side) in
-    record { solvable = p.0; right_side = record { long = i.1 ∙ p.1.long; all_finite_lem = i.2 }; k_lt_tiles = c.loop-k-test.true }
+    record { solvable = c.requires.solvable; right_side = record { long = i.1 ∙ c.requires.right_side.long; all_finite_lem = i.2 }; k_lt_tiles = c.loop-k-test.true }
 
 pub shape_of-y-in-Stopped : goal.shape_of-y-in-Stopped
 shape_of-y-in-Stopped c =
-    c.stage-p.auto.1.1.1.0 ∙ c.loop-k.invariant.1
+    c.stage-p.auto.y ∙ c.loop-k.invariant.1
 
 pub returns-in-Stopped : goal.returns-in-Stopped
 unfolding passed_of
 returns-in-Stopped c =
-    let i = c.loop-k.invariant in record { passing = record {
+    let i = c.loop-k.invariant in record {
+      passing = record {
         is = left_stops _ (stage_keeps _ _) _ _ _ _ _ i.3 c.loop-k-test.true (halted _ _ _ c.stage-p.ensures.is _ c.in-Stopped.is);
-        finite_then = λ q. let x : ◌≡◌ {A = ℕ} 0 1 = cc in absurd (omega arith);
-      }; y_len_unchanged = c.stage-p.auto.1.1.1.0 ∙ i.1 }
+        finite_then = λ q. cc;
+      };
+      y_len_unchanged = c.stage-p.auto.y ∙ i.1;
+    }
 
 pub overflow_add-k : goal.overflow_add-k
 overflow_add-k c =
@@ -49,8 +43,8 @@ pub loop-k-preserved : goal.loop-k-preserved
 loop-k-preserved c =
     let i = c.loop-k.invariant in
     let e = c.stage-p.ensures in
-    let on = c.enum_told-1.given.1 in
-    (omega arith, c.stage-p.auto.1.1.1.0 ∙ i.1, e.finite_then on, left_goes _ (stage_keeps _ _) _ _ _ _ _ i.3 c.loop-k-test.true (went _ _ _ e.is on))
+    let on = c.in_default.is in
+    (omega arith, c.stage-p.auto.y ∙ i.1, e.finite_then on, left_goes _ (stage_keeps _ _) _ _ _ _ _ i.3 c.loop-k-test.true (went _ _ _ e.is on))
 
 pub shape_of-y : goal.shape_of-y
 shape_of-y c =

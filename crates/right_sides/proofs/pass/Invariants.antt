@@ -1,23 +1,21 @@
 -- The stages in turn are the tasks in number order. Assumes nothing.
-use borrow.Author.Rules.{rules}
-use mathlib.Core.Path.{◌≡◌, refl, sym, ◌∙◌}
+use mathlib.Core.Path.{◌≡◌}
 use mathlib.Core.Bool.{true}
-use Prim.Native.Nat.{ℕ, ◌-◌, ◌≤◌}
-use native.Mathlib.Omega.{arith}
+use Prim.Native.Nat.{◌-◌, ◌≤◌}
 use lib.ListN.{length}
 use Rattle.model.specs.Lists.{in_turn}
 use Rattle.model.specs.Tile.{all_finite}
 use Rattle.model.specs.Task.{tasks}
-use Rattle.model.specs.Plan.{plan, plan_of}
+use Rattle.model.specs.Plan.{plan_of}
 use Rattle.model.specs.Solve.{going, pass}
-use Rattle.progress.specs.Right.{passed_of, stage_passed}
-use Rattle.progress.proofs.Turns.{Left, left_begins, left_goes, left_stops, left_ends, went, halted, stage_keeps, tasks_are}
+use Rattle.progress.specs.Right.{stage_passed}
+use Rattle.progress.proofs.Turns.{Left, stage_keeps}
 use Rattle.right_sides.proofs.pass.Given as goal
 
 abbrev pub invariant-loop-k : goal.invariant-loop-k
 invariant-loop-k l = (l.k ≤ l.n) × (length l.y ≡ length l.initial.y) × (all_finite l.y ≡ true)
-    × Left (stage_passed (plan_of l.z) (record { l.matrix = l.matrix; l.lists = l.lists })) (stage_keeps (plan_of l.z) (record { l.matrix = l.matrix; l.lists = l.lists })) l.n l.k
-    (in_turn (pass (plan_of l.z) (record { l.matrix = l.matrix; l.lists = l.lists })) (tasks l.n) (going l.initial.y)) l.k l.y
+    × Left (stage_passed (plan_of l.z) (record { matrix = l.matrix; lists = l.lists })) (stage_keeps (plan_of l.z) (record { matrix = l.matrix; lists = l.lists })) l.n l.k
+    (in_turn (pass (plan_of l.z) (record { matrix = l.matrix; lists = l.lists })) (tasks l.n) (going l.initial.y)) l.k l.y
 
 abbrev pub decreases-loop-k : goal.decreases-loop-k
 decreases-loop-k l = l.n - l.k

@@ -1,8 +1,5 @@
 -- T-2(k), then T-4(k,i) for i rising. Assumes nothing.
-use borrow.Author.Rules.{rules}
-use mathlib.Core.Path.{◌≡◌, sym, ap, ◌∙◌}
-use Prim.Native.Nat.{ℕ}
-use native.Mathlib.Omega.{arith}
+use mathlib.Core.Path.{sym, ap, ◌∙◌}
 use Rattle.model.specs.Lists.{in_turn}
 use Rattle.model.specs.Task.{after}
 use Rattle.model.specs.Plan.{plan}
@@ -16,17 +13,16 @@ returns-in-Stopped c =
     let e = halted _ _ _ c.apply-p.ensures.is _ c.in-Stopped.is in
     record {
       is = sym (turns_stop (pair_all _ _ _) (pairs_keep _ _ _) (after _ _) _) ∙ ap (in_turn (pair_all _ _ _) (after _ _)) e;
-      finite_then = λ q. let x : ◌≡◌ {A = ℕ} 0 1 = cc in absurd (omega arith);
+      finite_then = λ q. cc;
     }
 
 pub pair_below-requires : goal.pair_below-requires
 pair_below-requires c =
-    let p = (c.requires.solvable, (c.requires.right_side, c.requires.k_lt_tiles)) in
-    record { solvable = p.0; right_side = record { long = c.apply-p.auto.1.1.1.0 ∙ p.1.0.long; all_finite_lem = c.apply-p.ensures.finite_then c.enum_told-1.given.1 }; k_lt_tiles = p.1.1 }
+    record { solvable = c.requires.solvable; right_side = record { long = c.apply-p.auto.y ∙ c.requires.right_side.long; all_finite_lem = c.apply-p.ensures.finite_then c.in_default.is }; k_lt_tiles = c.requires.k_lt_tiles }
 
 pub returns : goal.returns
 unfolding stage_passed plan
 returns c =
-    let e = went _ _ _ c.apply-p.ensures.is c.enum_told-1.given.1 in
+    let e = went _ _ _ c.apply-p.ensures.is c.in_default.is in
     let r = c.pair_below.ensures in
     record { is = r.is ∙ ap (in_turn (pair_all _ _ _) (after _ _)) e; finite_then = r.finite_then }

@@ -1,6 +1,4 @@
 -- The answer is the first refusal that holds. Assumes nothing.
-use borrow.Author.Rules.{rules}
-use borrow.Author.Tests.{not-true, not-false}
 use Rattle.run_checks.proofs.Laws.{state_stops, element_stops, all_pass}
 use Rattle.run_checks.proofs.run_answer.Goals as goal
 

@@ -1,6 +1,5 @@
 -- A refusal leaves everything; else the turns are the whole run. Assumes nothing.
 use mathlib.Core.Path.{refl, sym, ◌∙◌}
-use borrow.Author.Rules.{rules}
 use Rattle.runs.proofs.Replies.{refused, accepted}
 use Rattle.runs.proofs.run.Goals as goal
 
@@ -10,9 +9,9 @@ returns-in-Refused c =
 
 pub take_turns-requires : goal.take_turns-requires
 take_turns-requires c =
-    sym c.run_answer-answer.ensures ∙ c.enum_told-1.given.1
+    sym c.run_answer-answer.ensures ∙ c.in_default.is
 
 pub returns : goal.returns
 returns c =
-    let t = c.take_turns in record { workers_after = t.ensures.0 ∙ accepted _ _ _ _ c.run_answer-answer.ensures
-          c.enum_told-1.given.1; others_kept = t.ensures.1 }
+    let t = c.take_turns.ensures in
+    record { workers_after = t.workers_after ∙ accepted _ _ _ _ c.run_answer-answer.ensures c.in_default.is; others_kept = t.others_kept }

@@ -1,10 +1,8 @@
 -- The numbers before i are copied. Assumes nothing.
-use borrow.Author.Rules.{rules}
-use mathlib.Core.Path.{◌≡◌}
-use Prim.Native.Nat.{ℕ, ◌-◌, ◌<◌, ◌≤◌}
+use Prim.Native.Nat.{◌<◌}
 use native.Mathlib.Omega.{arith}
 use lib.Ieee.{nan}
-use lib.ListN.{length, get_or, length-set}
+use lib.ListN.{length, length-set}
 use lib.Seq.{ext_get_or}
 use Rattle.solutions.proofs.Laws.{copy_more}
 use Rattle.solutions.proofs.copy.Goals as goal

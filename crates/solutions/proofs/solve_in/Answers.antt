@@ -1,6 +1,5 @@
 -- Forward, then backward; each may stop. Assumes nothing.
 use mathlib.Core.Path.{sym, ◌∙◌}
-use borrow.Author.Rules.{rules}
 use Rattle.solutions.proofs.Laws.{stops_forward, stops_back, all_answered, answered_as}
 use Rattle.solutions.proofs.solve_in.Goals as goal
 
@@ -24,16 +23,16 @@ back_rows-back-requires c =
       side_most = s.side_most;
       matrix_fits = s.lengths.matrix_fits;
       all_finite_lem = c.requires.matrix_value.0;
-      long = c.pass-forward.auto.1.1.1.0 ∙ c.copy.auto.1.0 ∙ c.requires.matrix_value.2;
+      long = c.pass-forward.auto.y ∙ c.copy.auto.to ∙ c.requires.matrix_value.2;
     }
 
 pub returns-in-Stopped-back : goal.returns-in-Stopped-back
 returns-in-Stopped-back c =
-    stops_back c.args.z _ _ _ _ _ (rw c.copy.ensures at c.pass-forward.ensures.passing.is) c.enum_told-1.given.1
-    _ _ (c.back_rows-back.ensures.by_index c.args.lists.now) _ c.back-1.given.1
+    stops_back c.args.z _ _ _ _ _ (rw c.copy.ensures at c.pass-forward.ensures.passing.is) c.in_default.is
+    _ _ (c.back_rows-back.ensures.by_index c.args.lists.now) _ c.in-Stopped-back.is
 
 pub returns : goal.returns
 returns c =
     answered_as _ _ _ c.copy-2.ensures
-    (all_answered c.args.z _ _ _ _ _ (rw c.copy.ensures at c.pass-forward.ensures.passing.is) c.enum_told-1.given.1
-    _ _ (c.back_rows-back.ensures.by_index c.args.lists.now) c.enum_told-in_default-back-1.given.1)
+    (all_answered c.args.z _ _ _ _ _ (rw c.copy.ensures at c.pass-forward.ensures.passing.is) c.in_default.is
+    _ _ (c.back_rows-back.ensures.by_index c.args.lists.now) c.in_default-back.is)

@@ -1,5 +1,4 @@
 -- The first refusal that holds, in the table's order. Assumes nothing.
-use borrow.Author.Rules.{rules}
 use Rattle.solve_checks.proofs.Laws.{rest_8, rest_9, rest_10, rest_good}
 use Rattle.solve_checks.proofs.rest_answer.Goals as goal
 
@@ -13,16 +12,16 @@ pub returns-in-Overflow : goal.returns-in-Overflow
 returns-in-Overflow c =
     λ lists slots count number.
     let a = c.args in
-    rest_9 a.z a.matrix.now lists a.records.now slots count number a.right.now c.requires.2 _ c.first_unfinished-task.ensures c.in-Overflow.is _ (c.outcome_of-end.ensures lists) _ c.in-Overflow.is
+    rest_9 a.z a.matrix.now lists a.records.now slots count number a.right.now c.requires.2 _ c.first_unfinished-task.ensures c.in_default.is _ (c.outcome_of-end.ensures lists) _ c.in-Overflow.is
 
 pub returns-in-Singular : goal.returns-in-Singular
 returns-in-Singular c =
     λ lists slots count number.
     let a = c.args in
-    rest_10 a.z a.matrix.now lists a.records.now slots count number a.right.now c.requires.2 _ c.first_unfinished-task.ensures c.in-Singular.is _ (c.outcome_of-end.ensures lists) _ c.in-Singular.is
+    rest_10 a.z a.matrix.now lists a.records.now slots count number a.right.now c.requires.2 _ c.first_unfinished-task.ensures c.in_default.is _ (c.outcome_of-end.ensures lists) _ c.in-Singular.is
 
 pub returns-in-Good : goal.returns-in-Good
 returns-in-Good c =
     λ lists slots count number.
     let a = c.args in
-    rest_good a.z a.matrix.now lists a.records.now slots count number a.right.now c.requires.2 _ c.first_unfinished-task.ensures c.in-Good.is _ (c.outcome_of-end.ensures lists) c.in-Good.is _ c.right_answer.ensures
+    rest_good a.z a.matrix.now lists a.records.now slots count number a.right.now c.requires.2 _ c.first_unfinished-task.ensures c.in_default.is _ (c.outcome_of-end.ensures lists) c.in-Good.is _ c.right_answer.ensures

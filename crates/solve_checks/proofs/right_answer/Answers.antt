@@ -1,5 +1,4 @@
 -- Whether a number isn't finite, and where. Assumes nothing.
-use borrow.Author.Rules.{rules}
 use Rattle.solve_checks.proofs.Laws.{right_3, right_0}
 use Rattle.solve_checks.proofs.right_answer.Goals as goal
 

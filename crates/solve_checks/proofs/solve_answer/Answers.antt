@@ -1,8 +1,6 @@
 -- The first refusal that holds, in the table's order. Assumes nothing.
 use mathlib.Core.Path.{sym, ◌∙◌}
 use native.Mathlib.Omega.{arith}
-use borrow.Author.Rules.{rules}
-use borrow.Author.Tests.{not-true, not-false}
 use Rattle.checks.proofs.Laws.{sized, small}
 use Rattle.solve_checks.proofs.Laws.{solve_1, solve_2, checked, solve_right, solve_answers, solve_4, solve_elements, solve_rest}
 use Rattle.solve_checks.proofs.solve_answer.Goals as goal

@@ -12,10 +12,10 @@ returns-in-Refused c =
 pub solve_with-requires : goal.solve_with-requires
 solve_with-requires c =
     let a = c.args in
-    let k = checked a.z a.matrix.now a.lists.now a.records.now a.workers.slots a.workers.count a.workers.number a.right.now a.answers.now (sym c.solve_answer-answer.ensures ∙ c.enum_told-1.given.1) in
+    let k = checked a.z a.matrix.now a.lists.now a.records.now a.workers.slots a.workers.count a.workers.number a.right.now a.answers.now (sym c.solve_answer-answer.ensures ∙ c.in_default.is) in
     record { solvable = k.solvable; right_side = k.right; matrix_value = (k.all_finite_lem, k.answers_long, search rules) }
 
 pub returns : goal.returns
 unfolding lent
 returns c =
-    c.solve_with.ensures ∙ accepted _ _ _ _ _ c.solve_answer-answer.ensures c.enum_told-1.given.1
+    c.solve_with.ensures ∙ accepted _ _ _ _ _ c.solve_answer-answer.ensures c.in_default.is

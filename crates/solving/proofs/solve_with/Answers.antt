@@ -1,6 +1,5 @@
 -- The order fits the work slice. Assumes nothing.
 use mathlib.Core.Path.{sym}
-use borrow.Author.Rules.{rules}
 use Prim.Native.Nat.{◌*◌, ◌≤◌}
 use native.Mathlib.Nat.{mul-le-mul}
 use native.Mathlib.Omega.{arith}
@@ -17,5 +16,4 @@ slice_bounds-solve_in-end-2 c =
 
 pub solve_in-requires : goal.solve_in-requires
 solve_in-requires c =
-    let few : c.args.z.tiles * c.args.z.side ≤ 256 = mul-le-mul c.requires.solvable.tiles_most c.requires.solvable.side_most in let p = (c.requires.solvable, (c.requires.right_side, c.requires.matrix_value)) in
-    record { solvable = p.0; right_side = p.1.0; matrix_value = (p.1.1.0, p.1.1.1, length-take-le _ _ (omega (arith, few, p.1.1.2))) }
+    let few : c.args.z.tiles * c.args.z.side ≤ 256 = mul-le-mul c.requires.solvable.tiles_most c.requires.solvable.side_most in record { solvable = c.requires.solvable; right_side = c.requires.right_side; matrix_value = (c.requires.matrix_value.0, c.requires.matrix_value.1, length-take-le _ _ (omega (arith, few, c.requires.matrix_value.2))) }

@@ -1,6 +1,5 @@
 -- The first refusal that holds, in the table's order. Assumes nothing.
 use mathlib.Core.Path.{sym, ◌∙◌}
-use borrow.Author.Rules.{rules}
 use Rattle.checks.proofs.Laws.{sized}
 use Rattle.states.proofs.Laws.{answer_1, answer_2, answer_4, answer_0, checked}
 use Rattle.states.proofs.state_answer.Goals as goal

@@ -1,12 +1,9 @@
 -- What is left to subtract from j on is the whole. Assumes nothing.
-use borrow.Author.Rules.{rules}
 use mathlib.Core.Path.{◌≡◌}
 use Prim.Native.Nat.{◌+◌, ◌-◌, ◌≤◌}
-use native.Mathlib.Omega.{arith}
 use lib.ListN.{get_or}
 use lib.Ieee.{nan}
 use Rattle.subtractions.specs.Subtracted.{subtracted}
-use Rattle.subtractions.proofs.Segments.{subtract_more, subtract_ends}
 use Rattle.subtractions.proofs.subtract.Given as goal
 
 abbrev pub invariant-loop-j : goal.invariant-loop-j

@@ -1,5 +1,4 @@
 -- Each arm returns what the update picks where the test is as the arm found it. Assumes nothing.
-use borrow.Author.Rules.{rules}
 use lib.Ieee.{of_bits}
 use Rattle.model.specs.Num.{is_zero, update}
 use Rattle.subtractions.proofs.subtract_one.Goals as goal

@@ -1,11 +1,7 @@
 -- What is left from tile j on is the whole. Assumes nothing.
 use mathlib.Core.Path.{◌≡◌}
-use mathlib.Core.List.{List}
-use Prim.Native.Nat.{ℕ, suc, ◌+◌, ◌-◌, ◌*◌, ◌≤◌}
+use Prim.Native.Nat.{suc, ◌+◌}
 use native.Mathlib.Omega.{arith}
-use Rattle.model.specs.Lists.{run}
-use Rattle.model.specs.Plan.{plan}
-use Rattle.model.specs.Solve.{row_left}
 use Rattle.subtractions.proofs.Places.{Placed, placed}
 use Rattle.subtractions.proofs.Tiles.{tiles_more, tiles_end}
 use Rattle.subtractions.proofs.subtract_tiles.Goals as goal

@@ -1,5 +1,4 @@
 -- `system_printed::print_system` meets its contract. Assumes nothing.
-use borrow.Author.Rules.{rules}
 use mathlib.Core.Path.{sym, ◌∙◌}
 use native.Mathlib.Omega.{arith}
 use lib.Seq.{length-take-le}
@@ -55,10 +54,13 @@ pub print_worked-requires : goal.print_worked-requires
 print_worked-requires c =
     let p = c.requires in
     let s = small_sizes (checked _ _ _ p) in
-    let k = few_tasks _ s.tiles.1 in record { side_value = p; lent_fits = record {
+    let k = few_tasks _ s.tiles.1 in record {
+      side_value = p;
+      lent_fits = record {
         buffers = record {
           matrix_fits = length-take-le _ _ (omega (arith, c.blank_numbers-numbers.ensures));
           lists_fit = length-take-le _ _ (omega (arith, c.blank_entries-entries.ensures));
         };
         records_fit = length-take-le _ _ (omega (arith, c.blank_records-records.ensures, c.task_count-count.ensures)) ∙ c.task_count-count.ensures;
-      } }
+      };
+    }

@@ -7,11 +7,9 @@ use Rattle.system_printed.proofs.print_worked.Goals as goal
 
 pub run_alone-outcome-requires : goal.run_alone-outcome-requires
 run_alone-outcome-requires c =
-    let p = (c.requires.side_value, c.requires.lent_fits) in
-    lendable _ _ _ (checked _ _ _ p.0) _ _ _ _ _ p.1 c.read_system.ensures (search rules)
+    lendable _ _ _ (checked _ _ _ c.requires.side_value) _ _ _ _ _ c.requires.lent_fits c.read_system.ensures (search rules)
 
 pub returns : goal.returns
 returns c =
-    let p = (c.requires.side_value, c.requires.lent_fits) in
-    let k = checked _ _ _ p.0 in
-    let read = numbers_read _ _ _ k _ _ _ _ _ p.1 c.read_system.ensures in record { out_after = c.write_result.ensures ∙ result_printed _ _ _ k _ _ _ _ _ read c.run_alone-outcome.ensures.result_after _ (search rules) (search rules); text_len_bound = result_short _ _ _ k _ _ _ _ _ read c.run_alone-outcome.ensures.result_after (search rules) (search rules) }
+    let k = checked _ _ _ c.requires.side_value in
+    let read = numbers_read _ _ _ k _ _ _ _ _ c.requires.lent_fits c.read_system.ensures in record { out_after = c.write_result.ensures ∙ result_printed _ _ _ k _ _ _ _ _ read c.run_alone-outcome.ensures.result_after _ (search rules) (search rules); text_len_bound = result_short _ _ _ k _ _ _ _ _ read c.run_alone-outcome.ensures.result_after (search rules) (search rules) }

@@ -1,7 +1,5 @@
 -- The shared refusals, then the take's own in the table's order. Assumes nothing.
 use native.Mathlib.Omega.{arith}
-use borrow.Author.Rules.{rules}
-use borrow.Author.Tests.{not-true, not-false}
 use Rattle.call_laws.proofs.Undamaged.{recorded}
 use Rattle.take_checks.proofs.Laws.{state_stops, is_sound, no_worker_lem, busy_worker, no_task, not_ready, is_ready}
 use Rattle.take_checks.proofs.take_answer.Goals as goal

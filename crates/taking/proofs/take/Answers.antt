@@ -1,8 +1,6 @@
 -- A refusal leaves everything; else the record and the worker are as the definition has them. Assumes nothing.
 use mathlib.Core.Path.{refl}
 use native.Mathlib.Omega.{arith}
-use borrow.Author.Rules.{rules}
-use borrow.Author.Tests.{not-true, not-false}
 use lib.Seq.{drop-set-lt}
 use Rattle.task_counts.proofs.Laws.{few_tasks}
 use Rattle.call_laws.proofs.Undamaged.{number_small}

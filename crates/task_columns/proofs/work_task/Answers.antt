@@ -1,6 +1,5 @@
 -- Spoiled and filled, or worked. Assumes nothing.
 use mathlib.Core.Path.{sym, ap, ◌∙◌, subst}
-use borrow.Author.Rules.{rules}
 use Rattle.model.specs.declared.TaskRecord.{TaskRecord}
 use Rattle.model.specs.Task.{Task}
 use Rattle.column_laws.specs.Workable.{Workable}

@@ -1,6 +1,5 @@
 -- The closed form is the length of the list of tasks, and nothing in it wraps. Assumes nothing.
 use native.Mathlib.Omega.{arith}
-use borrow.Author.Rules.{rules}
 use Rattle.task_counts.proofs.Laws.{products_small, length_tasks}
 use Rattle.task_counts.proofs.task_count.Goals as goal
 

@@ -1,5 +1,4 @@
 -- Each branch by its test. Assumes nothing.
-use borrow.Author.Rules.{rules}
 use borrow.Author.Tests.{lt-ltb, le-ltb}
 use Rattle.task_records.proofs.past.Goals as goal
 

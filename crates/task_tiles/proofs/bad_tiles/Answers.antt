@@ -1,6 +1,4 @@
 -- Each kind's tiles are looked at once. Assumes nothing.
-use borrow.Author.Tests.{not-true, not-false}
-use borrow.Author.Rules.{rules}
 use Rattle.task_tiles.proofs.Laws.{tiles_1, tiles_2, tiles_3, tiles_4, tiles_5}
 use Rattle.task_tiles.proofs.bad_tiles.Goals as goal
 

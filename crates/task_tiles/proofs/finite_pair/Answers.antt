@@ -1,7 +1,5 @@
 -- One tile after the other. Assumes nothing.
 use mathlib.Core.Path.{sym, ◌∙◌}
-use borrow.Author.Tests.{not-true, not-false}
-use borrow.Author.Rules.{rules}
 use Rattle.task_tiles.proofs.finite_pair.Goals as goal
 
 pub returns-then-not-finite_tile : goal.returns-then-not-finite_tile

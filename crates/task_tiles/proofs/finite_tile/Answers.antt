@@ -1,6 +1,5 @@
 -- The tile is the part of the matrix that is tested. Assumes nothing.
 use mathlib.Core.Path.{ap, ◌∙◌}
-use borrow.Author.Rules.{rules}
 use Rattle.model.specs.Tile.{all_finite}
 use Rattle.task_tiles.proofs.finite_tile.Goals as goal
 

@@ -1,5 +1,4 @@
 -- The whole run is what is done from the first turn on. Assumes nothing.
-use borrow.Author.Rules.{rules}
 use Rattle.turns.proofs.Starts.{starts, whole}
 use Rattle.turns.proofs.take_turns.Goals as goal
 
@@ -9,5 +8,5 @@ turns_from-requires c =
 
 pub returns : goal.returns
 returns c =
-    let t = (c.turns_from.ensures.workers_after, c.turns_from.ensures.others_kept) in
-    record { workers_after = whole _ _ _ _ t.0; others_kept = t.1 }
+    let t = c.turns_from.ensures in
+    record { workers_after = whole _ _ _ _ t.workers_after; others_kept = t.others_kept }

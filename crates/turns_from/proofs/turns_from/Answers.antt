@@ -1,18 +1,11 @@
 -- The invariant: what is left to do from here ends as all from the first turn on. A turn of the loop is a turn of the run, or passes to the next busy worker.
 -- Assumes nothing.
-use Prim.Native.Nat.{ℕ, ◌-◌, ◌≤◌, ◌<◌}
-use mathlib.Core.Bool.{false}
-use mathlib.Core.Path.{◌≡◌, refl}
+use mathlib.Core.Path.{refl}
 use native.Mathlib.Omega.{arith}
 use borrow.Author.Count.{below_more}
-use lib.ListN.{get_or}
-use Rattle.worker.specs.Holding.{idle}
-use Rattle.model.specs.Plan.{plan_of}
-use Rattle.model.specs.Calls.{run_from}
-use Rattle.records.specs.Records.{lent}
 use Rattle.records.proofs.Laws.{length_slots}
 use Rattle.next_worker.proofs.Rounds.{found_above, found_below, both_parts, above_more}
-use Rattle.turns_from.proofs.Going.{Going, starts, sizes, few_calls, few_records, searched, take_goes, pass_goes, run_over, column_due, work_goes, run_ends, matrix_kept, lists_kept, records_kept, recounted, others_kept, turns_left, call_less, pass_less}
+use Rattle.turns_from.proofs.Going.{starts, sizes, few_calls, few_records, searched, take_goes, pass_goes, run_over, column_due, work_goes, run_ends, matrix_kept, lists_kept, records_kept, recounted, others_kept, call_less, pass_less}
 use Rattle.turns_from.proofs.turns_from.Goals as goal
 
 pub turns-init : goal.turns-init
@@ -45,14 +38,6 @@ offset_bounds-left-w-then-h c =
 pub bounds-left-w-then-h : goal.bounds-left-w-then-h
 bounds-left-w-then-h c =
     let i = c.turns.invariant in omega (arith, i.turn_of, (sizes i).few_workers)
-
-pub overflow_cast-h : goal.overflow_cast-h
-overflow_cast-h c =
-    omega (arith, c.type_inv.UNKNOWN)
-
-pub search_start-from-requires : goal.search_start-from-requires
-search_start-from-requires c =
-    omega (arith, c.type_inv.UNKNOWN)
 
 pub overflow_add-n : goal.overflow_add-n
 overflow_add-n c =
@@ -111,9 +96,9 @@ turns-smaller-then-from-records c =
 
 pub turns-preserved-then-from-records : goal.turns-preserved-then-from-records
 turns-preserved-then-from-records c =
-    let t = (c.take_task.ensures.value, (c.take_task.ensures.records_after, c.take_task.ensures.records_len_unchanged)) in
+    let t = c.take_task.ensures in
     take_goes c.turns.invariant _ c.lowest_ready-from.ensures c.if-h.false c.if-from-records.true (omega (arith, c.turns-test.true))
-    _ t.0 _ t.1.0 t.1.1 _ c.worker_after-w-then-from-records.ensures
+    _ t.value _ t.records_after t.records_len_unchanged _ c.worker_after-w-then-from-records.ensures
 
 -- ---- neither: the first busy worker from this one on, or else below it
 
@@ -205,8 +190,11 @@ returns-in-turns c =
     let i = c.turns.invariant in
     let a = c.loop-v.invariant in
     let b = c.loop-u.invariant in
-    record { workers_after = recounted _ _ _ c.args.workers c.requires.accepted i _ _ _ _ (run_over i _ c.lowest_ready-from.ensures c.if-h.false c.if-from-records.false
-          (both_parts _ _ _ (λ x k l. a.3 x k (omega (arith, l, c.loop-v-test.false))) (λ x k. b.2 x (omega (arith, k, c.loop-u-test.false, a.0, b.0))))); others_kept = others_kept _ _ _ c.args.workers c.requires.accepted i }
+    record {
+      workers_after = recounted _ _ _ c.args.workers c.requires.accepted i _ _ _ _ (run_over i _ c.lowest_ready-from.ensures c.if-h.false c.if-from-records.false
+          (both_parts _ _ _ (λ x k l. a.3 x k (omega (arith, l, c.loop-v-test.false))) (λ x k. b.2 x (omega (arith, k, c.loop-u-test.false, a.0, b.0)))));
+      others_kept = others_kept _ _ _ c.args.workers c.requires.accepted i;
+    }
 
 pub shape_of-matrix : goal.shape_of-matrix
 shape_of-matrix c =

@@ -2,17 +2,13 @@
 -- Assumes nothing.
 use Prim.Native.Nat.{ℕ, ◌-◌, ◌≤◌, ◌<◌}
 use mathlib.Core.Bool.{false}
-use mathlib.Core.Path.{◌≡◌, refl}
-use native.Mathlib.Omega.{arith}
-use borrow.Author.Count.{below_more}
+use mathlib.Core.Path.{◌≡◌}
 use lib.ListN.{get_or}
 use Rattle.worker.specs.Holding.{idle}
 use Rattle.model.specs.Plan.{plan_of}
 use Rattle.model.specs.Calls.{run_from}
 use Rattle.records.specs.Records.{lent}
-use Rattle.records.proofs.Laws.{length_slots}
-use Rattle.next_worker.proofs.Rounds.{found_above, found_below, both_parts, above_more}
-use Rattle.turns_from.proofs.Going.{Going, starts, sizes, few_calls, few_records, searched, take_goes, pass_goes, run_over, column_due, work_goes, run_ends, matrix_kept, lists_kept, records_kept, recounted, others_kept, turns_left, call_less, pass_less}
+use Rattle.turns_from.proofs.Going.{Going, turns_left}
 use Rattle.turns_from.proofs.turns_from.Given as goal
 
 abbrev pub invariant-turns : goal.invariant-turns

@@ -1,7 +1,6 @@
 -- The search tells whether every task is finished. Assumes nothing.
 use mathlib.Core.Bool.{not}
 use mathlib.Core.Path.{sym, ap, ◌∙◌}
-use borrow.Author.Rules.{rules}
 use Rattle.unfinished.proofs.Finished.{is_found, none_found}
 use Rattle.unfinished.proofs.all_finished.Goals as goal
 

@@ -1,7 +1,6 @@
 -- By whether every task is finished. Assumes nothing.
 use mathlib.Core.Bool.{cond}
 use mathlib.Core.Path.{sym, ap, ◌∙◌}
-use borrow.Author.Rules.{rules}
 use Rattle.model.specs.declared.RunAnswer.TheVariants.{Finished, Spent}
 use Rattle.unfinished.proofs.answer_after.Goals as goal
 

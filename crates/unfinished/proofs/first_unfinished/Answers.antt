@@ -1,15 +1,10 @@
 -- The first from p on is the first of all. Assumes nothing.
-use Prim.Native.Nat.{ℕ, ◌-◌}
-use mathlib.Core.Path.{◌≡◌, sym, ap, ◌∙◌}
+use Prim.Native.Nat.{ℕ}
+use mathlib.Core.Path.{sym, ap, ◌∙◌}
 use mathlib.Core.Bool.{not}
 use native.Mathlib.Omega.{arith}
-use borrow.Author.Rules.{rules}
-use lib.ListN.{length}
-use Rattle.model.specs.Lists.{below, keep, first_or}
-use Rattle.model.specs.Links.{mark, finished}
-use Rattle.records.specs.Records.{marks_from}
-use Rattle.finite_numbers.specs.declared.Lowest.TheVariants.{None, At}
-use Rattle.unfinished.proofs.First.{first_from, first_begins, first_stops, first_goes_on, first_ends}
+use Rattle.model.specs.Links.{finished}
+use Rattle.unfinished.proofs.First.{first_begins, first_stops, first_goes_on, first_ends}
 use Rattle.unfinished.proofs.first_unfinished.Goals as goal
 
 pub loop-p-init : goal.loop-p-init
@@ -19,7 +14,7 @@ loop-p-init c =
 pub returns-then-not-is_finished : goal.returns-then-not-is_finished
 returns-then-not-is_finished c =
     first_stops _ _ _ _ c.loop-p.invariant c.loop-p-test.true
-    (ap (λ (x : ℕ). not (finished x)) (sym c.mark_of.ensures) ∙ ap not (sym c.is_finished.ensures) ∙ c.if-not-is_finished.true)
+    (ap (λ (x : ℕ). not (finished x)) (sym c.mark_of.ensures) ∙ ap not (sym c.is_finished.ensures ∙ c.if-not-is_finished.true))
 
 pub overflow_add-p : goal.overflow_add-p
 overflow_add-p c =
@@ -32,7 +27,7 @@ loop-p-smaller c =
 pub loop-p-preserved : goal.loop-p-preserved
 loop-p-preserved c =
     first_goes_on _ _ _ _ c.loop-p.invariant c.loop-p-test.true
-    (ap (λ (x : ℕ). not (finished x)) (sym c.mark_of.ensures) ∙ ap not (sym c.is_finished.ensures) ∙ c.if-not-is_finished.false)
+    (ap (λ (x : ℕ). not (finished x)) (sym c.mark_of.ensures) ∙ ap not (sym c.is_finished.ensures ∙ c.if-not-is_finished.false))
 
 pub returns : goal.returns
 returns c =

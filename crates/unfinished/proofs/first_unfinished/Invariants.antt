@@ -1,15 +1,13 @@
 -- The first from p on is the first of all. Assumes nothing.
-use Prim.Native.Nat.{ℕ, ◌-◌}
-use mathlib.Core.Path.{◌≡◌, sym, ap, ◌∙◌}
+use Prim.Native.Nat.{◌-◌}
+use mathlib.Core.Path.{◌≡◌}
 use mathlib.Core.Bool.{not}
-use native.Mathlib.Omega.{arith}
-use borrow.Author.Rules.{rules}
 use lib.ListN.{length}
 use Rattle.model.specs.Lists.{below, keep, first_or}
 use Rattle.model.specs.Links.{mark, finished}
 use Rattle.records.specs.Records.{marks_from}
 use Rattle.finite_numbers.specs.declared.Lowest.TheVariants.{None, At}
-use Rattle.unfinished.proofs.First.{first_from, first_begins, first_stops, first_goes_on, first_ends}
+use Rattle.unfinished.proofs.First.{first_from}
 use Rattle.unfinished.proofs.first_unfinished.Given as goal
 
 abbrev pub invariant-loop-p : goal.invariant-loop-p

@@ -1,21 +1,20 @@
 -- An idle worker holds nothing; a busy one's task, mark and column are tested in turn. Assumes nothing.
 use borrow.Author.Tests.{not-true, not-false}
-use borrow.Author.Rules.{rules}
 use Rattle.workers.proofs.Laws.{worker_idle, worker_lost, worker_unmarked, worker_column}
 use Rattle.workers.proofs.bad_worker.Goals as goal
 
 pub returns-then-not-h : goal.returns-then-not-h
 returns-then-not-h c =
-    worker_idle c.args.z _ _ c.if-not-h.true
+    worker_idle c.args.z _ c.args.h (not-true _ c.if-not-h.true)
 
 pub returns-then-task_count-p : goal.returns-then-task_count-p
 returns-then-task_count-p c =
-    worker_lost c.args.z _ _ c.if-not-h.false _ c.task_count.ensures c.if-task_count-p.true
+    worker_lost c.args.z _ c.args.h (not-false _ c.if-not-h.false) _ c.task_count.ensures c.if-task_count-p.true
 
 pub returns-then-mark_of-ne1 : goal.returns-then-mark_of-ne1
 returns-then-mark_of-ne1 c =
-    worker_unmarked c.args.z _ _ c.if-not-h.false _ c.task_count.ensures c.if-task_count-p.false _ c.mark_of.ensures c.if-mark_of-ne1.true
+    worker_unmarked c.args.z _ c.args.h (not-false _ c.if-not-h.false) _ c.task_count.ensures c.if-task_count-p.false _ c.mark_of.ensures c.if-mark_of-ne1.true
 
 pub returns : goal.returns
 returns c =
-    worker_column c.args.z _ _ c.if-not-h.false _ c.task_count.ensures c.if-task_count-p.false _ c.mark_of.ensures c.if-mark_of-ne1.false
+    worker_column c.args.z _ c.args.h (not-false _ c.if-not-h.false) _ c.task_count.ensures c.if-task_count-p.false _ c.mark_of.ensures c.if-mark_of-ne1.false

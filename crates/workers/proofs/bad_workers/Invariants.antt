@@ -1,15 +1,12 @@
 -- What is left to search gives the whole search's answer. Assumes nothing.
 use Prim.Native.Nat.{◌-◌, ◌≤◌}
-use mathlib.Core.Path.{◌≡◌, sym, ◌∙◌}
-use native.Mathlib.Omega.{arith}
+use mathlib.Core.Path.{◌≡◌}
 use lib.ListN.{get_or}
 use Rattle.model.specs.Refusal.{bad_worker}
 use Rattle.worker.specs.Holding.{idle}
 use Rattle.model.specs.Plan.{plan_of}
 use Rattle.model.specs.Lists.{run, some}
-use Rattle.laws.proofs.Searches.{some_begins, some_stops, some_goes_on, some_ends}
 use Rattle.records.specs.Records.{crew}
-use Rattle.records.proofs.Laws.{some_worker}
 use Rattle.checks.specs.Checks.{records_alone}
 use Rattle.workers.proofs.bad_workers.Given as goal
 

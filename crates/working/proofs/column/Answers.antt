@@ -1,7 +1,5 @@
 -- A refusal leaves everything; else the worker's column is done. Assumes nothing.
 use mathlib.Core.Path.{refl}
-use borrow.Author.Rules.{rules}
-use borrow.Author.Tests.{not-true, not-false}
 use Rattle.working.proofs.Laws.{refused, works_then, worked}
 use Rattle.working.proofs.column.Goals as goal
 
