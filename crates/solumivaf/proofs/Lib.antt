@@ -1,1 +1,3 @@
 pub mod Inputs
+pub mod Moved
+pub mod Decided

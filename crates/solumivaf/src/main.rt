@@ -1,9 +1,12 @@
 // The program: reads a system on standard input, runs it with one worker and prints the result, or the line of a refusal. Every decision is
-// in printing and input_due; here bytes are only moved, and what cannot be moved is said on standard error.
+// in printing and input_due; here bytes are only moved, and what cannot be moved is said on standard error. What is said of bytes holds for
+// readers and writers that tell theirs, as those over memory: of standard input and output no contract can tell.
 #![tactic(auto)]
 
-ghost use Rattle.std.specs.Prelude.{◌≡◌, ◌≤◌, IfOk, length};
-ghost use Rattle.solumivaf.specs.Input.{Within};
+ghost use Rattle.std.specs.Prelude.{◌≡◌, ◌≤◌, IfErr, IfOk, IfSome, OnOk, length};
+ghost use Rattle.std.specs.Io.KnownBytes.{Appends, WriteAppends};
+ghost use Rattle.model.specs.Read.{program};
+ghost use Rattle.solumivaf.specs.Input.{Decides, Filled, QuietWhereUnread, Took, Within};
 
 use input_due::bytes_due;
 use model::WriteAnswer;
@@ -18,10 +21,18 @@ pub enum Input {
     Lost(io::Error),
 }
 
+// Why no result, or not all of one, was printed: a read or a write failed.
+#[derive(Clone, Copy)]
+pub enum Failure {
+    Unread(io::Error),
+    Incomplete(io::Error),
+}
+
 // One read, of at least a byte unless the input ends. A read that a signal interrupts is tried again; a proved loop ends, so this one counts its
 // turns, up to more than a run can use up.
-fn read_some(from: &mut impl Read, part: &mut [u8]) -> Input
-    ensures { Within (length part.old) result }
+fn read_some<R: Read>(from: &mut R, part: &mut [u8]) -> Input
+    ensures within { Within (length part.old) result }
+    ensures bytes { Took (R.remaining from.old) (R.remaining from.new) part.new result }
 {
     for _ in 0..u64::MAX {
         match from.read(part) {
@@ -40,8 +51,9 @@ fn read_some(from: &mut impl Read, part: &mut [u8]) -> Input
 
 // Reads until the part is full or the input ends.
 #[tactic(auto, using(crate::proofs::Inputs::bytes_within))]
-fn read_full(from: &mut impl Read, part: &mut [u8]) -> Input
-    ensures { Within (length part.new) result }
+fn read_full<R: Read>(from: &mut R, part: &mut [u8]) -> Input
+    ensures within { Within (length part.new) result }
+    ensures bytes { Filled (R.remaining from.old) (R.remaining from.new) part.new result }
 {
     let mut done = 0;
     while done < part.len() {
@@ -62,9 +74,10 @@ fn read_full(from: &mut impl Read, part: &mut [u8]) -> Input
 
 // Reads the input as far as it decides what is printed.
 #[tactic(auto, using(crate::proofs::Inputs::bytes_within))]
-fn read_due(from: &mut impl Read, buffer: &mut [u8]) -> Input
+fn read_due<R: Read>(from: &mut R, buffer: &mut [u8]) -> Input
     requires { 38664 ≤ length buffer.old }
-    ensures { Within (length buffer.old) result }
+    ensures within { Within (length buffer.old) result }
+    ensures decides { Decides (R.remaining from.old) buffer.new result }
 {
     match read_full(from, &mut buffer[..7]) {
         Input::Bytes(front) => {
@@ -82,8 +95,9 @@ fn read_due(from: &mut impl Read, buffer: &mut [u8]) -> Input
 }
 
 // One write, of at least a byte unless it fails, tried again like a read.
-fn write_some(to: &mut impl Write, part: &[u8]) -> io::Result<usize>
-    ensures { IfOk result (λ n. n ≤ length part.now) }
+fn write_some<W: Write>(to: &mut W, part: &[u8]) -> io::Result<usize>
+    ensures within { IfOk result (λ n. n ≤ length part.now) }
+    ensures bytes { WriteAppends (W.contents to.old) (W.contents to.new) result part.now }
 {
     for _ in 0..u64::MAX {
         match to.write(part) {
@@ -101,7 +115,9 @@ fn write_some(to: &mut impl Write, part: &[u8]) -> io::Result<usize>
 }
 
 // Writes all of the text, or tells why it could not.
-fn write_full(to: &mut impl Write, text: &[u8]) -> io::Result<()> {
+fn write_full<W: Write>(to: &mut W, text: &[u8]) -> io::Result<()>
+    ensures { OnOk result (Appends (W.contents to.old) (W.contents to.new) text.now) }
+{
     let mut done = 0;
     while done < text.len() {
         let put = write_some(to, &text[done..])?;
@@ -113,35 +129,48 @@ fn write_full(to: &mut impl Write, text: &[u8]) -> io::Result<()> {
     Ok(())
 }
 
+// Prints what a text gives.
+fn print<W: Write>(to: &mut W, text: &[u8]) -> io::Result<()>
+    ensures { OnOk result (Appends (W.contents to.old) (W.contents to.new) (program text.now)) }
+{
+    let mut output = [0; 65536];
+    match print_result(text, &mut output) {
+        WriteAnswer::Written(k) => write_full(to, &output[..k]),
+        // Never: the buffer has room for all that is printed.
+        WriteAnswer::WriteRefused(_, _) => Ok(()),
+    }
+}
+
+// Reads a text as far as is due, and prints what it gives.
+#[tactic(auto, using(crate::proofs::Inputs::bytes_within))]
+pub fn answer<R: Read, W: Write>(from: &mut R, to: &mut W) -> Result<(), Failure>
+    ensures printed { OnOk result (IfSome (R.remaining from.old) (λ text. Appends (W.contents to.old) (W.contents to.new) (program text))) }
+    ensures quiet { IfErr result (QuietWhereUnread (W.contents to.old) (W.contents to.new)) }
+{
+    let mut input = [0; 65536];
+    match read_due(from, &mut input) {
+        Input::Bytes(n) => match print(to, &input[..n]) {
+            Ok(()) => Ok(()),
+            Err(why) => Err(Failure::Incomplete(why)),
+        },
+        Input::Lost(why) => Err(Failure::Unread(why)),
+    }
+}
+
 // Says in one line on standard error what went wrong, and why in the system's words, without the number that the system gives it.
-fn fail(rt: &impl Eprint, what: &str, why: io::Error) {
+fn say(rt: &impl Eprint, what: &str, why: io::Error) {
     let mut line = [b' '; 256];
     let mut room: &mut [u8] = &mut line;
     let _ = write!(room, "{why}");
     let words = str::from_utf8(&line).unwrap_or("").trim_end();
     let reason = words.split(" (os error ").next().unwrap_or(words);
-    let _ = eprintln!(rt; "{what}: {reason}");
+    let _ = eprintln!(rt; "solumivaf: {what}: {reason}");
 }
 
-// Prints what a text gives.
-fn print(rt: &(impl Print + Eprint), text: &[u8]) {
-    let mut output = [0; 65536];
-    match print_result(text, &mut output) {
-        WriteAnswer::Written(k) => {
-            if let Err(why) = write_full(&mut io::writer(rt), &output[..k]) {
-                fail(rt, "solumivaf: the output is incomplete", why);
-            }
-        }
-        // Never: the buffer has room for all that is printed.
-        WriteAnswer::WriteRefused(_, _) => {}
-    }
-}
-
-#[tactic(auto, using(crate::proofs::Inputs::bytes_within))]
 fn main(rt: HostRuntime) {
-    let mut input = [0; 65536];
-    match read_due(&mut rt.stdin(), &mut input) {
-        Input::Bytes(n) => print(&rt, &input[..n]),
-        Input::Lost(why) => fail(&rt, "solumivaf: standard input could not be read", why),
+    match answer(&mut rt.stdin(), &mut rt.stdout()) {
+        Ok(()) => {}
+        Err(Failure::Unread(why)) => say(&rt, "standard input could not be read", why),
+        Err(Failure::Incomplete(why)) => say(&rt, "the output is incomplete", why),
     }
 }

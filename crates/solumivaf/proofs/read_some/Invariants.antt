@@ -1,0 +1,6 @@
+-- A read that is interrupted takes nothing. Assumes nothing.
+use Rattle.std.specs.Io.KnownBytes.{Keeps}
+use Rattle.solumivaf.proofs.read_some.Given as goal
+
+abbrev pub invariant-loop : goal.invariant-loop
+invariant-loop g l = Keeps (g.R.Read.remaining l.initial.from) (g.R.Read.remaining l.from)
