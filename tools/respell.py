@@ -7,7 +7,7 @@ What is renamed: every name that a .antt file of crates/ declares, in lower came
 (Tile·open, as tile_open); getD in a name becomes get_or, as the library has it. A part that begins with a capital stays (P1-list, as P1_list),
 and the four kinds of task T-1 to T-4 become t_1 to t_4. Names that a file imports from the library stay. A goal's proof in an old Proof.antt
 gets the goal's name. Must-fail edits are turned with the files that they apply to. Names that fall together in one file are listed.
-It also mends what port.py leaves of the values behind a `&mut`: x.exit.now and x.entry.now of one, as x.new and x.old.
+It also mends what port.py leaves of values behind references: x.exit.now and x.entry.now, as x.new and x.old of a `&mut` and x.now of a `&`.
 """
 
 import os
@@ -160,8 +160,13 @@ def main(argv):
         return new
 
     def borrowed(text):
-        text = re.sub(r"(?<![\w.])(\w+)\.exit\.now\b", r"\1.new", text)
-        return re.sub(r"(?<![\w.])(\w+)\.entry\.now\b", r"\1.old", text)
+        def one(m):
+            # the parameter of the function that the clause stands at
+            at = text.rfind("fn ", 0, m.start())
+            shared = re.search(r"\b" + m.group(1) + r": &(?!mut\b)", text[at : m.start()]) if at >= 0 else None
+            return m.group(1) + (".now" if shared else {"exit": ".new", "entry": ".old"}[m.group(2)])
+
+        return re.sub(r"(?<![\w.])(\w+)\.(exit|entry)\.now\b", one, text)
 
     for p in list(texts(root, (".antt", ".rt", ".edit"))):
         crate = os.path.relpath(p, os.path.join(root, "crates")).split(os.sep)[0]
