@@ -1,6 +1,6 @@
 """Builds the program and the library again in a folder of another name, and compares every byte with the first build (docs/ARCHIVE.md).
 
-What is proved is taken along in the crates' out/, so that only what makes code is done again: each crate's archive, the program, and linking.
+rt begins there with what it kept of the same crates on this machine, so that little more is done again than what makes code: each crate's archive, the program, and linking.
 
 usage: python3 -B -m unittest discover hosts/tests     (from the root, after hosts/build)
 """
@@ -18,11 +18,6 @@ def contents(*path):
         return file.read()
 
 
-def built(folder, names):
-    """What the first build left of the archives and the program, which is made again."""
-    return [name for name in names if os.path.basename(folder) == "out" and (name.endswith(".a") or name == "solumivaf")]
-
-
 class Archive(unittest.TestCase):
     def test_two_folders(self):
         folder = os.path.join(ROOT, "target", "again", "a folder of another name")
@@ -30,8 +25,8 @@ class Archive(unittest.TestCase):
         shutil.rmtree(os.path.dirname(folder), ignore_errors=True)
         os.makedirs(folder)
         shutil.copy(os.path.join(ROOT, "crates.txt"), folder)
-        shutil.copytree(os.path.join(ROOT, "hosts"), os.path.join(folder, "hosts"), ignore=shutil.ignore_patterns("target"))
-        shutil.copytree(os.path.join(ROOT, "crates"), os.path.join(folder, "crates"), ignore=built)
+        for name in ("crates", "hosts"):
+            shutil.copytree(os.path.join(ROOT, name), os.path.join(folder, name), ignore=shutil.ignore_patterns("target", "out"))
         for part in ("program", "library"):
             done = subprocess.run(["hosts/build", part], cwd=folder, stdout=subprocess.PIPE, stderr=subprocess.STDOUT, universal_newlines=True)
             self.assertEqual(done.returncode, 0, done.stdout[-2000:])
