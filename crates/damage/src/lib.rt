@@ -78,7 +78,8 @@ fn bad_records(z: Sizes, records: &[Record], workers: Slots, number: u32) -> boo
         }
         let mut most = free_limits(z, found.mark);
         if (found.mark == 1) | (found.ties != 0) {
-            if found.mark == 1 {
+            let taken = found.mark == 1;
+            if taken {
                 most = held_limits(z, workers, p);
             }
             if !most.held | (most.ties < found.ties as usize) {

@@ -73,8 +73,8 @@ pub fn update_rows(
             q += 1;
         }
         while q < w {
-            if !row_four(m, at + q, top + q, by) {
-                ok = false;
+            ok = row_four(m, at + q, top + q, by);
+            if !ok {
                 break 'rows;
             }
             q += 4;

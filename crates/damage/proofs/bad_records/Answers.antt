@@ -28,7 +28,7 @@ use Rattle.records.proofs.Laws.{get_mark}
 use Rattle.holds.specs.Allowed.{Allowed}
 use Rattle.damage.proofs.Laws.{name_before, state, bad, outer, inner, bad_outer, bad_inner, not_bad, quiet, calls_by, found_bad, found_none, number_first, outer_tested, inner_tested}
 use Rattle.damage.proofs.bad_records.Goals as goal
-use Rattle.damage.proofs.bad_records.Goals.{then-found+else-most-found, then-found-eq1, else-found-eq1, else-found}
+use Rattle.damage.proofs.bad_records.Goals.{then-found+else-most-found, then-taken, else-taken, else-found}
 
 pub task_count-count-requires : goal.task_count-count-requires
 task_count-count-requires c =
@@ -79,9 +79,9 @@ returns-then-most-found c =
     let a = c.args in
     let p = c.loop-p.p in
     let m : c.record_at-found.result.mark ≡ mark (marks_from a.records.now) p = ap (λ (x : TaskRecord). x.mark) c.record_at-found.ensures ∙ sym (get_mark a.records.now p) in
-    let allowed : Allowed a.z a.records.now a.workers p c.if-found-eq1.most = elim c.if-found-eq1.branch [
-      | then-found-eq1 v ↦ subst (Allowed a.z a.records.now a.workers p) (sym v.most-is) (v.held_limits-most.ensures a.records.now (sym v.if-found-eq1.true ∙ m))
-      | else-found-eq1 v ↦ subst (Allowed a.z a.records.now a.workers p) (sym v.most-is) (c.free_limits-most.ensures a.records.now a.workers p m v.if-found-eq1.false)
+    let allowed : Allowed a.z a.records.now a.workers p c.if-taken.most = elim c.if-taken.branch [
+      | then-taken v ↦ subst (Allowed a.z a.records.now a.workers p) (sym v.most-is) (v.held_limits-most.ensures a.records.now (sym v.if-taken.true ∙ m))
+      | else-taken v ↦ subst (Allowed a.z a.records.now a.workers p) (sym v.most-is) (c.free_limits-most.ensures a.records.now a.workers p m v.if-taken.false)
     ] in
     found_bad a.z a.records.now a.workers a.number
     (some_stops _ _ _ _ c.loop-p-test.true c.loop-p.invariant.3
@@ -95,9 +95,9 @@ overflow_add-calls c =
     let m : c.record_at-found.result.mark ≡ mark (marks_from a.records.now) p = ap (λ (x : TaskRecord). x.mark) f ∙ sym (get_mark a.records.now p) in
     let passed : Allowed a.z a.records.now a.workers p c.if-found.most × (inner a.z a.records.now a.workers a.number p ≡ false) = elim c.if-found.branch [
       | then-found+else-most-found w ↦
-          let allowed : Allowed a.z a.records.now a.workers p w.if-found-eq1.most = elim w.if-found-eq1.branch [
-            | then-found-eq1 v ↦ subst (Allowed a.z a.records.now a.workers p) (sym v.most-is) (v.held_limits-most.ensures a.records.now (sym v.if-found-eq1.true ∙ m))
-            | else-found-eq1 v ↦ subst (Allowed a.z a.records.now a.workers p) (sym v.most-is) (c.free_limits-most.ensures a.records.now a.workers p m v.if-found-eq1.false)
+          let allowed : Allowed a.z a.records.now a.workers p w.if-taken.most = elim w.if-taken.branch [
+            | then-taken v ↦ subst (Allowed a.z a.records.now a.workers p) (sym v.most-is) (v.held_limits-most.ensures a.records.now (sym v.if-taken.true ∙ m))
+            | else-taken v ↦ subst (Allowed a.z a.records.now a.workers p) (sym v.most-is) (c.free_limits-most.ensures a.records.now a.workers p m v.if-taken.false)
           ] in (
             subst (Allowed a.z a.records.now a.workers p) (sym w.most-is) allowed,
             sym (inner_tested a.z a.records.now a.workers a.number p _ allowed _ f) ∙ w.if-most-found.false,
@@ -134,9 +134,9 @@ loop-p-preserved c =
     let m : c.record_at-found.result.mark ≡ mark (marks_from a.records.now) p = ap (λ (x : TaskRecord). x.mark) f ∙ sym (get_mark a.records.now p) in
     let passed : Allowed a.z a.records.now a.workers p c.if-found.most × (inner a.z a.records.now a.workers a.number p ≡ false) = elim c.if-found.branch [
       | then-found+else-most-found w ↦
-          let allowed : Allowed a.z a.records.now a.workers p w.if-found-eq1.most = elim w.if-found-eq1.branch [
-            | then-found-eq1 v ↦ subst (Allowed a.z a.records.now a.workers p) (sym v.most-is) (v.held_limits-most.ensures a.records.now (sym v.if-found-eq1.true ∙ m))
-            | else-found-eq1 v ↦ subst (Allowed a.z a.records.now a.workers p) (sym v.most-is) (c.free_limits-most.ensures a.records.now a.workers p m v.if-found-eq1.false)
+          let allowed : Allowed a.z a.records.now a.workers p w.if-taken.most = elim w.if-taken.branch [
+            | then-taken v ↦ subst (Allowed a.z a.records.now a.workers p) (sym v.most-is) (v.held_limits-most.ensures a.records.now (sym v.if-taken.true ∙ m))
+            | else-taken v ↦ subst (Allowed a.z a.records.now a.workers p) (sym v.most-is) (c.free_limits-most.ensures a.records.now a.workers p m v.if-taken.false)
           ] in (
             subst (Allowed a.z a.records.now a.workers p) (sym w.most-is) allowed,
             sym (inner_tested a.z a.records.now a.workers a.number p _ allowed _ f) ∙ w.if-most-found.false,

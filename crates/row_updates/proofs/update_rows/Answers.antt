@@ -115,8 +115,8 @@ pub overflow_add-top-in-loop-q-2 : goal.overflow_add-top-in-loop-q-2
 overflow_add-top-in-loop-q-2 c =
     omega (arith, row_end _ _ c.args.w c.rows-test.true)
 
-pub row_four-requires : goal.row_four-requires
-row_four-requires c =
+pub row_four-ok-requires : goal.row_four-ok-requires
+row_four-ok-requires c =
     omega (arith, row_end _ _ c.args.w c.rows-test.true)
 
 pub overflow_add-q-in-loop-q-2 : goal.overflow_add-q-in-loop-q-2
@@ -133,10 +133,10 @@ loop-q-2-preserved c =
     let l = c.loop-q-2 in (
       omega arith,
       omega arith,
-      l.invariant.2,
+      c.if-not-ok.false,
       omega arith,
-      row_more _ _ _ _ _ _ _ l.invariant.4 _ _ _ c.row_four.ensures l.invariant.0 (λ k h. top_clear _ _ _ _ c.requires.fact _ row _ (omega arith) _ (omega arith))
-          c.if-not-row_four.false,
+      row_more _ _ _ _ _ _ _ l.invariant.4 _ _ _ c.row_four-ok.ensures l.invariant.0 (λ k h. top_clear _ _ _ _ c.requires.fact _ row _ (omega arith) _ (omega arith))
+          c.if-not-ok.false,
     )
 
 pub overflow_add-r-in-rows : goal.overflow_add-r-in-rows
@@ -182,17 +182,17 @@ returns-then-not-row_one c =
     c.row_one.ensures (top_kept _ _ _ _ c.requires.fact _ row) (λ k h. top_clear _ _ _ _ c.requires.fact _ row _ (omega arith) _ (omega arith)) row l.invariant.0 (omega arith)
     c.if-not-row_one.true
 
-pub shape_of-m-then-not-row_four : goal.shape_of-m-then-not-row_four
-shape_of-m-then-not-row_four c =
-    c.row_four.ensures.long ∙ c.loop-q-2.invariant.4.stored.long ∙ c.loop-q.invariant.3.stored.long ∙ c.rows.invariant.2.stored.long
+pub shape_of-m-then-not-ok : goal.shape_of-m-then-not-ok
+shape_of-m-then-not-ok c =
+    c.row_four-ok.ensures.long ∙ c.loop-q-2.invariant.4.stored.long ∙ c.loop-q.invariant.3.stored.long ∙ c.rows.invariant.2.stored.long
 
-pub returns-then-not-row_four : goal.returns-then-not-row_four
-returns-then-not-row_four c =
+pub returns-then-not-ok : goal.returns-then-not-ok
+returns-then-not-ok c =
     let row = c.rows-test.true in
     let rows = c.rows in
     let l = c.loop-q in
     let four = c.loop-q-2 in
-    rows_stop _ _ _ _ _ _ _ c.requires.w_le_most_side.1 c.requires.w_le_most_side.3 c.requires.m_value _ _ _ _ _ _ _ _ (multiplier_same _ _ _ _ _ _ _ _ _ c.requires.w_in_bounds.1 row rows.invariant.2) rows.invariant.2
+    rw c.if-not-ok.true (rows_stop _ _ _ _ _ _ _ c.requires.w_le_most_side.1 c.requires.w_le_most_side.3 c.requires.m_value _ _ _ _ _ _ _ _ (multiplier_same _ _ _ _ _ _ _ _ _ c.requires.w_in_bounds.1 row rows.invariant.2) rows.invariant.2
     (row_join _ _ _ _ _ _ _ l.invariant.3 _ _ l.invariant.0 four.invariant.0 (λ k g h. top_clear _ _ _ _ c.requires.fact _ row _ (omega arith) _ (omega arith)) four.invariant.4)
-    c.row_four.ensures (top_kept _ _ _ _ c.requires.fact _ row) (λ k h. top_clear _ _ _ _ c.requires.fact _ row _ (omega arith) _ (omega arith)) row (omega arith) (omega arith)
-    c.if-not-row_four.true
+    c.row_four-ok.ensures (top_kept _ _ _ _ c.requires.fact _ row) (λ k h. top_clear _ _ _ _ c.requires.fact _ row _ (omega arith) _ (omega arith)) row (omega arith) (omega arith)
+    c.if-not-ok.true)
