@@ -1,6 +1,9 @@
 // The types that the definitions in specs/ and the code share. The definitions are document 01's, section by section.
 #![tactic(auto)]
 
+ghost use Rattle.std.specs.Prelude.{◌≡◌};
+ghost use Rattle.model.specs.Answer.{rule_number, refusal};
+
 use worker::Workers;
 
 // The largest N, t and N·t. The largest W is worker::SLOTS.
@@ -51,7 +54,7 @@ pub struct Pivot {
 }
 
 // How a column ends: with the ties of its pivot where it is completed and its task goes on or is done, and else with a failed or a spoiled task.
-#[derive(Clone, Copy)]
+#[derive(Clone, Copy, Debug, PartialEq, Eq)]
 pub enum ColumnEnd {
     GoesOn(u16),
     Done(u16),
@@ -59,69 +62,115 @@ pub enum ColumnEnd {
     Spoiled,
 }
 
-// What a call answers: that it was accepted, or a refusal's number and place.
-#[derive(Clone, Copy)]
-pub enum Answer {
-    Accepted,
-    Refused(u8, usize),
+// The rules that a call or a text can break, in the order of their numbers.
+#[derive(Clone, Copy, Debug, PartialEq, Eq)]
+pub enum Rule {
+    BadSizes,
+    BadLengths,
+    NotFinite,
+    Damaged,
+    WrongWorker,
+    NoTask,
+    NotReady,
+    NotFinished,
+    TaskOverflow,
+    RowSingular,
+    NotSolved,
+    Malformed,
+    WrongFrame,
+    WrongEnd,
+    NoRoom,
 }
 
-// What a whole run answers: finished or spent, with the count of its calls, or a refusal's number and place.
-#[derive(Clone, Copy)]
-pub enum RunAnswer {
+// Why a call does nothing: the rule that is broken, and the place.
+#[derive(Clone, Copy, Debug, PartialEq, Eq)]
+pub struct Refusal {
+    pub rule: Rule,
+    pub place: usize,
+}
+
+impl Rule {
+    // The number that hosts and files know the rule by.
+    pub fn number(self) -> u8
+        ensures { result ≡ rule_number self }
+    {
+        match self {
+            Rule::BadSizes => 1,
+            Rule::BadLengths => 2,
+            Rule::NotFinite => 3,
+            Rule::Damaged => 4,
+            Rule::WrongWorker => 5,
+            Rule::NoTask => 6,
+            Rule::NotReady => 7,
+            Rule::NotFinished => 8,
+            Rule::TaskOverflow => 9,
+            Rule::RowSingular => 10,
+            Rule::NotSolved => 11,
+            Rule::Malformed => 12,
+            Rule::WrongFrame => 13,
+            Rule::WrongEnd => 14,
+            Rule::NoRoom => 15,
+        }
+    }
+
+    // The refusal by this rule at a place.
+    pub fn at(self, place: usize) -> Refusal
+        ensures { result ≡ refusal self place }
+    {
+        Refusal { rule: self, place }
+    }
+}
+
+// What an opening, a take, a column and a solve answer.
+pub type Answer = Result<(), Refusal>;
+
+// How a whole run ends that is not refused: finished or spent, with the count of its calls.
+#[derive(Clone, Copy, Debug, PartialEq, Eq)]
+pub enum RunStop {
     Finished(u64),
     Spent(u64),
-    RunRefused(u8, usize),
 }
 
+pub type RunAnswer = Result<RunStop, Refusal>;
+
 // The outcome: good, overflow at a task, or singular at a row.
-#[derive(Clone, Copy)]
+#[derive(Clone, Copy, Debug, PartialEq, Eq)]
 pub enum Outcome {
     Good,
     Overflow(u16),
     Singular(u16),
 }
 
-// What the outcome call answers: the outcome, the lowest task that is unfinished, or a refusal's number and place.
-#[derive(Clone, Copy)]
-pub enum OutcomeAnswer {
+// How far a system has come: its outcome, or the lowest task that is unfinished.
+#[derive(Clone, Copy, Debug, PartialEq, Eq)]
+pub enum Standing {
     Known(Outcome),
     Unfinished(usize),
-    OutcomeRefused(u8, usize),
 }
 
-// What a backward row of a solve gives: a number, or that some number on the way is not finite.
-#[derive(Clone, Copy)]
-pub enum Row {
-    Number(f64),
-    NotFinite,
-}
+pub type OutcomeAnswer = Result<Standing, Refusal>;
 
-// What a writer answers: the length written, or a refusal's number and place.
-#[derive(Clone, Copy)]
-pub enum WriteAnswer {
-    Written(usize),
-    WriteRefused(u8, usize),
-}
+// What a writer answers: the length written.
+pub type WriteAnswer = Result<usize, Refusal>;
 
-// What a reader answers: N and t of a system; N, t and the outcome of a result; or a refusal's number and place.
-#[derive(Clone, Copy)]
-pub enum ReadAnswer {
+// What was read: N and t of a system; N, t and the outcome of a result.
+#[derive(Clone, Copy, Debug, PartialEq, Eq)]
+pub enum FileRead {
     SystemRead(usize, usize),
     ResultRead(usize, usize, Outcome),
-    ReadRefused(u8, usize),
 }
 
-// What an opening, a take or a column hands back: its answer, and the workers.
+pub type ReadAnswer = Result<FileRead, Refusal>;
+
+// What a call hands back that may change the workers: its answer, and the workers.
 #[derive(Clone, Copy)]
-pub struct CallReply {
-    pub answer: Answer,
+pub struct Reply<A> {
+    pub answer: A,
     pub workers: Workers,
 }
 
-// What a whole run hands back: its answer, and the workers.
-#[derive(Clone, Copy)]
-pub struct RunReply {
-    pub answer: RunAnswer,
-    pub workers: Workers,
-}
+// Of an opening, a take or a column.
+pub type CallReply = Reply<Answer>;
+
+// Of a whole run.
+pub type RunReply = Reply<RunAnswer>;
