@@ -1,11 +1,11 @@
 -- What accepted calls do: opening, take, column, and a whole run. Document 01, sections "The system and its buffers" and
 -- "The outcome, and solving". Assumes nothing.
-use Rattle.std.specs.Prelude.{ℕ, zero, suc, ◌+◌, ◌%◌, Bool, true, false, cond, not, ◌&&◌, ◌||◌, List, map, length, get_or, set, replicate, eqb, Float}
+use Rattle.std.specs.Prelude.{Ok, ℕ, zero, suc, ◌+◌, ◌%◌, Bool, true, false, cond, not, ◌&&◌, ◌||◌, List, map, length, get_or, set, replicate, eqb, Float}
 use Rattle.model.specs.declared.TaskRecord.{TaskRecord}
 use Rattle.worker.specs.declared.Worker.{Worker}
 use Rattle.worker.specs.Holding.{idle, holding}
-use Rattle.model.specs.declared.RunAnswer.{RunAnswer}
-use Rattle.model.specs.declared.RunAnswer.TheVariants.{Finished, Spent}
+use Rattle.model.specs.Answer.{RunAnswer}
+use Rattle.model.specs.declared.RunStop.TheVariants.{Finished, Spent}
 use Rattle.model.specs.Lists.{below, every, keep, first_or}
 use Rattle.model.specs.Task.{Task, t_1, kind_of, k_of, i_of, j_of}
 use Rattle.model.specs.Plan.{Plan}
@@ -139,11 +139,11 @@ module _ (z : Plan) where
 
   -- b calls are left of the budget, n have been made, and the turn is worker w's
   unfoldable pub run_from : ℕ → ℕ → ℕ → ℕ → Lent → RunEnd
-  run_from W zero n w s = record { answer = cond (all_finished s) (Finished n) (Spent n); left = s }
+  run_from W zero n w s = record { answer = cond (all_finished s) (Ok (Finished n)) (Ok (Spent n)); left = s }
   run_from W (suc b) n w s =
       let v = next_worker W w s in
       elim (all_finished s) [
-        | true ↦ record { answer = Finished n; left = s }
+        | true ↦ record { answer = Ok (Finished n); left = s }
         | false ↦ run_from W b (suc n) (suc v % W) (turn v s)
       ]
 

@@ -1,14 +1,13 @@
 -- What opening, take, column, run and outcome calls answer and leave: the refusals of document 01's table in their order, and else
 -- what an accepted call does. A refusal changes nothing. Assumes nothing.
-use Rattle.std.specs.Prelude.{ℕ, suc, ◌-◌, ◌*◌, ◌/◌, ◌%◌, Bool, true, false, cond, not, ◌&&◌, ◌||◌, List, map, length, get_or, eqb, leb, ltb, Float}
+use Rattle.std.specs.Prelude.{Ok, Err, ℕ, suc, ◌-◌, ◌*◌, ◌/◌, ◌%◌, Bool, true, false, cond, not, ◌&&◌, ◌||◌, List, map, length, get_or, eqb, leb, ltb, Float}
 use Rattle.std.specs.Float.{nan}
 use Rattle.model.specs.declared.Sizes.{Sizes}
 use Rattle.worker.specs.declared.Worker.{Worker}
-use Rattle.model.specs.declared.Answer.{Answer}
-use Rattle.model.specs.declared.Answer.TheVariants.{Accepted, Refused}
-use Rattle.model.specs.declared.RunAnswer.TheVariants.{RunRefused}
-use Rattle.model.specs.declared.OutcomeAnswer.{OutcomeAnswer}
-use Rattle.model.specs.declared.OutcomeAnswer.TheVariants.{Known, Unfinished, OutcomeRefused}
+use Rattle.model.specs.Answer.{Answer, OutcomeAnswer, rule_number, accepted, refused_by}
+use Rattle.model.specs.declared.Rule.{Rule}
+use Rattle.model.specs.declared.Rule.TheVariants.{BadSizes, BadLengths, NotFinite, Damaged, WrongWorker, NoTask, NotReady}
+use Rattle.model.specs.declared.Standing.TheVariants.{Known, Unfinished}
 use Rattle.model.specs.Limits.{most_tiles, most_side, most_workers}
 use Rattle.model.specs.Lists.{below, some, keep, first_or, total}
 use Rattle.model.specs.Num.{finite}
@@ -23,8 +22,8 @@ use Rattle.model.specs.Calls.{Lent, RunEnd, marks_of, ties_of, state_of, record_
 -- ---- the form of the table: a row's number, its place, and when it is given; the first row that holds decides
 
 infixr 10 ◌otherwise◌
-unfoldable pub refuse : ℕ → ℕ → Bool → Answer → Answer
-refuse n x true r = Refused n x
+unfoldable pub refuse : Rule → ℕ → Bool → Answer → Answer
+refuse n x true r = refused_by n x
 refuse n x false r = r
 
 abbrev pub ◌otherwise◌ : (Answer → Answer) → Answer → Answer
@@ -32,12 +31,12 @@ f otherwise r = f r
 
 -- the refusal's number and place: both 0 where the call is accepted
 abbrev pub answer_number : Answer → ℕ
-answer_number Accepted = 0
-answer_number (Refused n x) = n
+answer_number (Ok _) = 0
+answer_number (Err why) = rule_number why.rule
 
 abbrev pub answer_place : Answer → ℕ
-answer_place Accepted = 0
-answer_place (Refused n x) = x
+answer_place (Ok _) = 0
+answer_place (Err why) = why.place
 
 -- a call's answer, and what it leaves
 pub record Reply : Type 0 where
@@ -45,16 +44,16 @@ pub record Reply : Type 0 where
   pub left : Lent
 
 unfoldable pub replied : Answer → Lent → Lent → Reply
-replied Accepted old new = record { answer = Accepted; left = new }
-replied (Refused n x) old new = record { answer = Refused n x; left = old }
+replied (Ok _) old new = record { answer = accepted; left = new }
+replied (Err why) old new = record { answer = Err why; left = old }
 
 unfoldable pub run_replied : Answer → Lent → RunEnd → RunEnd
-run_replied Accepted old e = e
-run_replied (Refused n x) old e = record { answer = RunRefused n x; left = old }
+run_replied (Ok _) old e = e
+run_replied (Err why) old e = record { answer = Err why; left = old }
 
 unfoldable pub outcome_replied : Answer → OutcomeAnswer → OutcomeAnswer
-outcome_replied Accepted r = r
-outcome_replied (Refused n x) r = OutcomeRefused n x
+outcome_replied (Ok _) r = r
+outcome_replied (Err why) r = Err why
 
 -- ---- when each is given
 
@@ -156,57 +155,57 @@ module _ (z : Plan) where
 module _ (z : Sizes) where
   unfoldable pub open_answer : Lent → Answer
   open_answer s =
-      refuse 1 0 (bad_sizes z)
-      otherwise refuse 2 0 (bad_lengths (plan_of z) z.workers s)
-      otherwise refuse 3 (first_not_finite s.buffers.matrix) (not (all_finite s.buffers.matrix))
-      otherwise Accepted
+      refuse BadSizes 0 (bad_sizes z)
+      otherwise refuse BadLengths 0 (bad_lengths (plan_of z) z.workers s)
+      otherwise refuse NotFinite (first_not_finite s.buffers.matrix) (not (all_finite s.buffers.matrix))
+      otherwise accepted
 
   unfoldable pub open_call : Lent → Reply
   open_call s = replied (open_answer s) s (opened (plan_of z) z.workers s.buffers.matrix)
 
   unfoldable pub take_answer : ℕ → ℕ → Lent → Answer
   take_answer w p s =
-      refuse 1 0 (bad_sizes z)
-      otherwise refuse 2 0 (bad_lengths (plan_of z) z.workers s)
-      otherwise refuse 4 0 (damaged (plan_of z) s)
-      otherwise refuse 5 w (no_worker w s || (worker s w).busy)
-      otherwise refuse 6 0 (leb (length (plan_of z).tasks) p)
-      otherwise refuse 7 p (not (ready (plan_of z).tasks (marks_of s) p))
-      otherwise Accepted
+      refuse BadSizes 0 (bad_sizes z)
+      otherwise refuse BadLengths 0 (bad_lengths (plan_of z) z.workers s)
+      otherwise refuse Damaged 0 (damaged (plan_of z) s)
+      otherwise refuse WrongWorker w (no_worker w s || (worker s w).busy)
+      otherwise refuse NoTask 0 (leb (length (plan_of z).tasks) p)
+      otherwise refuse NotReady p (not (ready (plan_of z).tasks (marks_of s) p))
+      otherwise accepted
 
   unfoldable pub take_call : ℕ → ℕ → Lent → Reply
   take_call w p s = replied (take_answer w p s) s (took (plan_of z) w p s)
 
   unfoldable pub column_answer : ℕ → Lent → Answer
   column_answer w s =
-      refuse 1 0 (bad_sizes z)
-      otherwise refuse 2 0 (bad_lengths (plan_of z) z.workers s)
-      otherwise refuse 4 0 (damaged (plan_of z) s || bad_tiles (plan_of z) w s)
-      otherwise refuse 5 w (no_worker w s || not (worker s w).busy)
-      otherwise Accepted
+      refuse BadSizes 0 (bad_sizes z)
+      otherwise refuse BadLengths 0 (bad_lengths (plan_of z) z.workers s)
+      otherwise refuse Damaged 0 (damaged (plan_of z) s || bad_tiles (plan_of z) w s)
+      otherwise refuse WrongWorker w (no_worker w s || not (worker s w).busy)
+      otherwise accepted
 
   unfoldable pub column_call : ℕ → Lent → Reply
   column_call w s = replied (column_answer w s) s (advanced (plan_of z) w s)
 
   unfoldable pub run_answer : Lent → Answer
   run_answer s =
-      refuse 1 0 (bad_sizes z)
-      otherwise refuse 2 0 (bad_lengths (plan_of z) z.workers s)
-      otherwise refuse 4 0 (damaged (plan_of z) s || not (all_finite s.buffers.matrix))
-      otherwise Accepted
+      refuse BadSizes 0 (bad_sizes z)
+      otherwise refuse BadLengths 0 (bad_lengths (plan_of z) z.workers s)
+      otherwise refuse Damaged 0 (damaged (plan_of z) s || not (all_finite s.buffers.matrix))
+      otherwise accepted
 
   unfoldable pub run_call : ℕ → Lent → RunEnd
   run_call budget s = run_replied (run_answer s) s (whole_run (plan_of z) z.workers budget s)
 
   -- What the outcome call answers of a system: its outcome once every task is finished, and before that the lowest unfinished task. It changes nothing
   unfoldable pub outcome_found : Lent → OutcomeAnswer
-  outcome_found s = first_or (unfinished (plan_of z) s) Unfinished (Known (outcome (plan_of z) (state_of s)))
+  outcome_found s = first_or (unfinished (plan_of z) s) (λ p. Ok (Unfinished p)) (Ok (Known (outcome (plan_of z) (state_of s))))
 
   unfoldable pub outcome_call : Lent → OutcomeAnswer
   outcome_call s = outcome_replied (
-      refuse 1 0 (bad_sizes z)
-      otherwise refuse 2 0 (bad_lengths (plan_of z) z.workers s)
-      otherwise Accepted) (outcome_found s)
+      refuse BadSizes 0 (bad_sizes z)
+      otherwise refuse BadLengths 0 (bad_lengths (plan_of z) z.workers s)
+      otherwise accepted) (outcome_found s)
 
 unfoldable pub refusal_open : Unit {0}
 unfolding calls_open refuse replied run_replied outcome_replied inside bad_sizes first_not_finite no_worker bad_lengths next_column bad_record holds bad_hold tie_limit bad_ties bad_calls call_limit bad_number bad_worker entry_limit bad_entry damaged bad_tiles unfinished open_answer open_call take_answer take_call column_answer column_call run_answer run_call outcome_found outcome_call
