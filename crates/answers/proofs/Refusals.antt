@@ -1,7 +1,7 @@
 -- Chains of refusals, and what a call that passes refusals 1 and 2 may count on. Assumes nothing.
 use Prim.Native.Nat.{ℕ, ◌*◌}
 use mathlib.Core.Bool.{Bool, true, false, ◌&&◌}
-use mathlib.Core.Path.{◌≡◌, refl, sym, ◌∙◌}
+use mathlib.Core.Path.{◌≡◌, refl, sym, ap, ◌∙◌}
 use mathlib.Core.List.{List}
 use lib.Dec.{eqb}
 use lib.Ieee.{Float}
@@ -9,8 +9,11 @@ use lib.ListN.{length}
 use borrow.Author.Tests.{eqb-true, not-false}
 use Rattle.model.specs.declared.Sizes.{Sizes}
 use Rattle.worker.specs.declared.Worker.{Worker}
-use Rattle.model.specs.declared.Answer.{Answer}
-use Rattle.model.specs.declared.Answer.TheVariants.{Accepted, Refused}
+use Rattle.std.specs.Prelude.{Result, Ok, Err, IsErrAnd}
+use Rattle.std.proofs.lemmas.Result.{err_from_is_err_and}
+use Rattle.model.specs.declared.Refusal.{Refusal}
+use Rattle.model.specs.Answer.{Answer, accepted, refused_by}
+use Rattle.model.specs.declared.Rule.{Rule}
 use Rattle.model.specs.Lengths.{LentFits}
 use Rattle.model.specs.Task.{tasks}
 use Rattle.model.specs.Plan.{plan, plan_of, order}
@@ -23,27 +26,40 @@ use Rattle.answers.specs.Answers.{accepts}
 
 -- ---- one row of the table
 
-pub refuses : (n x : ℕ) (b : Bool) (r : Answer) → b ≡ true → refuse n x b r ≡ Refused n x
+pub refuses : (n : Rule) (x : ℕ) (b : Bool) (r : Answer) → b ≡ true → refuse n x b r ≡ refused_by n x
 unfolding refuse
 refuses n x true r e = refl
 refuses n x false r e = never e refl
 
-pub passes : (n x : ℕ) (b : Bool) (r : Answer) → b ≡ false → refuse n x b r ≡ r
+pub passes : (n : Rule) (x : ℕ) (b : Bool) (r : Answer) → b ≡ false → refuse n x b r ≡ r
 unfolding refuse
 passes n x true r e = never refl e
 passes n x false r e = refl
 
 -- ---- an answer that accepts, and one that doesn't
 
-pub is_accepted : (a : Answer) (b : Bool) → b ≡ accepts a → b ≡ true → a ≡ Accepted
+pub is_accepted : (a : Answer) (b : Bool) → b ≡ accepts a → b ≡ true → a ≡ accepted
 unfolding accepts
-is_accepted Accepted b e q = refl
-is_accepted (Refused n x) b e q = never (sym e ∙ q) refl
+is_accepted (Ok _) b e q = refl
+is_accepted (Err why) b e q = never (sym e ∙ q) refl
 
 pub not_accepted : (a : Answer) (b : Bool) (old new : Lent) → b ≡ accepts a → b ≡ false → ◌≡◌ {A = Reply} (record { answer = a; left = old }) (replied a old new)
 unfolding accepts replied
-not_accepted Accepted b old new e q = never refl (sym e ∙ q)
-not_accepted (Refused n x) b old new e q = refl
+not_accepted (Ok _) b old new e q = never refl (sym e ∙ q)
+not_accepted (Err why) b old new e q = refl
+
+-- ---- an answer that `?` passes on, and one that it lets through
+
+pub passed_on : {A B : Type 0} (r : Result A Refusal) (a : Result B Refusal) (why : Refusal) → IsErrAnd r (λ d. d ≡ why) → a ≡ Err why → r ≡ Err why
+passed_on r a why h e = let p = err_from_is_err_and r h in p.1 ∙ ap Err p.2
+
+pub accepts_ok : (a : Answer) (u : Unit {0}) → a ≡ Ok u → accepts a ≡ true
+unfolding accepts
+accepts_ok a u e = ap accepts e
+
+pub accepts_err : (a : Answer) (why : Refusal) → a ≡ Err why → accepts a ≡ false
+unfolding accepts
+accepts_err a why e = ap accepts e
 
 -- ---- lengths
 

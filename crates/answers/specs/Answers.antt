@@ -1,8 +1,7 @@
 -- Whether an answer accepts its call. Assumes nothing.
-use Rattle.std.specs.Prelude.{Bool, true, false}
-use Rattle.model.specs.declared.Answer.{Answer}
-use Rattle.model.specs.declared.Answer.TheVariants.{Accepted, Refused}
+use Rattle.std.specs.Prelude.{Ok, Err, Bool, true, false}
+use Rattle.model.specs.Answer.{Answer}
 
 unfoldable pub accepts : Answer → Bool
-accepts Accepted = true
-accepts (Refused n x) = false
+accepts (Ok _) = true
+accepts (Err why) = false

@@ -10,8 +10,5 @@ use model::Answer;
 pub fn accepted(answer: Answer) -> bool
     ensures { result ≡ accepts answer }
 {
-    match answer {
-        Answer::Accepted => true,
-        Answer::Refused(_, _) => false,
-    }
+    answer.is_ok()
 }

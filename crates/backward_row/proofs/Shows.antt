@@ -5,7 +5,7 @@ use mathlib.Core.List.{List, [], ◌∷◌}
 use Prim.Native.Nat.{ℕ}
 use lib.ListN.{get_or}
 use lib.Ieee.{Float, nan, binary64, sub, mul}
-use Rattle.model.specs.declared.Row.TheVariants.{Number, NotFinite}
+use Rattle.std.specs.Prelude.{Option, Some, None}
 use Rattle.model.specs.Lists.{every}
 use Rattle.model.specs.Num.{finite, is_zero, update, update_computes, quotient}
 use Rattle.model.specs.Column.{beyond}
@@ -39,22 +39,22 @@ module _ (z : Plan) (s : Buffers) (x : ℕ) (y : List Float) where
 
   -- the row by its quotient v alone, where the diagonal is finite
   module _ (diagonal : finite (coefficient z s x x) ≡ true) (v : Float) (is : v ≡ row_value z s x y) where
-    pub row_number_lem : finite v ≡ true → Number v ≡ row z s x y
+    pub row_number_lem : finite v ≡ true → Some v ≡ row z s x y
     unfolding row row_value
     row_number_lem h =
         let left = row_left z s x y (beyond (order z) x) (get_or y x nan) in
         let f = (quotient_of_finite left (coefficient z s x x) diagonal (ap finite (sym is) ∙ h)).0 in
         let all = (left_shows (beyond (order z) x) (get_or y x nan) f).1 in
-        rw (all, ap finite (sym is) ∙ h, row) (ap Number is)
+        rw (all, ap finite (sym is) ∙ h, row) (ap Some is)
 
-    pub row_not_finite : finite v ≡ false → NotFinite ≡ row z s x y
+    pub row_not_finite : finite v ≡ false → None ≡ row z s x y
     unfolding row row_value
     row_not_finite h = go (every finite (row_computed z s x y (beyond (order z) x) (get_or y x nan))) (ap finite (sym is) ∙ h)
       where
         go : (b : Bool) → finite (quotient (row_left z s x y (beyond (order z) x) (get_or y x nan)) (coefficient z s x x)) ≡ false
-            → NotFinite ≡ elim (b && finite (quotient (row_left z s x y (beyond (order z) x) (get_or y x nan)) (coefficient z s x x))) [
-              | true ↦ Number (quotient (row_left z s x y (beyond (order z) x) (get_or y x nan)) (coefficient z s x x))
-              | false ↦ NotFinite
-            ]
+            → ◌≡◌ {A = Option Float} None (elim (b && finite (quotient (row_left z s x y (beyond (order z) x) (get_or y x nan)) (coefficient z s x x))) [
+              | true ↦ Some (quotient (row_left z s x y (beyond (order z) x) (get_or y x nan)) (coefficient z s x x))
+              | false ↦ None
+            ])
         go true e = rw e
         go false e = refl

@@ -1,12 +1,11 @@
 -- The workers that the functions for bench/ make, and what a run and an outcome call tell as a number. Assumes nothing.
-use Rattle.std.specs.Prelude.{ℕ, set, replicate}
+use Rattle.std.specs.Prelude.{Ok, Err, ℕ, set, replicate}
 use Rattle.worker.specs.declared.Workers.{Workers}
-use Rattle.model.specs.declared.RunAnswer.{RunAnswer}
-use Rattle.model.specs.declared.RunAnswer.TheVariants.{Finished, Spent, RunRefused}
+use Rattle.model.specs.Answer.{OutcomeAnswer, RunAnswer}
+use Rattle.model.specs.declared.RunStop.TheVariants.{Finished, Spent}
+use Rattle.model.specs.declared.Standing.TheVariants.{Known, Unfinished}
 use Rattle.model.specs.declared.Outcome.{Outcome}
 use Rattle.model.specs.declared.Outcome.TheVariants.{Good, Overflow, Singular}
-use Rattle.model.specs.declared.OutcomeAnswer.{OutcomeAnswer}
-use Rattle.model.specs.declared.OutcomeAnswer.TheVariants.{Known, Unfinished, OutcomeRefused}
 use Rattle.worker.specs.Holding.{idle, holding}
 use Rattle.model.specs.Limits.{most_workers}
 
@@ -20,9 +19,9 @@ one_holding W n p c = record { slots = set (replicate most_workers idle) 0 (hold
 
 -- the calls that a run counts: 0 where it was refused
 abbrev pub calls_of : RunAnswer → ℕ
-calls_of (Finished n) = n
-calls_of (Spent n) = n
-calls_of (RunRefused n x) = 0
+calls_of (Ok (Finished n)) = n
+calls_of (Ok (Spent n)) = n
+calls_of (Err why) = 0
 
 -- what an outcome call answers, as a number: outcomes and an unfinished task are above every refusal
 abbrev pub known_tells : Outcome → ℕ
@@ -31,6 +30,6 @@ known_tells (Overflow p) = 129
 known_tells (Singular x) = 130
 
 abbrev pub outcome_tells : OutcomeAnswer → ℕ
-outcome_tells (Known o) = known_tells o
-outcome_tells (Unfinished p) = 131
-outcome_tells (OutcomeRefused n x) = n
+outcome_tells (Ok (Known o)) = known_tells o
+outcome_tells (Ok (Unfinished p)) = 131
+outcome_tells (Err why) = why.rule

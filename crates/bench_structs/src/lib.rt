@@ -16,7 +16,7 @@ fn number_of(answer: Answer) -> u8
     ensures { result ≡ answer_number answer }
 {
     match answer {
-        Answer::Accepted => 0,
+        Ok(()) => 0,
         Answer::Refused(number, _) => number,
     }
 }
@@ -33,8 +33,8 @@ fn calls_of(answer: RunAnswer) -> u64
     ensures { result ≡ calls_of answer }
 {
     match answer {
-        RunAnswer::Finished(n) => n,
-        RunAnswer::Spent(n) => n,
+        Ok(RunStop::Finished(n)) => n,
+        Ok(RunStop::Spent(n)) => n,
         RunAnswer::RunRefused(_, _) => 0,
     }
 }
@@ -61,8 +61,8 @@ fn outcome_number(answer: OutcomeAnswer) -> u8
     ensures { result ≡ outcome_tells answer }
 {
     match answer {
-        OutcomeAnswer::Known(o) => known_number(o),
-        OutcomeAnswer::Unfinished(_) => 131,
+        Standing::Known(o) => known_number(o),
+        Standing::Unfinished(_) => 131,
         OutcomeAnswer::OutcomeRefused(number, _) => number,
     }
 }

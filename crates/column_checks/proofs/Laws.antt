@@ -9,8 +9,8 @@ use lib.ListN.{length, get_or}
 use borrow.Author.Tests.{le-leb, lt-leb, leb-false, not-false}
 use Rattle.model.specs.declared.Sizes.{Sizes}
 use Rattle.worker.specs.declared.Worker.{Worker}
-use Rattle.model.specs.declared.Answer.{Answer}
-use Rattle.model.specs.declared.Answer.TheVariants.{Accepted, Refused}
+use Rattle.model.specs.Answer.{Answer, accepted, refused_by}
+use Rattle.model.specs.declared.Rule.TheVariants.{BadSizes, BadLengths, Damaged, WrongWorker}
 use Rattle.model.specs.Task.{tasks}
 use Rattle.model.specs.Plan.{plan, plan_of}
 use Rattle.model.specs.Links.{task}
@@ -42,7 +42,7 @@ module _ (z : Sizes) (m : List Float) (l : List ℕ) (r : List (List ℕ)) (ws :
   bad_worker_lem = no_worker w old || not (worker old w).busy
 
   abbrev from_5 : Answer
-  from_5 = refuse 5 w bad_worker_lem Accepted
+  from_5 = refuse WrongWorker w bad_worker_lem accepted
 
   damaged_is_bad : damaged (plan_of z) old ≡ true → bad ≡ true
   damaged_is_bad h = or_left (damaged (plan_of z) old) (bad_tiles (plan_of z) w old) h
@@ -63,7 +63,7 @@ module _ (z : Sizes) (m : List Float) (l : List ℕ) (r : List (List ℕ)) (ws :
       is_sound = (sound z m l r ws count number (sym e ∙ is_accepted a b f q)).1
 
       -- refusal 4 is left for the tiles
-      after_2 : refuse 4 0 (bad_tiles (plan_of z) w old) from_5 ≡ column_answer z w old
+      after_2 : refuse Damaged 0 (bad_tiles (plan_of z) w old) from_5 ≡ column_answer z w old
       unfolding column_answer
       after_2 = goes_on z old bad (bad_tiles (plan_of z) w old) damaged_is_bad else_tiles from_5 (sym e ∙ is_accepted a b f q)
 
@@ -72,10 +72,10 @@ module _ (z : Sizes) (m : List Float) (l : List ℕ) (r : List (List ℕ)) (ws :
       unfolding bad_tiles
       idle_passes x = rw x
 
-      refused_5 : (worker old w).busy ≡ false → bad_worker_lem ≡ true → Refused 5 w ≡ column_answer z w old
-      refused_5 x y = sym (passes 4 0 (bad_tiles (plan_of z) w old) from_5 (idle_passes x) ∙ refuses 5 w bad_worker_lem Accepted y) ∙ after_2
+      refused_5 : (worker old w).busy ≡ false → bad_worker_lem ≡ true → refused_by WrongWorker w ≡ column_answer z w old
+      refused_5 x y = sym (passes Damaged 0 (bad_tiles (plan_of z) w old) from_5 (idle_passes x) ∙ refuses WrongWorker w bad_worker_lem accepted y) ∙ after_2
 
-      pub no_worker_lem : z.workers ≤ w → Refused 5 w ≡ column_answer z w old
+      pub no_worker_lem : z.workers ≤ w → refused_by WrongWorker w ≡ column_answer z w old
       unfolding no_worker
       no_worker_lem x =
           refused_5 (ap (λ (v : Worker). v.busy) (worker_beyond m l r ws count number w (omega (arith, counted))))
@@ -88,7 +88,7 @@ module _ (z : Sizes) (m : List Float) (l : List ℕ) (r : List (List ℕ)) (ws :
         busy_is : (worker old w).busy ≡ (get_or ws w idle).busy
         busy_is = ap (λ (v : Worker). v.busy) its_slot
 
-        pub idle_worker : (get_or ws w idle).busy ≡ false → Refused 5 w ≡ column_answer z w old
+        pub idle_worker : (get_or ws w idle).busy ≡ false → refused_by WrongWorker w ≡ column_answer z w old
         idle_worker y = refused_5 (busy_is ∙ y) (or_right (no_worker w old) (not (worker old w).busy) (ap not (busy_is ∙ y)))
 
         module _ (y : (get_or ws w idle).busy ≡ true) where
@@ -108,14 +108,14 @@ module _ (z : Sizes) (m : List Float) (l : List ℕ) (r : List (List ℕ)) (ws :
                 rw (its_slot, y)
                 (u ∙ ap (λ k. not (finite_tiles (plan_of z) k buffers)) (record_named z m l r ws number is_sound.sizes is_sound.lengths.records_fit is_sound.undamaged p task_exists))
 
-            pub tiles_bad : t ≡ true → Refused 4 0 ≡ column_answer z w old
-            tiles_bad v = sym (refuses 4 0 (bad_tiles (plan_of z) w old) from_5 (sym tiles_are ∙ v)) ∙ after_2
+            pub tiles_bad : t ≡ true → refused_by Damaged 0 ≡ column_answer z w old
+            tiles_bad v = sym (refuses Damaged 0 (bad_tiles (plan_of z) w old) from_5 (sym tiles_are ∙ v)) ∙ after_2
 
-            pub tiles_good : t ≡ false → Accepted ≡ column_answer z w old
+            pub tiles_good : t ≡ false → accepted ≡ column_answer z w old
             unfolding no_worker
             tiles_good v =
-                sym (passes 4 0 (bad_tiles (plan_of z) w old) from_5 (sym tiles_are ∙ v)
-                ∙ passes 5 w bad_worker_lem Accepted (rw (lt-leb (length old.workers) w (omega (arith, workers_long m l r ws count number w, counted)), busy_is ∙ y))) ∙ after_2
+                sym (passes Damaged 0 (bad_tiles (plan_of z) w old) from_5 (sym tiles_are ∙ v)
+                ∙ passes WrongWorker w bad_worker_lem accepted (rw (lt-leb (length old.workers) w (omega (arith, workers_long m l r ws count number w, counted)), busy_is ∙ y))) ∙ after_2
 
   -- ---- an accepted column
 
@@ -125,16 +125,16 @@ module _ (z : Sizes) (m : List Float) (l : List ℕ) (r : List (List ℕ)) (ws :
   finite_then o t = subst (λ (v : Worker). finite_tiles (plan_of z) (task (tasks z.tiles) v.task) buffers ≡ true) o t
 
   -- the state is sound, and worker w exists, is busy and has finite tiles
-  pub accepted_then : column_answer z w old ≡ Accepted
+  pub accepted_then : column_answer z w old ≡ accepted
       → (count ≡ z.workers) × Undamaged z m l r ws number × (w < z.workers) × ((get_or ws w idle).busy ≡ true) × (finite_tiles (plan_of z) (task (tasks z.tiles) (get_or ws w idle).task) buffers ≡ true)
   unfolding column_answer state_answer no_worker bad_tiles
   accepted_then e =
-      let a = passed 1 0 (bad_sizes z) _ e in
-      let b = passed 2 0 (bad_lengths (plan_of z) z.workers old) (refuse 4 0 bad from_5) a.1 in
-      let c = passed 4 0 bad from_5 b.1 in
-      let d = passed 5 w bad_worker_lem Accepted c.1 in
+      let a = passed BadSizes 0 (bad_sizes z) _ e in
+      let b = passed BadLengths 0 (bad_lengths (plan_of z) z.workers old) (refuse Damaged 0 bad from_5) a.1 in
+      let c = passed Damaged 0 bad from_5 b.1 in
+      let d = passed WrongWorker w bad_worker_lem accepted c.1 in
       let u = or_false_left (damaged (plan_of z) old) (bad_tiles (plan_of z) w old) c.0 in
-      let (n, s) = sound z m l r ws count number (passes 1 0 (bad_sizes z) _ a.0 ∙ passes 2 0 (bad_lengths (plan_of z) z.workers old) _ b.0 ∙ passes 4 0 (damaged (plan_of z) old) Accepted u) in
+      let (n, s) = sound z m l r ws count number (passes BadSizes 0 (bad_sizes z) _ a.0 ∙ passes BadLengths 0 (bad_lengths (plan_of z) z.workers old) _ b.0 ∙ passes Damaged 0 (damaged (plan_of z) old) accepted u) in
       let g = workers_long m l r ws count number w in
       let x : w < z.workers = omega (arith, g, n, leb-false (length old.workers) w (or_false_left (no_worker w old) (not (worker old w).busy) d.0)) in
       let o = worker_lent m l r ws count number w (omega (arith, n)) in

@@ -5,8 +5,7 @@ ghost use Rattle.std.specs.Prelude.{◌≡◌};
 ghost use Rattle.model.specs.Refusal.{column_answer};
 ghost use Rattle.records.specs.Records.{all_lent};
 
-use answers::accepted;
-use model::{Answer, Sizes};
+use model::{Answer, Rule, Sizes};
 use records::{Record, record_at};
 use states::state_answer;
 use task_tiles::bad_tiles;
@@ -24,21 +23,18 @@ pub fn column_answer(
 ) -> Answer
     ensures { result ≡ column_answer z w (all_lent matrix.now lists.now records.now workers) }
 {
-    let state = state_answer(z, matrix, lists, records, workers);
-    if !accepted(state) {
-        return state;
-    }
+    state_answer(z, matrix, lists, records, workers)?;
     if z.workers <= w {
-        return Answer::Refused(5, w);
+        return Err(Rule::WrongWorker.at(w));
     }
     let slots = workers.slots;
     let h = slots[w];
     if !h.busy {
-        return Answer::Refused(5, w);
+        return Err(Rule::WrongWorker.at(w));
     }
     let p = h.task as usize;
     if bad_tiles(z, matrix, record_at(records, p)) {
-        return Answer::Refused(4, 0);
+        return Err(Rule::Damaged.at(0));
     }
-    Answer::Accepted
+    Ok(())
 }

@@ -8,11 +8,11 @@ use lib.ListN.{length, take}
 use Rattle.model.specs.declared.Sizes.{Sizes}
 use Rattle.model.specs.declared.TaskRecord.{TaskRecord}
 use Rattle.worker.specs.declared.Workers.{Workers}
-use Rattle.model.specs.declared.Answer.{Answer}
-use Rattle.model.specs.declared.RunAnswer.{RunAnswer}
+use Rattle.std.specs.Prelude.{Ok}
+use Rattle.model.specs.Answer.{Answer, RunAnswer}
+use Rattle.model.specs.declared.Standing.TheVariants.{Unfinished}
 use Rattle.model.specs.declared.CallReply.{CallReply}
 use Rattle.model.specs.declared.RunReply.{RunReply}
-use Rattle.model.specs.declared.OutcomeAnswer.TheVariants.{Unfinished}
 use Rattle.model.specs.Calls.{Lent, RunEnd}
 use Rattle.model.specs.Refusal.{Reply, open_call, run_call, outcome_call}
 use Rattle.model.specs.Solve.{Answers, solve_call}
@@ -54,7 +54,7 @@ module _ (z : Sizes) (ms : List Float) (ls : List ℕ) (ys : List TaskRecord) (w
 
   pub outcome_whole : (X₀ X : List (List ℕ)) → length X ≡ 1497 → records_from X ≡ copied n 0 ys (records_from X₀) → outcome_call z (all_lent ms ls (take n X) ws) ≡ outcome_call z (whole ms ls ys ws)
   outcome_whole X₀ X long loaded =
-      answers ms ls ys ws X₀ X long loaded (outcome_call z) (λ s. s) (outcome_told z (Unfinished 0)) (λ s h. outcome_long z s h (Unfinished 0)) (outcome_call z (all_lent ms ls (take n X) ws)) refl
+      answers ms ls ys ws X₀ X long loaded (outcome_call z) (λ s. s) (outcome_told z (Ok (Unfinished 0))) (λ s h. outcome_long z s h (Ok (Unfinished 0))) (outcome_call z (all_lent ms ls (take n X) ws)) refl
 
   pub solve_whole : (right left : List Float) (X₀ X : List (List ℕ)) → length X ≡ 1497 → records_from X ≡ copied n 0 ys (records_from X₀) → solve_call z (all_lent ms ls (take n X) ws) right left ≡ solve_call z (whole ms ls ys ws) right left
   solve_whole right left X₀ X long loaded =

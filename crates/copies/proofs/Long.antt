@@ -10,11 +10,10 @@ use lib.Ieee.{Float}
 use lib.ListN.{length}
 use borrow.Author.Tests.{ne_eqb}
 use Rattle.model.specs.declared.Sizes.{Sizes}
-use Rattle.model.specs.declared.Answer.{Answer}
-use Rattle.model.specs.declared.Answer.TheVariants.{Accepted, Refused}
-use Rattle.model.specs.declared.RunAnswer.{RunAnswer}
-use Rattle.model.specs.declared.RunAnswer.TheVariants.{Finished, RunRefused}
-use Rattle.model.specs.declared.OutcomeAnswer.{OutcomeAnswer}
+use Rattle.std.specs.Prelude.{Ok, Err}
+use Rattle.model.specs.Answer.{Answer, OutcomeAnswer, RunAnswer, refused_by}
+use Rattle.model.specs.declared.Rule.TheVariants.{BadSizes, BadLengths}
+use Rattle.model.specs.declared.RunStop.TheVariants.{Finished}
 use Rattle.model.specs.Task.{tasks}
 use Rattle.model.specs.Plan.{plan, plan_of, order}
 use Rattle.model.specs.Calls.{Lent, RunEnd, opened, took, advanced, whole_run}
@@ -27,12 +26,12 @@ use Rattle.answers.proofs.Refusals.{refuses, passes}
 
 -- the answer
 abbrev pub told : Sizes → Answer
-told z = refuse 1 0 (bad_sizes z) (Refused 2 0)
+told z = refuse BadSizes 0 (bad_sizes z) (refused_by BadLengths 0)
 
 -- as a run and an outcome have it
 abbrev pub as_run : Answer → RunAnswer
-as_run Accepted = Finished 0
-as_run (Refused n x) = RunRefused n x
+as_run (Ok _) = Ok (Finished 0)
+as_run (Err why) = Err why
 
 abbrev pub run_told : Sizes → RunAnswer
 run_told z = as_run (told z)
@@ -46,22 +45,22 @@ third true false w e = refl
 third false r w e = refl
 
 module _ (s : Lent) (new : Lent) where
-  kept_by : (b : Bool) → ◌≡◌ {A = Reply} (replied (refuse 1 0 b (Refused 2 0)) s new) (record { answer = refuse 1 0 b (Refused 2 0); left = s })
+  kept_by : (b : Bool) → ◌≡◌ {A = Reply} (replied (refuse BadSizes 0 b (refused_by BadLengths 0)) s new) (record { answer = refuse BadSizes 0 b (refused_by BadLengths 0); left = s })
   unfolding refuse replied
   kept_by true = refl
   kept_by false = refl
 
-run_kept_by : (s : Lent) (e : RunEnd) (b : Bool) → ◌≡◌ {A = RunEnd} (run_replied (refuse 1 0 b (Refused 2 0)) s e) (record { answer = as_run (refuse 1 0 b (Refused 2 0)); left = s })
+run_kept_by : (s : Lent) (e : RunEnd) (b : Bool) → ◌≡◌ {A = RunEnd} (run_replied (refuse BadSizes 0 b (refused_by BadLengths 0)) s e) (record { answer = as_run (refuse BadSizes 0 b (refused_by BadLengths 0)); left = s })
 unfolding refuse run_replied
 run_kept_by s e true = refl
 run_kept_by s e false = refl
 
-outcome_by : (r k : OutcomeAnswer) (b : Bool) → outcome_replied (refuse 1 0 b (Refused 2 0)) r ≡ outcome_replied (refuse 1 0 b (Refused 2 0)) k
+outcome_by : (r k : OutcomeAnswer) (b : Bool) → outcome_replied (refuse BadSizes 0 b (refused_by BadLengths 0)) r ≡ outcome_replied (refuse BadSizes 0 b (refused_by BadLengths 0)) k
 unfolding refuse outcome_replied
 outcome_by r k true = refl
 outcome_by r k false = refl
 
-solve_kept_by : (x : List Float) (p : Passed) (b : Bool) → ◌≡◌ {A = Answers} (answered (refuse 1 0 b (Refused 2 0)) x p) (record { answer = refuse 1 0 b (Refused 2 0); left = x })
+solve_kept_by : (x : List Float) (p : Passed) (b : Bool) → ◌≡◌ {A = Answers} (answered (refuse BadSizes 0 b (refused_by BadLengths 0)) x p) (record { answer = refuse BadSizes 0 b (refused_by BadLengths 0); left = x })
 unfolding refuse answered
 solve_kept_by x p true = refl
 solve_kept_by x p false = refl
@@ -74,14 +73,14 @@ module _ (z : Sizes) (s : Lent) (long : 1497 ≤ length s.records) where
       third (eqb (length s.buffers.matrix) (z.tiles * z.side * (z.tiles * z.side)) && eqb (length s.buffers.lists) (z.tiles * z.tiles * z.side)) (eqb (length s.records) (length (tasks z.tiles))) (eqb (length s.workers) z.workers) (ne_eqb (length s.records) (length (tasks z.tiles)) (λ q. absurd (omega (arith, few, long, q))))
 
   -- whatever the test of lengths is, where wrong lengths fail it
-  chain_by : (b : Bool) (rest : Answer) → (bad_lengths (plan_of z) z.workers s ≡ true → b ≡ true) → refuse 1 0 (bad_sizes z) (refuse 2 0 b rest) ≡ told z
+  chain_by : (b : Bool) (rest : Answer) → (bad_lengths (plan_of z) z.workers s ≡ true → b ≡ true) → refuse BadSizes 0 (bad_sizes z) (refuse BadLengths 0 b rest) ≡ told z
   chain_by b rest h =
       ⊎_elim
-      (λ t. refuses 1 0 (bad_sizes z) _ t ∙ sym (refuses 1 0 (bad_sizes z) (Refused 2 0) t))
-      (λ f. passes 1 0 (bad_sizes z) _ f ∙ refuses 2 0 b rest (h (bad_lengths_lem f)) ∙ sym (passes 1 0 (bad_sizes z) (Refused 2 0) f))
+      (λ t. refuses BadSizes 0 (bad_sizes z) _ t ∙ sym (refuses BadSizes 0 (bad_sizes z) (refused_by BadLengths 0) t))
+      (λ f. passes BadSizes 0 (bad_sizes z) _ f ∙ refuses BadLengths 0 b rest (h (bad_lengths_lem f)) ∙ sym (passes BadSizes 0 (bad_sizes z) (refused_by BadLengths 0) f))
       (true_or_false (bad_sizes z))
 
-  chain : (rest : Answer) → refuse 1 0 (bad_sizes z) (refuse 2 0 (bad_lengths (plan_of z) z.workers s) rest) ≡ told z
+  chain : (rest : Answer) → refuse BadSizes 0 (bad_sizes z) (refuse BadLengths 0 (bad_lengths (plan_of z) z.workers s) rest) ≡ told z
   chain rest = chain_by (bad_lengths (plan_of z) z.workers s) rest (λ e. e)
 
   pub open_long : ◌≡◌ {A = Reply} (open_call z s) (record { answer = told z; left = s })

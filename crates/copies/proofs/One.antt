@@ -12,8 +12,9 @@ use Rattle.model.specs.declared.Sizes.{Sizes}
 use Rattle.model.specs.declared.TaskRecord.{TaskRecord}
 use Rattle.worker.specs.declared.Worker.{Worker}
 use Rattle.worker.specs.declared.Workers.{Workers}
-use Rattle.model.specs.declared.Answer.{Answer}
-use Rattle.model.specs.declared.Answer.TheVariants.{Accepted, Refused}
+use Rattle.std.specs.Prelude.{Ok, Err}
+use Rattle.model.specs.Answer.{Answer, accepted}
+use Rattle.model.specs.declared.Rule.TheVariants.{BadSizes, BadLengths, Damaged, WrongWorker}
 use Rattle.model.specs.declared.CallReply.{CallReply}
 use Rattle.model.specs.Task.{t_1}
 use Rattle.model.specs.Plan.{plan_of}
@@ -38,10 +39,10 @@ Changes p s t = (v : TaskRecord) × (t.records ≡ set s.records p v)
 refused_changes : (p : ℕ) (s : Lent) → Changes p s s
 refused_changes p s = (get_or s.records p blank, sym (set-get_or s.records p blank))
 
-reply_changes : (p : ℕ) (a : Answer) (old new : Lent) → (a ≡ Accepted → Changes p old new) → Changes p old (replied a old new).left
+reply_changes : (p : ℕ) (a : Answer) (old new : Lent) → (a ≡ accepted → Changes p old new) → Changes p old (replied a old new).left
 unfolding replied
-reply_changes p Accepted old new h = h refl
-reply_changes p (Refused n x) old new h = refused_changes p old
+reply_changes p (Ok _) old new h = h refl
+reply_changes p (Err why) old new h = refused_changes p old
 
 module _ (z : Sizes) where
   take_changes : (w p : ℕ) (s : Lent) → Changes p s (take_call z w p s).left
@@ -62,13 +63,13 @@ module _ (z : Sizes) where
     unfolding worker
     no_slot l = ap (λ k. get_or k w idle) held ∙ no_worker_lem ws.slots ws.count w l
 
-    idle_refused : ws.count ≤ w → column_answer z w s ≡ Accepted → Changes p s (advanced (plan_of z) w s)
+    idle_refused : ws.count ≤ w → column_answer z w s ≡ accepted → Changes p s (advanced (plan_of z) w s)
     unfolding column_answer
     idle_refused l e =
-        let a = passed 1 0 (bad_sizes z) _ e in
-        let b = passed 2 0 (bad_lengths (plan_of z) z.workers s) _ a.1 in
-        let c = passed 4 0 (damaged (plan_of z) s || bad_tiles (plan_of z) w s) _ b.1 in
-        let d = passed 5 w (no_worker w s || not (worker s w).busy) _ c.1 in
+        let a = passed BadSizes 0 (bad_sizes z) _ e in
+        let b = passed BadLengths 0 (bad_lengths (plan_of z) z.workers s) _ a.1 in
+        let c = passed Damaged 0 (damaged (plan_of z) s || bad_tiles (plan_of z) w s) _ b.1 in
+        let d = passed WrongWorker w (no_worker w s || not (worker s w).busy) _ c.1 in
         never (or_right (no_worker w s) (not (worker s w).busy) (ap (λ (h : Worker). not h.busy) (no_slot l))) d.0
 
     left_record : TaskRecord

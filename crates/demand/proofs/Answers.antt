@@ -9,7 +9,8 @@ use lib.ListN.{length, get_or}
 use borrow.Author.Tests.{lt-leb, ltb-true, ltb-false, not-false}
 use Rattle.model.specs.declared.Sizes.{Sizes}
 use Rattle.worker.specs.declared.Worker.{Worker}
-use Rattle.model.specs.declared.Answer.TheVariants.{Accepted}
+use Rattle.model.specs.Answer.{accepted}
+use Rattle.model.specs.declared.Rule.TheVariants.{BadSizes, BadLengths, Damaged, WrongWorker, NoTask, NotReady}
 use Rattle.model.specs.Lists.{below, some, total}
 use Rattle.model.specs.Tile.{all_finite}
 use Rattle.model.specs.Task.{tasks}
@@ -27,12 +28,12 @@ use Rattle.demand.proofs.Checks.{passes, fails, lengths, good_lengths, recorded,
 use Rattle.demand.proofs.Limits.{in_limits, good_entry, finite_matrix, good_tiles}
 
 module _ (z : Sizes) (s : Lent) where
-  pub run_whole : run_answer z s ≡ Accepted → Whole z s
+  pub run_whole : run_answer z s ≡ accepted → Whole z s
   unfolding run_answer damaged plan
   run_whole e =
-      let a = passed 1 0 (bad_sizes z) _ e in
-      let b = passed 2 0 (bad_lengths (plan_of z) z.workers s) _ a.1 in
-      let c = passed 4 0 (damaged (plan_of z) s || not (all_finite s.buffers.matrix)) Accepted b.1 in
+      let a = passed BadSizes 0 (bad_sizes z) _ e in
+      let b = passed BadLengths 0 (bad_lengths (plan_of z) z.workers s) _ a.1 in
+      let c = passed Damaged 0 (damaged (plan_of z) s || not (all_finite s.buffers.matrix)) accepted b.1 in
       let d = or_false (damaged (plan_of z) s) (not (all_finite s.buffers.matrix)) c.0 in
       let rs = some (bad_record (plan_of z) s) (below (count z)) in
       let hs = some (bad_hold (plan_of z) s) (below (count z)) in
@@ -87,22 +88,22 @@ module _ (z : Sizes) (s : Lent) where
     unfolding no_worker
     is_worker w l = lt-leb (length s.workers) w (subst (λ (k : ℕ). w < k) (sym h.stated.workers) l)
 
-    pub run_accepted : run_answer z s ≡ Accepted
+    pub run_accepted : run_answer z s ≡ accepted
     unfolding run_answer
     run_accepted =
-        passes 1 0 _ _ h.fit (passes 2 0 _ _ (good_lengths z s h.stated)
-        (passes 4 0 _ _ (false_or _ _ undamaged (ap not (finite_matrix z s h.stated.sized h.tiles))) refl))
+        passes BadSizes 0 _ _ h.fit (passes BadLengths 0 _ _ (good_lengths z s h.stated)
+        (passes Damaged 0 _ _ (false_or _ _ undamaged (ap not (finite_matrix z s h.stated.sized h.tiles))) refl))
 
     pub take_accepted : (w p : ℕ) → w < z.workers → (worker s w).busy ≡ false → p < count z → ready (tasks z.tiles) (marks_of s) p ≡ true
-        → take_answer z w p s ≡ Accepted
+        → take_answer z w p s ≡ accepted
     unfolding take_answer plan
     take_accepted w p hw hb hp hr =
-        passes 1 0 _ _ h.fit (passes 2 0 _ _ (good_lengths z s h.stated) (passes 4 0 _ _ undamaged
-        (passes 5 w _ _ (false_or _ _ (is_worker w hw) hb) (passes 6 0 _ _ (lt-leb (count z) p hp) (passes 7 p _ _ (ap not hr) refl)))))
+        passes BadSizes 0 _ _ h.fit (passes BadLengths 0 _ _ (good_lengths z s h.stated) (passes Damaged 0 _ _ undamaged
+        (passes WrongWorker w _ _ (false_or _ _ (is_worker w hw) hb) (passes NoTask 0 _ _ (lt-leb (count z) p hp) (passes NotReady p _ _ (ap not hr) refl)))))
 
-    pub column_accepted : (w : ℕ) → w < z.workers → (worker s w).busy ≡ true → column_answer z w s ≡ Accepted
+    pub column_accepted : (w : ℕ) → w < z.workers → (worker s w).busy ≡ true → column_answer z w s ≡ accepted
     unfolding column_answer
     column_accepted w hw hb =
-        passes 1 0 _ _ h.fit (passes 2 0 _ _ (good_lengths z s h.stated)
-        (passes 4 0 _ _ (false_or _ _ undamaged (good_tiles z s h.stated.sized h.tiles w (h.held w hw hb).task))
-        (passes 5 w _ _ (false_or _ _ (is_worker w hw) (ap not hb)) refl)))
+        passes BadSizes 0 _ _ h.fit (passes BadLengths 0 _ _ (good_lengths z s h.stated)
+        (passes Damaged 0 _ _ (false_or _ _ undamaged (good_tiles z s h.stated.sized h.tiles w (h.held w hw hb).task))
+        (passes WrongWorker w _ _ (false_or _ _ (is_worker w hw) (ap not hb)) refl)))

@@ -8,7 +8,7 @@ use borrow.Author.Tests.{eq-eqb, ne_eqb}
 use Rattle.model.specs.declared.Sizes.{Sizes}
 use Rattle.worker.specs.declared.Worker.{Worker}
 use Rattle.worker.specs.Holding.{idle, holding}
-use Rattle.model.specs.declared.Answer.TheVariants.{Accepted}
+use Rattle.model.specs.Answer.{accepted}
 use Rattle.model.specs.Plan.{plan_of}
 use Rattle.model.specs.Links.{finished}
 use Rattle.model.specs.Buffer.{Ended}
@@ -45,7 +45,7 @@ pub record Held (z : Sizes) (l : ℕ → ℕ) (ds : List Deed) (s : Lent) : Type
   pub held : (v : ℕ) → (worker s v).busy ≡ true → (worker s v).task ≡ took_last l ds v
 
 module _ (z : Sizes) (l : ℕ → ℕ) where
-  pub held_take : {ds : List Deed} {s : Lent} → Held z l ds s → (w p : ℕ) → take_answer z w p s ≡ Accepted
+  pub held_take : {ds : List Deed} {s : Lent} → Held z l ds s → (w p : ℕ) → take_answer z w p s ≡ accepted
       → Held z l (ds ++ did_take w p s ∷ []) (took (plan_of z) w p s)
   unfolding took changed with_take Belongs took_then
   held_take {ds} {s} r w p a =
@@ -71,7 +71,7 @@ module _ (z : Sizes) (l : ℕ → ℕ) where
   goes_on true p c e = never e refl
   goes_on false p c e = refl
 
-  pub held_column : {ds : List Deed} {s : Lent} → Held z l ds s → (w : ℕ) → column_answer z w s ≡ Accepted
+  pub held_column : {ds : List Deed} {s : Lent} → Held z l ds s → (w : ℕ) → column_answer z w s ≡ accepted
       → Held z l (ds ++ did_column w s ∷ []) (advanced (plan_of z) w s)
   unfolding advanced changed with_column Belongs took_then
   held_column {ds} {s} r w a =

@@ -10,10 +10,11 @@ use lib.Dec.{eqb, ltb}
 use native.Mathlib.Omega.{arith}
 use lib.ListN.{length, get_or, get_or-map}
 use borrow.Author.Tests.{eqb-true, eq-eqb, ltb-true, ltb-false, lt-ltb, le-leb, not-false}
+use Rattle.model.specs.declared.Rule.{Rule}
 use Rattle.model.specs.declared.Sizes.{Sizes}
 use Rattle.model.specs.declared.TaskRecord.{TaskRecord}
-use Rattle.model.specs.declared.Answer.{Answer}
-use Rattle.model.specs.declared.Answer.TheVariants.{Accepted, Refused}
+use Rattle.std.specs.Prelude.{Ok, Err}
+use Rattle.model.specs.Answer.{Answer, accepted}
 use Rattle.model.specs.Lists.{some, keep}
 use Rattle.model.specs.Task.{Task, t_1, tasks}
 use Rattle.model.specs.Plan.{plan, plan_of, order}
@@ -31,16 +32,16 @@ use Rattle.demand.proofs.Whole.{AtWork}
 
 -- ---- a chain of refusals
 
-pub passes : (n x : ℕ) (b : Bool) (r : Answer) → b ≡ false → r ≡ Accepted → refuse n x b r ≡ Accepted
+pub passes : (n : Rule) (x : ℕ) (b : Bool) (r : Answer) → b ≡ false → r ≡ accepted → refuse n x b r ≡ accepted
 unfolding refuse
 passes n x true r e f = never refl e
 passes n x false r e f = f
 
 -- an accepted call leaves what it does
-pub accepted_new : (a : Answer) (old new : Lent) → a ≡ Accepted → (replied a old new).left ≡ new
+pub accepted_new : (a : Answer) (old new : Lent) → a ≡ accepted → (replied a old new).left ≡ new
 unfolding replied
-accepted_new Accepted old new e = refl
-accepted_new (Refused n x) old new e = let y : ◌≡◌ {A = ℕ} 0 1 = cc in absurd (omega arith)
+accepted_new (Ok _) old new e = refl
+accepted_new (Err why) old new e = let y : ◌≡◌ {A = ℕ} 0 1 = cc in absurd (omega arith)
 
 -- no member passes a test that none does
 pub fails : {A : Type 0} (f : A → Bool) (xs : List A) (x : A) → some f xs ≡ false → Member x xs → f x ≡ false

@@ -6,8 +6,9 @@ use mathlib.Core.List.{List, map}
 use lib.ListN.{replicate}
 use native.Mathlib.Omega.{arith}
 use Rattle.model.specs.declared.Sizes.{Sizes}
-use Rattle.model.specs.declared.Answer.TheVariants.{Accepted}
-use Rattle.model.specs.declared.RunAnswer.TheVariants.{Finished}
+use Rattle.std.specs.Prelude.{Ok}
+use Rattle.model.specs.Answer.{accepted}
+use Rattle.model.specs.declared.RunStop.TheVariants.{Finished}
 use Rattle.model.specs.Task.{tasks}
 use Rattle.model.specs.Plan.{plan, plan_of}
 use Rattle.worker.specs.Holding.{idle}
@@ -35,7 +36,7 @@ use Rattle.demand.proofs.Orderless.{records_with_lem, end_whole, all_idle}
 
 -- ---- a run with t + 1 calls for each task
 
-module _ (z : Sizes) (s : Lent) (cs : List Call) (e : (open_call z s).answer ≡ Accepted) where
+module _ (z : Sizes) (s : Lent) (cs : List Call) (e : (open_call z s).answer ≡ accepted) where
   -- calls do not add to what is left
   low : Whole z (end z s cs) × (left z (end z s cs) ≤ (z.side + 1) * count z)
   low =
@@ -44,7 +45,7 @@ module _ (z : Sizes) (s : Lent) (cs : List Call) (e : (open_call z s).answer ≡
       (record { whole = λ h. h.0; moves = λ h m. (move_whole h.0 m, omega (arith, h.1, move_lowers z h.0 m)) }) cs 0 (open_call z s).left
       (left_whole z s o, omega (arith, ap (left z) o.left, opened_left z s.buffers.matrix))
 
-  pub run_finishes : (budget : ℕ) → (z.side + 1) * count z ≤ budget → (n : ℕ) × ((run_call z budget (end z s cs)).answer ≡ Finished n)
+  pub run_finishes : (budget : ℕ) → (z.side + 1) * count z ≤ budget → (n : ℕ) × ((run_call z budget (end z s cs)).answer ≡ Ok (Finished n))
   run_finishes budget h =
       let (w, l) = low in
       let (n, f) = enough z budget (end z s cs) w (omega arith) in
@@ -79,7 +80,7 @@ alike z y s r cs ds p = record {
 
 -- ---- call numbers
 
-numbered : (z : Sizes) (s : Lent) (cs : List Call) → (open_call z s).answer ≡ Accepted → Numbered z s cs
+numbered : (z : Sizes) (s : Lent) (cs : List Call) → (open_call z s).answer ≡ accepted → Numbered z s cs
 numbered z s cs e =
     let t = all_told z s cs e in
     record { counts = t.counts; sums = number_is z s e cs; tells = t.tells; in_order = in_order z s cs e }

@@ -8,7 +8,7 @@ use native.Mathlib.Omega.{arith}
 use lib.Dec.{eqb}
 use lib.ListN.{length}
 use Rattle.model.specs.declared.Sizes.{Sizes}
-use Rattle.model.specs.declared.Answer.TheVariants.{Accepted}
+use Rattle.model.specs.Answer.{accepted}
 use Rattle.model.specs.Lists.{total, below}
 use Rattle.model.specs.Task.{tasks}
 use Rattle.model.specs.Plan.{plan_of}
@@ -98,7 +98,7 @@ number_opened : (z : Sizes) (s : Lent) → Opened z s → (open_call z s).left.n
 unfolding opened
 number_opened z s o = ap (λ (l : Lent). l.number) o.left
 
-module _ (z : Sizes) (s : Lent) (e : (open_call z s).answer ≡ Accepted) where
+module _ (z : Sizes) (s : Lent) (e : (open_call z s).answer ≡ accepted) where
   abbrev o : Opened z s
   o = opened_by z s e
 

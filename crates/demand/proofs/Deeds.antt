@@ -7,8 +7,9 @@ use mathlib.Core.List.{List, [], ◌∷◌, ◌++◌, append-nil, append_assoc}
 use native.Mathlib.Nat.{mod-lt}
 use native.Mathlib.Omega.{arith}
 use Rattle.model.specs.declared.Sizes.{Sizes}
-use Rattle.model.specs.declared.Answer.{Answer}
-use Rattle.model.specs.declared.Answer.TheVariants.{Accepted, Refused}
+use Rattle.std.specs.Prelude.{Ok, Err}
+use Rattle.model.specs.Answer.{Answer, accepted}
+use Rattle.model.specs.declared.Rule.TheVariants.{BadSizes, BadLengths}
 use Rattle.model.specs.Lists.{in_turn, first_or}
 use Rattle.model.specs.Plan.{plan_of}
 use Rattle.model.specs.Calls.{Lent, RunEnd, worker, took, advanced, ready_tasks, all_finished, has_work, turn, next_worker, run_from, whole_run}
@@ -27,21 +28,21 @@ use Rattle.demand.proofs.Calls.{same_sizes}
 -- a property of the deeds so far and of what is lent
 pub record Kept (z : Sizes) (P : List Deed → Lent → Type 0) : Type 0 where
   pub whole : {ds : List Deed} {s : Lent} → P ds s → Whole z s
-  pub takes : {ds : List Deed} {s : Lent} → P ds s → (w p : ℕ) → take_answer z w p s ≡ Accepted → P (ds ++ did_take w p s ∷ []) (took (plan_of z) w p s)
-  pub columns : {ds : List Deed} {s : Lent} → P ds s → (w : ℕ) → column_answer z w s ≡ Accepted → P (ds ++ did_column w s ∷ []) (advanced (plan_of z) w s)
+  pub takes : {ds : List Deed} {s : Lent} → P ds s → (w p : ℕ) → take_answer z w p s ≡ accepted → P (ds ++ did_take w p s ∷ []) (took (plan_of z) w p s)
+  pub columns : {ds : List Deed} {s : Lent} → P ds s → (w : ℕ) → column_answer z w s ≡ accepted → P (ds ++ did_column w s ∷ []) (advanced (plan_of z) w s)
 
 -- a call changes nothing where it is refused
-replies : (P : List Deed → Lent → Type 0) (a : Answer) (old new : Lent) (es : List Deed) → P [] old → (a ≡ Accepted → P es new)
+replies : (P : List Deed → Lent → Type 0) (a : Answer) (old new : Lent) (es : List Deed) → P [] old → (a ≡ accepted → P es new)
     → P (where_accepted a es) (replied a old new).left
 unfolding replied where_accepted
-replies P Accepted old new es p q = q refl
-replies P (Refused n x) old new es p q = p
+replies P (Ok _) old new es p q = q refl
+replies P (Err why) old new es p q = p
 
-replies_run : (P : List Deed → Lent → Type 0) (a : Answer) (old : Lent) (e : RunEnd) (es : List Deed) → P [] old → (a ≡ Accepted → P es e.left)
+replies_run : (P : List Deed → Lent → Type 0) (a : Answer) (old : Lent) (e : RunEnd) (es : List Deed) → P [] old → (a ≡ accepted → P es e.left)
     → P (where_accepted a es) (run_replied a old e).left
 unfolding run_replied where_accepted
-replies_run P Accepted old e es p q = q refl
-replies_run P (Refused n x) old e es p q = p
+replies_run P (Ok _) old e es p q = q refl
+replies_run P (Err why) old e es p q = p
 
 module _ (z : Sizes) (P : List Deed → Lent → Type 0) (k : Kept z P) where
   abbrev W : ℕ
@@ -96,9 +97,9 @@ module _ (z : Sizes) (P : List Deed → Lent → Type 0) (k : Kept z P) where
   -- a call that is told other sizes is refused for its lengths
   refused : (ds : List Deed) (s : Lent) → P ds s → (y : Sizes) (a : Asked) → bad_lengths (plan_of y) y.workers s ≡ true → P (ds ++ deeds_by y a s) (left_by y a s)
   unfolding left_by deeds_by take_call column_call run_call take_answer column_answer run_answer
-  refused ds s r y (H.take w p) e = replies (λ es. P (ds ++ es)) _ s _ _ (stays ds s r) (λ f. never e (passed 2 0 _ _ (passed 1 0 _ _ f).1).0)
-  refused ds s r y (H.column w) e = replies (λ es. P (ds ++ es)) _ s _ _ (stays ds s r) (λ f. never e (passed 2 0 _ _ (passed 1 0 _ _ f).1).0)
-  refused ds s r y (H.whole_run b) e = replies_run (λ es. P (ds ++ es)) _ s _ _ (stays ds s r) (λ f. never e (passed 2 0 _ _ (passed 1 0 _ _ f).1).0)
+  refused ds s r y (H.take w p) e = replies (λ es. P (ds ++ es)) _ s _ _ (stays ds s r) (λ f. never e (passed BadLengths 0 _ _ (passed BadSizes 0 _ _ f).1).0)
+  refused ds s r y (H.column w) e = replies (λ es. P (ds ++ es)) _ s _ _ (stays ds s r) (λ f. never e (passed BadLengths 0 _ _ (passed BadSizes 0 _ _ f).1).0)
+  refused ds s r y (H.whole_run b) e = replies_run (λ es. P (ds ++ es)) _ s _ _ (stays ds s r) (λ f. never e (passed BadLengths 0 _ _ (passed BadSizes 0 _ _ f).1).0)
 
   call_keeps : (ds : List Deed) (s : Lent) → P ds s → (y : Sizes) (a : Asked) → P (ds ++ deeds_by y a s) (left_by y a s)
   call_keeps ds s r y a = go (true_or_false (bad_lengths (plan_of y) y.workers s))

@@ -9,7 +9,7 @@ use borrow.Author.Tests.{eqb-true, eq-eqb, ne_eqb}
 use Rattle.model.specs.declared.Sizes.{Sizes}
 use Rattle.worker.specs.declared.Worker.{Worker}
 use Rattle.worker.specs.Holding.{idle, holding}
-use Rattle.model.specs.declared.Answer.TheVariants.{Accepted}
+use Rattle.model.specs.Answer.{accepted}
 use Rattle.model.specs.Lists.{some}
 use Rattle.model.specs.Task.{tasks}
 use Rattle.model.specs.Plan.{plan, plan_of}
@@ -72,7 +72,7 @@ pub record Ends (z : Sizes) (q : ℕ) (ds : List Deed) (s : Lent) : Type 0 where
   pub is : finished (mark (marks_of s) q) ≡ some (finishes (plan_of z) q) ds
 
 module _ (z : Sizes) (q : ℕ) where
-  pub ends_take : {ds : List Deed} {s : Lent} → Ends z q ds s → (w p : ℕ) → take_answer z w p s ≡ Accepted
+  pub ends_take : {ds : List Deed} {s : Lent} → Ends z q ds s → (w p : ℕ) → take_answer z w p s ≡ accepted
       → Ends z q (ds ++ did_take w p s ∷ []) (took (plan_of z) w p s)
   unfolding took changed with_take finishes
   ends_take {ds} {s} r w p a =
@@ -107,7 +107,7 @@ module _ (z : Sizes) (q : ℕ) where
       last_or true = refl
       last_or false = refl
 
-  pub ends_column : {ds : List Deed} {s : Lent} → Ends z q ds s → (w : ℕ) → column_answer z w s ≡ Accepted
+  pub ends_column : {ds : List Deed} {s : Lent} → Ends z q ds s → (w : ℕ) → column_answer z w s ≡ accepted
       → Ends z q (ds ++ did_column w s ∷ []) (advanced (plan_of z) w s)
   unfolding advanced changed with_column finishes plan
   ends_column {ds} {s} r w a =

@@ -9,8 +9,8 @@ use lib.ListN.{length}
 use Rattle.model.specs.declared.Sizes.{Sizes}
 use Rattle.worker.specs.declared.Worker.{Worker}
 use Rattle.worker.specs.Holding.{idle}
-use Rattle.model.specs.declared.Answer.{Answer}
-use Rattle.model.specs.declared.Answer.TheVariants.{Accepted, Refused}
+use Rattle.std.specs.Prelude.{Ok, Err}
+use Rattle.model.specs.Answer.{Answer, accepted}
 use Rattle.model.specs.Lists.{some, keep, first_or}
 use Rattle.model.specs.Task.{tasks}
 use Rattle.model.specs.Plan.{plan, plan_of}
@@ -71,8 +71,8 @@ module _ (q : ℕ) where
 
   accepted_counted : (a : Answer) (n : ℕ) (ds : List Deed) → n ≡ length (keep (about q) ds) → if_accepted a n ≡ length (keep (about q) (where_accepted a ds))
   unfolding if_accepted where_accepted keep
-  accepted_counted Accepted n ds e = e
-  accepted_counted (Refused m x) n ds e = refl
+  accepted_counted (Ok _) n ds e = e
+  accepted_counted (Err why) n ds e = refl
 
   one : (d : Deed) → length (keep (about q) (d ∷ [])) ≡ cond (about q d) 1 0
   unfolding keep
@@ -93,7 +93,7 @@ module _ (q : ℕ) where
 
 -- ---- all of it
 
-module _ (z : Sizes) (s : Lent) (cs : List Call) (e : (open_call z s).answer ≡ Accepted) where
+module _ (z : Sizes) (s : Lent) (cs : List Call) (e : (open_call z s).answer ≡ accepted) where
   first : Lent
   first = (open_call z s).left
 

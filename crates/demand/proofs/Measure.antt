@@ -13,7 +13,8 @@ use borrow.Author.Tests.{ne_eqb}
 use Rattle.model.specs.declared.Sizes.{Sizes}
 use Rattle.model.specs.declared.TaskRecord.{TaskRecord}
 use Rattle.worker.specs.declared.Worker.{Worker}
-use Rattle.model.specs.declared.RunAnswer.TheVariants.{Finished}
+use Rattle.std.specs.Prelude.{Ok}
+use Rattle.model.specs.declared.RunStop.TheVariants.{Finished}
 use Rattle.model.specs.Task.{Task, t_1, tasks}
 use Rattle.model.specs.Plan.{plan, plan_of}
 use Rattle.model.specs.Links.{mark, finished}
@@ -105,11 +106,11 @@ module _ (z : Sizes) where
 
   -- ---- a run with the budget that is left to do
 
-  turns_finish : {b c : ℕ} {s : Lent} {ps : List ℕ} {e : RunEnd} → Whole z s → left s ≤ b → Turns z b c s ps e → (n : ℕ) × (e.answer ≡ Finished n)
+  turns_finish : {b c : ℕ} {s : Lent} {ps : List ℕ} {e : RunEnd} → Whole z s → left s ≤ b → Turns z b c s ps e → (n : ℕ) × (e.answer ≡ Ok (Finished n))
   turns_finish {c = c} h l (ends f) = (c, refl)
   turns_finish {s = s} h l (spends f) =
       absurd (omega (arith, move_lowers h (next_moves z s h f 0 (in_range z h.fit).some_workers)))
   turns_finish h l (turns f m t) = turns_finish (move_whole h m) (omega (arith, move_lowers h m)) t
 
-  pub enough : (budget : ℕ) (s : Lent) → Whole z s → left s ≤ budget → (n : ℕ) × ((run_from (plan_of z) z.workers budget 0 0 s).answer ≡ Finished n)
+  pub enough : (budget : ℕ) (s : Lent) → Whole z s → left s ≤ budget → (n : ℕ) × ((run_from (plan_of z) z.workers budget 0 0 s).answer ≡ Ok (Finished n))
   enough budget s h l = turns_finish h l (apart z budget 0 0 (in_range z h.fit).some_workers s h).turns

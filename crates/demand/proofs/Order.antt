@@ -15,7 +15,7 @@ use Rattle.model.specs.declared.Sizes.{Sizes}
 use Rattle.model.specs.declared.TaskRecord.{TaskRecord}
 use Rattle.worker.specs.declared.Worker.{Worker}
 use Rattle.worker.specs.Holding.{idle, holding}
-use Rattle.model.specs.declared.Answer.TheVariants.{Accepted}
+use Rattle.model.specs.Answer.{accepted}
 use Rattle.model.specs.Lists.{keep}
 use Rattle.model.specs.Task.{t_1, tasks}
 use Rattle.model.specs.Plan.{plan, plan_of}
@@ -262,7 +262,7 @@ module _ (z : Sizes) where
     apart = ap distinct (zeros_apart _ (unfold opened plan in (all_most (opened (plan_of z) z.workers m) h)));
   }
 
-pub in_order : (z : Sizes) (s : Lent) (cs : List Call) → (open_call z s).answer ≡ Accepted → InOrder (tasks z.tiles) (end z s cs)
+pub in_order : (z : Sizes) (s : Lent) (cs : List Call) → (open_call z s).answer ≡ accepted → InOrder (tasks z.tiles) (end z s cs)
 in_order z s cs e = record {
   apart = last.apart;
   linked_first = λ p q l hq k m.

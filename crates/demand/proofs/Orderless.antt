@@ -12,7 +12,7 @@ use Rattle.model.specs.declared.Sizes.{Sizes}
 use Rattle.model.specs.declared.TaskRecord.{TaskRecord}
 use Rattle.worker.specs.declared.Worker.{Worker}
 use Rattle.worker.specs.Holding.{idle, holding}
-use Rattle.model.specs.declared.Answer.TheVariants.{Accepted}
+use Rattle.model.specs.Answer.{accepted}
 use Rattle.model.specs.Lists.{below}
 use Rattle.model.specs.Task.{Task, t_1, kind_of, k_of, i_of, j_of, tasks}
 use Rattle.model.specs.Plan.{plan_of}
@@ -114,7 +114,7 @@ module _ (z : Sizes) where
           let there = worker_there z s r.whole e.left p new w next (r.whole.held w hw hb).task hw v d in
           there ∙ r.free v hv (sym (ap (λ (h : Worker). h.busy) there) ∙ f)
 
-  module _ (s : Lent) (cs : List Call) (e : (open_call z s).answer ≡ Accepted) where
+  module _ (s : Lent) (cs : List Call) (e : (open_call z s).answer ≡ accepted) where
     o : Opened z s
     o = opened_by z s e
 

@@ -9,7 +9,7 @@ use lib.Ieee.{Float}
 use lib.ListN.{length, length-map}
 use lib.Seq.{ext_get_or}
 use Rattle.model.specs.declared.Sizes.{Sizes}
-use Rattle.model.specs.declared.Answer.TheVariants.{Accepted}
+use Rattle.model.specs.Answer.{accepted}
 use Rattle.model.specs.Task.{tasks}
 use Rattle.model.specs.Plan.{plan, plan_of}
 use Rattle.model.specs.Links.{mark}
@@ -132,7 +132,7 @@ module _ (z : Sizes) (m : List Float) (hm : length m ≡ z.tiles * z.tiles * (z.
 
 -- ---- the demand
 
-module _ (z : Sizes) (s : Lent) (cs : List Call) (e : (open_call z s).answer ≡ Accepted) where
+module _ (z : Sizes) (s : Lent) (cs : List Call) (e : (open_call z s).answer ≡ accepted) where
   o : Opened z s
   o = opened_by z s e
 

@@ -12,7 +12,7 @@ use Rattle.model.specs.declared.Sizes.{Sizes}
 use Rattle.model.specs.declared.TaskRecord.{TaskRecord}
 use Rattle.worker.specs.declared.Worker.{Worker}
 use Rattle.worker.specs.Holding.{idle, holding}
-use Rattle.model.specs.declared.Answer.TheVariants.{Accepted}
+use Rattle.model.specs.Answer.{accepted}
 use Rattle.model.specs.Task.{tasks}
 use Rattle.model.specs.Plan.{Plan, plan, plan_of}
 use Rattle.model.specs.Links.{finished, broken}
@@ -86,7 +86,7 @@ pub record AllTold (z : Sizes) (ds : List Deed) (s : Lent) : Type 0 where
   pub tells : (p : ℕ) → p < count z → Tells (plan_of z) p ds (record_at z s p)
 
 module _ (z : Sizes) where
-  told_take : {ds : List Deed} {s : Lent} → AllTold z ds s → (w p : ℕ) → take_answer z w p s ≡ Accepted → AllTold z (ds ++ did_take w p s ∷ []) (took (plan_of z) w p s)
+  told_take : {ds : List Deed} {s : Lent} → AllTold z ds s → (w p : ℕ) → take_answer z w p s ≡ accepted → AllTold z (ds ++ did_take w p s ∷ []) (took (plan_of z) w p s)
   unfolding took changed takes finishes
   told_take {ds} {s} r w p a =
       let (hw, hb, hp, hr) = take_tells z s w p a in
@@ -108,7 +108,7 @@ module _ (z : Sizes) where
           subst (Tells (plan_of z) q (ds ++ did_take w p s ∷ [])) (sym (record_there z s r.whole s.buffers p new w (holding p 0) hp hw q d))
           (tells_other (plan_of z) q ds (did_take w p s) (record_at z s q) (r.tells q hq) (ne_eqb p q (λ e. d (sym e))) refl)
 
-  told_column : {ds : List Deed} {s : Lent} → AllTold z ds s → (w : ℕ) → column_answer z w s ≡ Accepted → AllTold z (ds ++ did_column w s ∷ []) (advanced (plan_of z) w s)
+  told_column : {ds : List Deed} {s : Lent} → AllTold z ds s → (w : ℕ) → column_answer z w s ≡ accepted → AllTold z (ds ++ did_column w s ∷ []) (advanced (plan_of z) w s)
   unfolding advanced changed takes doer finishes plan
   told_column {ds} {s} r w a =
       let (hw, hb) = column_tells z s w a in
@@ -144,7 +144,7 @@ module _ (z : Sizes) where
 
   -- ---- from an opening
 
-  module _ (s : Lent) (cs : List Call) (e : (open_call z s).answer ≡ Accepted) where
+  module _ (s : Lent) (cs : List Call) (e : (open_call z s).answer ≡ accepted) where
     o : Opened z s
     o = opened_by z s e
 

@@ -1,9 +1,8 @@
 -- The accepted takes and columns of a list of calls, one by one, those inside runs among them: which task a column counts for, and when a
 -- task is finished. Document 01, section "Lists of calls". Assumes nothing.
-use Rattle.std.specs.Prelude.{ℕ, zero, suc, ◌%◌, ◌≡◌, Bool, true, false, cond, ◌&&◌, ◌||◌, List, [], ◌∷◌, ◌++◌, eqb, length}
+use Rattle.std.specs.Prelude.{Ok, Err, ℕ, zero, suc, ◌%◌, ◌≡◌, Bool, true, false, cond, ◌&&◌, ◌||◌, List, [], ◌∷◌, ◌++◌, eqb, length}
 use Rattle.model.specs.declared.Sizes.{Sizes}
-use Rattle.model.specs.declared.Answer.{Answer}
-use Rattle.model.specs.declared.Answer.TheVariants.{Accepted, Refused}
+use Rattle.model.specs.Answer.{Answer}
 use Rattle.model.specs.Lists.{some, keep}
 use Rattle.model.specs.Plan.{Plan, plan_of}
 use Rattle.model.specs.Links.{mark, finished, broken}
@@ -31,8 +30,8 @@ run_deeds z W (suc b) w s =
     elim (all_finished z s) [ true ↦ [] | false ↦ turn_deed z v s ∷ run_deeds z W b (suc v % W) (turn z v s) ]
 
 unfoldable pub where_accepted : Answer → List Deed → List Deed
-where_accepted Accepted ds = ds
-where_accepted (Refused n x) ds = []
+where_accepted (Ok _) ds = ds
+where_accepted (Err why) ds = []
 
 unfoldable pub deeds_by : Sizes → Asked → Lent → List Deed
 deeds_by z (take w p) s = where_accepted (take_answer z w p s) (did_take w p s ∷ [])

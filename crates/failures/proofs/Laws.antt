@@ -14,8 +14,7 @@ use Rattle.model.specs.Buffer.{tile, element}
 use Rattle.model.specs.Loops.{State, failed_tasks, zero_rows, outcome}
 use Rattle.laws.proofs.Blocks.{in_block, row_below, column_below}
 use Rattle.checks.specs.Checks.{Sized}
-use Rattle.finite_numbers.specs.declared.Lowest.{Lowest}
-use Rattle.finite_numbers.specs.declared.Lowest.TheVariants.{None, At}
+use Rattle.std.specs.Prelude.{Some, None, Option}
 use Rattle.checks.proofs.Laws.{small, tile_fits}
 use Rattle.unfinished.proofs.First.{first_below, from_at, from_none}
 
@@ -53,24 +52,24 @@ module _ (z : Sizes) (m : List Float) (l ms ns : List ℕ) where
   abbrev state : State
   state = record { buffers = record { matrix = m; lists = l }; marks = ms; ties = ns }
 
-  pub outcome_failed : (f : Lowest) (p : ℕ) → f ≡ first_or (failed_tasks ms) At None → f ≡ At p → Overflow p ≡ outcome (plan_of z) state
+  pub outcome_failed : (f : Option ℕ) (p : ℕ) → f ≡ first_or (failed_tasks ms) Some None → f ≡ Some p → Overflow p ≡ outcome (plan_of z) state
   unfolding outcome
   outcome_failed f p e q = sym (from_at Overflow _ (failed_tasks ms) f p e q)
 
-  module _ (f : Lowest) (e : f ≡ first_or (failed_tasks ms) At None) (q : f ≡ None) where
-    pub outcome_zero : (g : Lowest) (x : ℕ) → g ≡ first_or (zero_rows (plan_of z) m) At None → g ≡ At x → Singular x ≡ outcome (plan_of z) state
+  module _ (f : Option ℕ) (e : f ≡ first_or (failed_tasks ms) Some None) (q : f ≡ None) where
+    pub outcome_zero : (g : Option ℕ) (x : ℕ) → g ≡ first_or (zero_rows (plan_of z) m) Some None → g ≡ Some x → Singular x ≡ outcome (plan_of z) state
     unfolding outcome
     outcome_zero g x h r = sym (from_none Overflow _ (failed_tasks ms) f e q ∙ from_at Singular Good (zero_rows (plan_of z) m) g x h r)
 
-    pub outcome_good : (g : Lowest) → g ≡ first_or (zero_rows (plan_of z) m) At None → g ≡ None → Good ≡ outcome (plan_of z) state
+    pub outcome_good : (g : Option ℕ) → g ≡ first_or (zero_rows (plan_of z) m) Some None → g ≡ None → Good ≡ outcome (plan_of z) state
     unfolding outcome
     outcome_good g h r = sym (from_none Overflow _ (failed_tasks ms) f e q ∙ from_none Singular Good (zero_rows (plan_of z) m) g h r)
 
 -- the rows are below n, and the failed tasks among the records
-pub zero_below : (z : Sizes) (m : List Float) (g : Lowest) (x : ℕ) → g ≡ first_or (zero_rows (plan_of z) m) At None → g ≡ At x → x < z.tiles * z.side
+pub zero_below : (z : Sizes) (m : List Float) (g : Option ℕ) (x : ℕ) → g ≡ first_or (zero_rows (plan_of z) m) Some None → g ≡ Some x → x < z.tiles * z.side
 unfolding zero_rows order plan
 zero_below z m g x e q = first_below _ (z.tiles * z.side) g x e q
 
-pub failed_below : (ms : List ℕ) (g : Lowest) (p : ℕ) → g ≡ first_or (failed_tasks ms) At None → g ≡ At p → p < length ms
+pub failed_below : (ms : List ℕ) (g : Option ℕ) (p : ℕ) → g ≡ first_or (failed_tasks ms) Some None → g ≡ Some p → p < length ms
 unfolding failed_tasks
 failed_below ms g p e q = first_below _ (length ms) g p e q

@@ -1,7 +1,7 @@
 // What decides the outcome of a finished system: failed tasks and zeros on the diagonal, the lowest of each.
 #![tactic(auto)]
 
-ghost use Rattle.std.specs.Prelude.{◌≡◌, List, ℕ, ◌*◌, ◌<◌};
+ghost use Rattle.std.specs.Prelude.{◌≡◌, List, ℕ, ◌*◌, ◌<◌, Some, None};
 ghost use Rattle.model.specs.Lengths.{MatrixFits, RecordsFit};
 ghost use Rattle.model.specs.Lists.{first_or};
 ghost use Rattle.model.specs.Plan.{plan_of};
@@ -9,24 +9,20 @@ ghost use Rattle.model.specs.Buffer.{element};
 ghost use Rattle.model.specs.Loops.{failed_tasks, zero_rows, outcome as outcome_of};
 ghost use Rattle.records.specs.Records.{marks_from, ties_from};
 ghost use Rattle.checks.specs.Checks.{Sized};
-ghost use Rattle.finite_numbers.specs.declared.Lowest.TheVariants.{None, At};
 
-use finite_numbers::Lowest;
 use model::{Outcome, Sizes};
 use records::{Record, mark_of};
 
 // The lowest task that failed.
-fn first_failed(records: &[Record]) -> Lowest
-    ensures { result ≡ first_or (failed_tasks (marks_from records.now)) At None }
+fn first_failed(records: &[Record]) -> Option<usize>
+    ensures { result ≡ first_or (failed_tasks (marks_from records.now)) Some None }
 {
-    let mut p = 0;
-    while p < records.len() {
+    for p in 0..records.len() {
         if mark_of(records, p) == 3 {
-            return Lowest::At(p);
+            return Some(p);
         }
-        p += 1;
     }
-    Lowest::None
+    None
 }
 
 // The element of row x on the diagonal.
@@ -41,19 +37,17 @@ fn diagonal(z: Sizes, matrix: &[f64], x: usize) -> f64
 }
 
 // The lowest row with a zero on the diagonal.
-fn first_zero_row(z: Sizes, matrix: &[f64]) -> Lowest
+fn first_zero_row(z: Sizes, matrix: &[f64]) -> Option<usize>
     requires { Sized z × MatrixFits z matrix.now }
-    ensures { result ≡ first_or (zero_rows (plan_of z) matrix.now) At None }
+    ensures { result ≡ first_or (zero_rows (plan_of z) matrix.now) Some None }
 {
     let order = z.tiles * z.side;
-    let mut x = 0;
-    while x < order {
+    for x in 0..order {
         if diagonal(z, matrix, x) == 0.0 {
-            return Lowest::At(x);
+            return Some(x);
         }
-        x += 1;
     }
-    Lowest::None
+    None
 }
 
 // The outcome by the marks and the diagonal that stand now: what it is once every task is finished.
@@ -66,12 +60,12 @@ pub fn outcome_of(z: Sizes, matrix: &[f64], records: &[Record]) -> Outcome
     }) }
 {
     let task = first_failed(records);
-    if let Lowest::At(p) = task {
+    if let Some(p) = task {
         return Outcome::Overflow(p as u16);
     }
     let row = first_zero_row(z, matrix);
     match row {
-        Lowest::At(x) => Outcome::Singular(x as u16),
-        Lowest::None => Outcome::Good,
+        Some(x) => Outcome::Singular(x as u16),
+        None => Outcome::Good,
     }
 }

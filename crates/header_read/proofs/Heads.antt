@@ -10,17 +10,19 @@ use lib.ListN.{length, take, drop}
 use lib.Seq.{length-take-le}
 use borrow.Author.Tests.{eq-eqb, ne_eqb, lt-ltb, le-ltb, ltb-false}
 use Rattle.laws.proofs.Tests.{true_or_false}
-use Rattle.model.specs.declared.Answer.{Answer}
-use Rattle.model.specs.declared.Answer.TheVariants.{Accepted, Refused}
+use Rattle.std.specs.Prelude.{Ok, Err}
+use Rattle.model.specs.Answer.{Answer, accepted, refused_by}
+use Rattle.model.specs.declared.Rule.{Rule}
+use Rattle.header_read.specs.Heads.{shape}
+use Rattle.model.specs.declared.Rule.TheVariants.{BadSizes, BadLengths, Malformed, WrongFrame, WrongEnd}
+use Rattle.model.specs.declared.FileRead.TheVariants.{SystemRead}
 use Rattle.model.specs.Refusal.{refuse}
 use Rattle.model.specs.Text.{bad_shape}
-use Rattle.model.specs.declared.ReadAnswer.TheVariants.{SystemRead, ReadRefused}
 use Rattle.model.specs.Read.{Frame, kind_in, tiles_in, side_in, line_length, lines_from, last_line, not_digits, bad_line, lines_answer, file_answer, system_reading, no_limit}
 use Rattle.digits_read.specs.Digits.{FieldOfDigits}
 use Rattle.lines_read.specs.Line.{malformed}
 use Rattle.lines_read.proofs.Tested.{line_of_digits, field_in, well_formed, as_malformed}
-use Rattle.header_read.specs.declared.Header.{Header}
-use Rattle.header_read.specs.declared.Header.TheVariants.{Shape, Unread}
+use Rattle.header_read.specs.Heads.{Header}
 use Rattle.header_read.specs.Heads.{header_line, header_answer, shaped, header_of, sizes_in, sizes_told, Foretells}
 use Rattle.frames_read.proofs.Lines.{First, none, bad, good, first}
 use Rattle.frames_read.proofs.Followed.{passed, bad_line_lem, refuse_passed}
@@ -28,31 +30,31 @@ use Rattle.frames_read.proofs.Followed.{passed, bad_line_lem, refuse_passed}
 -- ---- by the way of the code
 
 module _ (limit : ℕ) (text : List ℕ) where
-  pub no_text : length text ≡ 0 → Unread 14 1 ≡ header_of limit text
+  pub no_text : length text ≡ 0 → refused_by WrongEnd 1 ≡ header_of limit text
   unfolding header_of header_answer refuse
   no_text e = rw (eq-eqb (length text) 0 e)
 
   module _ (n : length text ≡ 0 → ⊥) where
-    pub short_text : length text < 7 → Unread 12 1 ≡ header_of limit text
+    pub short_text : length text < 7 → refused_by Malformed 1 ≡ header_of limit text
     unfolding header_of header_answer refuse
     short_text h = rw (ne_eqb (length text) 0 n, lt-ltb (length text) 7 h)
 
     module _ (h : 7 ≤ length text) where
-      pub header_12 : malformed 0 (header_line text) ≡ true → Unread 12 1 ≡ header_of limit text
+      pub header_12 : malformed 0 (header_line text) ≡ true → refused_by Malformed 1 ≡ header_of limit text
       unfolding header_of header_answer refuse
       header_12 a = rw (ne_eqb (length text) 0 n, le-ltb (length text) 7 h, a)
 
       module _ (a : malformed 0 (header_line text) ≡ false) where
-        pub header_13 : (kind_in (header_line text) ≡ 1 → ⊥) → Unread 13 1 ≡ header_of limit text
+        pub header_13 : (kind_in (header_line text) ≡ 1 → ⊥) → refused_by WrongFrame 1 ≡ header_of limit text
         unfolding header_of header_answer refuse
         header_13 b = rw (ne_eqb (length text) 0 n, le-ltb (length text) 7 h, a, ne_eqb (kind_in (header_line text)) 1 b)
 
         module _ (b : kind_in (header_line text) ≡ 1) (N k : ℕ) (p : N ≡ tiles_in (header_line text)) (q : k ≡ side_in (header_line text)) where
-          pub header_1 : (bad_shape N k || ltb limit (N * k)) ≡ true → Unread 1 1 ≡ header_of limit text
+          pub header_1 : (bad_shape N k || ltb limit (N * k)) ≡ true → refused_by BadSizes 1 ≡ header_of limit text
           unfolding header_of header_answer refuse
           header_1 d = rw (ne_eqb (length text) 0 n, le-ltb (length text) 7 h, a, eq-eqb (kind_in (header_line text)) 1 b, ← p, ← q, d)
 
-          pub header_shape : (bad_shape N k || ltb limit (N * k)) ≡ false → Shape N k ≡ header_of limit text
+          pub header_shape : (bad_shape N k || ltb limit (N * k)) ≡ false → Ok (shape N k) ≡ header_of limit text
           unfolding header_of header_answer refuse
           header_shape d = rw (ne_eqb (length text) 0 n, le-ltb (length text) 7 h, a, eq-eqb (kind_in (header_line text)) 1 b, ← p, ← q, d) (cc)
 
@@ -69,20 +71,20 @@ header_field text p n h a b =
 module _ (limit : ℕ) (frames : ℕ → List Frame) (lengths : ℕ → ℕ → Bool) where
   -- what comes after an accepted header, where ls are the lines after it
   abbrev pub behind_header : List ℕ → List (List ℕ) → Answer
-  behind_header h ls = refuse 2 0 (lengths (tiles_in h) (side_in h)) (lines_answer (side_in h) 2 (frames (tiles_in h)) ls)
+  behind_header h ls = refuse BadLengths 0 (lengths (tiles_in h) (side_in h)) (lines_answer (side_in h) 2 (frames (tiles_in h)) ls)
 
   -- the header's own refusals
   own_answer : Bool → List ℕ → Answer → Answer
-  own_answer b h r = refuse 12 1 b (refuse 13 1 (not (eqb (kind_in h) 1)) (refuse 1 1 (bad_shape (tiles_in h) (side_in h) || ltb limit (tiles_in h * side_in h)) r))
+  own_answer b h r = refuse Malformed 1 b (refuse WrongFrame 1 (not (eqb (kind_in h) 1)) (refuse BadSizes 1 (bad_shape (tiles_in h) (side_in h) || ltb limit (tiles_in h * side_in h)) r))
 
-  own_passed : (b : Bool) (h : List ℕ) (r : Answer) → own_answer b h r ≡ passed (own_answer b h Accepted) r
+  own_passed : (b : Bool) (h : List ℕ) (r : Answer) → own_answer b h r ≡ passed (own_answer b h accepted) r
   unfolding own_answer
   own_passed b h r =
       let s = bad_shape (tiles_in h) (side_in h) || ltb limit (tiles_in h * side_in h) in
       let k = not (eqb (kind_in h) 1) in
-      ap (λ (z : Answer). refuse 12 1 b (refuse 13 1 k z)) (refuse_passed 1 1 s Accepted r)
-      ∙ ap (refuse 12 1 b) (refuse_passed 13 1 k (refuse 1 1 s Accepted) r)
-      ∙ refuse_passed 12 1 b (refuse 13 1 k (refuse 1 1 s Accepted)) r
+      ap (λ (z : Answer). refuse Malformed 1 b (refuse WrongFrame 1 k z)) (refuse_passed 1 1 s accepted r)
+      ∙ ap (refuse Malformed 1 b) (refuse_passed 13 1 k (refuse BadSizes 1 s accepted) r)
+      ∙ refuse_passed 12 1 b (refuse WrongFrame 1 k (refuse BadSizes 1 s accepted)) r
 
   file_of : (h : List ℕ) (ls : List (List ℕ)) → file_answer limit frames lengths (h ∷ ls) ≡ own_answer (bad_line 0 1 h) h (behind_header h ls)
   unfolding file_answer own_answer
@@ -92,20 +94,20 @@ module _ (limit : ℕ) (frames : ℕ → List Frame) (lengths : ℕ → ℕ → 
   unfolding file_answer lines_from last_line header_answer refuse
   no_file r = refl
 
-  bad_first : (h : List ℕ) (r : Answer) → bad_line 0 1 h ≡ true → own_answer (bad_line 0 1 h) h r ≡ Refused 12 1
+  bad_first : (h : List ℕ) (r : Answer) → bad_line 0 1 h ≡ true → own_answer (bad_line 0 1 h) h r ≡ refused_by Malformed 1
   unfolding own_answer refuse
   bad_first h r e = rw e
 
-  head_bad : (text : List ℕ) → 0 < length text → (7 ≤ length text → not_digits (take 7 text) ≡ true) → header_answer limit text ≡ Refused 12 1
+  head_bad : (text : List ℕ) → 0 < length text → (7 ≤ length text → not_digits (take 7 text) ≡ true) → header_answer limit text ≡ refused_by Malformed 1
   unfolding header_answer own_answer refuse malformed
   head_bad text h n = rw (ne_eqb (length text) 0 (λ e. omega arith)) (go (true_or_false (ltb (length text) 7)))
     where
       go : (ltb (length text) 7 ≡ true) ⊎ (ltb (length text) 7 ≡ false)
-          → refuse 12 1 (ltb (length text) 7) (own_answer (malformed 0 (take 7 text)) (take 7 text) Accepted) ≡ Refused 12 1
+          → refuse Malformed 1 (ltb (length text) 7) (own_answer (malformed 0 (take 7 text)) (take 7 text) accepted) ≡ refused_by Malformed 1
       go (inl e) = rw e
       go (inr e) = rw (e, n (ltb-false (length text) 7 e))
 
-  head_good : (text : List ℕ) → 7 ≤ length text → header_answer limit text ≡ own_answer (bad_line 0 1 (take 7 text)) (take 7 text) Accepted
+  head_good : (text : List ℕ) → 7 ≤ length text → header_answer limit text ≡ own_answer (bad_line 0 1 (take 7 text)) (take 7 text) accepted
   unfolding header_answer own_answer refuse line_length
   head_good text h =
       rw (ne_eqb (length text) 0 (λ e. omega arith), le-ltb (length text) 7 h, as_malformed 0 1 (take 7 text) (length-take-le 7 text h))
@@ -144,16 +146,16 @@ alone_none : Alone [] (lines_from [] [])
 unfolding file_answer lines_from last_line header_of header_answer refuse system_reading
 alone_none = refl
 
-alone_bad : (text : List ℕ) (ls : List (List ℕ)) → line_alone ls ≡ Refused 12 1 → header_answer no_limit text ≡ Refused 12 1 → Alone text ls
+alone_bad : (text : List ℕ) (ls : List (List ℕ)) → line_alone ls ≡ refused_by Malformed 1 → header_answer no_limit text ≡ refused_by Malformed 1 → Alone text ls
 unfolding header_of system_reading
 alone_bad text ls p q = rw (p, q)
 
 alone_told : (a : Answer) (h : List ℕ) → (system_reading a (h ∷ []) []).answer ≡ sizes_told (shaped a h)
 unfolding system_reading
-alone_told Accepted h = refl
-alone_told (Refused n x) h = refl
+alone_told (Ok _) h = refl
+alone_told (Err why) h = refl
 
-nothing_behind : (h : List ℕ) → behind_header no_limit none_due any_length h [] ≡ Accepted
+nothing_behind : (h : List ℕ) → behind_header no_limit none_due any_length h [] ≡ accepted
 unfolding lines_answer refuse
 nothing_behind h = refl
 
@@ -184,14 +186,14 @@ module _ (text : List ℕ) where
     abbrev behind : Answer
     behind = behind_header no_limit frames lengths (header_line text) (lines_from [] (drop 7 text))
 
-    told_refused : (a : Answer) (n x : ℕ) → sizes_told (shaped a (header_line text)) ≡ ReadRefused n x → passed a behind ≡ Refused n x
-    told_refused Accepted n x e = let z : ◌≡◌ {A = ℕ} 0 1 = cc in absurd (omega arith)
-    told_refused (Refused m y) n x e = cc
+    told_refused : (a : Answer) (n : Rule) (x : ℕ) → sizes_told (shaped a (header_line text)) ≡ refused_by n x → passed a behind ≡ refused_by n x
+    told_refused (Ok _) n x e = let z : ◌≡◌ {A = ℕ} 0 1 = cc in absurd (omega arith)
+    told_refused (Err why) n x e = cc
 
-    told_sized : (a : Answer) (N t : ℕ) → sizes_told (shaped a (header_line text)) ≡ SystemRead N t
-        → passed a behind ≡ refuse 2 0 (lengths N t) (lines_answer t 2 (frames N) (lines_from [] (drop 7 text)))
-    told_sized Accepted N t e = let p : tiles_in (header_line text) ≡ N = cc in let q : side_in (header_line text) ≡ t = cc in rw (p, q)
-    told_sized (Refused m y) N t e = let z : ◌≡◌ {A = ℕ} 0 1 = cc in absurd (omega arith)
+    told_sized : (a : Answer) (N t : ℕ) → sizes_told (shaped a (header_line text)) ≡ Ok (SystemRead N t)
+        → passed a behind ≡ refuse BadLengths 0 (lengths N t) (lines_answer t 2 (frames N) (lines_from [] (drop 7 text)))
+    told_sized (Ok _) N t e = let p : tiles_in (header_line text) ≡ N = cc in let q : side_in (header_line text) ≡ t = cc in rw (p, q)
+    told_sized (Err why) N t e = let z : ◌≡◌ {A = ℕ} 0 1 = cc in absurd (omega arith)
 
   pub foretold : (r : Header) → r ≡ header_of no_limit text → Foretells text (sizes_told r)
   unfolding header_of

@@ -32,24 +32,24 @@ pub fn check_header(text: &[u8], limit: usize) -> Header
     ensures { result ≡ header_of limit text.now }
 {
     if text.len() == 0 {
-        return Header::Unread(14, 1);
+        return Err(Rule::WrongEnd.at(1));
     }
     if text.len() < 7 {
-        return Header::Unread(12, 1);
+        return Err(Rule::Malformed.at(1));
     }
     let line = &text[..7];
     if is_malformed(line, 0) {
-        return Header::Unread(12, 1);
+        return Err(Rule::Malformed.at(1));
     }
     if field_at(line, 0, 2) != 1 {
-        return Header::Unread(13, 1);
+        return Err(Rule::WrongFrame.at(1));
     }
     let tiles = field_at(line, 2, 2);
     let side = field_at(line, 4, 2);
     if refused_shape(tiles, side, limit) {
-        return Header::Unread(1, 1);
+        return Err(Rule::BadSizes.at(1));
     }
-    Header::Shape(tiles, side)
+    Ok(Shape { tiles, side })
 }
 
 // N and t by line 1 of a system or of a result, whatever comes after it.
@@ -58,7 +58,7 @@ pub fn read_sizes(text: &[u8]) -> ReadAnswer
     ensures foretells { Foretells text.now result }
 {
     match check_header(text, MOST_ORDER) {
-        Header::Shape(tiles, side) => ReadAnswer::SystemRead(tiles, side),
-        Header::Unread(n, x) => ReadAnswer::ReadRefused(n, x),
+        Ok(Shape { tiles, side }) => Ok(FileRead::SystemRead(tiles, side)),
+        Err(why) => Err(why),
     }
 }

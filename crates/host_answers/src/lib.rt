@@ -1,12 +1,14 @@
 // What the calls tell a host: answers and outcomes as numbers.
 #![tactic(auto)]
 
-ghost use Rattle.std.specs.Prelude.{◌≡◌};
-ghost use Rattle.model.specs.declared.OutcomeAnswer.TheVariants.{Known};
-ghost use Rattle.model.specs.declared.ReadAnswer.TheVariants.{ResultRead};
+ghost use Rattle.std.specs.Prelude.{◌≡◌, Err};
+ghost use Rattle.model.specs.declared.RunStop.TheVariants.{Finished, Spent};
 ghost use Rattle.host_answers.specs.Answers.{told, run_told, outcome_told, write_told, read_told, outcome_from};
 
-use model::{Answer, Outcome, OutcomeAnswer, ReadAnswer, RunAnswer, WriteAnswer};
+use model::{
+    Answer, FileRead, Outcome, OutcomeAnswer, ReadAnswer, Refusal, RunAnswer, RunStop, Standing,
+    WriteAnswer,
+};
 
 // What a call tells a host: a refusal's number and place, both 0 where there is none; and by the call a kind, a place and a count.
 #[repr(C)]
@@ -30,23 +32,32 @@ pub struct ReadTold {
     pub kind: u8,
 }
 
+// Nothing to tell: no refusal, and every other number 0.
+const NOTHING: Told = Told {
+    place: 0,
+    count: 0,
+    number: 0,
+    kind: 0,
+};
+
+// A refusal's number and place.
+fn tell_refusal(why: Refusal) -> Told
+    ensures { result ≡ told (Err why) }
+{
+    Told {
+        place: why.place,
+        number: why.rule.number(),
+        ..NOTHING
+    }
+}
+
 // What an opening, a take or a column tells.
 pub fn tell(answer: Answer) -> Told
     ensures { result ≡ told answer }
 {
     match answer {
-        Answer::Accepted => Told {
-            place: 0,
-            count: 0,
-            number: 0,
-            kind: 0,
-        },
-        Answer::Refused(n, x) => Told {
-            place: x,
-            count: 0,
-            number: n,
-            kind: 0,
-        },
+        Ok(()) => NOTHING,
+        Err(why) => tell_refusal(why),
     }
 }
 
@@ -55,71 +66,42 @@ pub fn tell_run(answer: RunAnswer) -> Told
     ensures { result ≡ run_told answer }
 {
     match answer {
-        RunAnswer::Finished(c) => Told {
-            place: 0,
+        Ok(RunStop::Finished(c)) => Told {
             count: c,
-            number: 0,
             kind: 1,
+            ..NOTHING
         },
-        RunAnswer::Spent(c) => Told {
-            place: 0,
+        Ok(RunStop::Spent(c)) => Told {
             count: c,
-            number: 0,
             kind: 2,
+            ..NOTHING
         },
-        RunAnswer::RunRefused(n, x) => Told {
-            place: x,
-            count: 0,
-            number: n,
-            kind: 0,
-        },
+        Err(why) => tell_refusal(why),
     }
 }
 
-// Kind 0: good; 1: overflow at a task; 2: singular at a row.
-fn tell_known(outcome: Outcome) -> Told
-    ensures { result ≡ outcome_told (Known outcome) }
-{
-    match outcome {
-        Outcome::Good => Told {
-            place: 0,
-            count: 0,
-            number: 0,
-            kind: 0,
-        },
-        Outcome::Overflow(p) => Told {
-            place: p as usize,
-            count: 0,
-            number: 0,
-            kind: 1,
-        },
-        Outcome::Singular(x) => Told {
-            place: x as usize,
-            count: 0,
-            number: 0,
-            kind: 2,
-        },
-    }
-}
-
-// Kind 3: the lowest unfinished task.
+// Kind 0: good; 1: overflow at a task; 2: singular at a row. Kind 3: the lowest unfinished task.
 pub fn tell_outcome(answer: OutcomeAnswer) -> Told
     ensures { result ≡ outcome_told answer }
 {
     match answer {
-        OutcomeAnswer::Known(o) => tell_known(o),
-        OutcomeAnswer::Unfinished(p) => Told {
+        Ok(Standing::Known(Outcome::Good)) => NOTHING,
+        Ok(Standing::Known(Outcome::Overflow(p))) => Told {
+            place: p as usize,
+            kind: 1,
+            ..NOTHING
+        },
+        Ok(Standing::Known(Outcome::Singular(x))) => Told {
+            place: x as usize,
+            kind: 2,
+            ..NOTHING
+        },
+        Ok(Standing::Unfinished(p)) => Told {
             place: p,
-            count: 0,
-            number: 0,
             kind: 3,
+            ..NOTHING
         },
-        OutcomeAnswer::OutcomeRefused(n, x) => Told {
-            place: x,
-            count: 0,
-            number: n,
-            kind: 0,
-        },
+        Err(why) => tell_refusal(why),
     }
 }
 
@@ -128,49 +110,11 @@ pub fn tell_written(answer: WriteAnswer) -> Told
     ensures { result ≡ write_told answer }
 {
     match answer {
-        WriteAnswer::Written(n) => Told {
-            place: 0,
+        Ok(n) => Told {
             count: n as u64,
-            number: 0,
-            kind: 0,
+            ..NOTHING
         },
-        WriteAnswer::WriteRefused(n, x) => Told {
-            place: x,
-            count: 0,
-            number: n,
-            kind: 0,
-        },
-    }
-}
-
-fn tell_result(tiles: usize, side: usize, outcome: Outcome) -> ReadTold
-    ensures { result ≡ read_told (ResultRead tiles side outcome) }
-{
-    match outcome {
-        Outcome::Good => ReadTold {
-            place: 0,
-            tiles: tiles,
-            side: side,
-            at: 0,
-            number: 0,
-            kind: 0,
-        },
-        Outcome::Overflow(p) => ReadTold {
-            place: 0,
-            tiles: tiles,
-            side: side,
-            at: p,
-            number: 0,
-            kind: 1,
-        },
-        Outcome::Singular(x) => ReadTold {
-            place: 0,
-            tiles: tiles,
-            side: side,
-            at: x,
-            number: 0,
-            kind: 2,
-        },
+        Err(why) => tell_refusal(why),
     }
 }
 
@@ -179,23 +123,36 @@ pub fn tell_read(answer: ReadAnswer) -> ReadTold
     ensures { result ≡ read_told answer }
 {
     match answer {
-        ReadAnswer::SystemRead(n, t) => ReadTold {
-            place: 0,
-            tiles: n,
-            side: t,
-            at: 0,
-            number: 0,
-            kind: 0,
-        },
-        ReadAnswer::ResultRead(n, t, o) => tell_result(n, t, o),
-        ReadAnswer::ReadRefused(n, x) => ReadTold {
-            place: x,
+        Ok(FileRead::SystemRead(tiles, side)) => tell_result(tiles, side, 0, 0),
+        Ok(FileRead::ResultRead(tiles, side, Outcome::Good)) => tell_result(tiles, side, 0, 0),
+        Ok(FileRead::ResultRead(tiles, side, Outcome::Overflow(p))) => {
+            tell_result(tiles, side, 1, p)
+        }
+        Ok(FileRead::ResultRead(tiles, side, Outcome::Singular(x))) => {
+            tell_result(tiles, side, 2, x)
+        }
+        Err(why) => ReadTold {
+            place: why.place,
             tiles: 0,
             side: 0,
             at: 0,
-            number: n,
+            number: why.rule.number(),
             kind: 0,
         },
+    }
+}
+
+// N and t, and an outcome's kind and place.
+fn tell_result(tiles: usize, side: usize, kind: u8, at: u16) -> ReadTold
+    ensures { result ≡ record { place = 0; tiles = tiles; side = side; at = at; number = 0; kind = kind } }
+{
+    ReadTold {
+        place: 0,
+        tiles,
+        side,
+        at,
+        number: 0,
+        kind,
     }
 }
 
@@ -203,11 +160,9 @@ pub fn tell_read(answer: ReadAnswer) -> ReadTold
 pub fn outcome_from(kind: u8, place: u16) -> Outcome
     ensures { result ≡ outcome_from kind place }
 {
-    if kind == 0 {
-        return Outcome::Good;
+    match kind {
+        0 => Outcome::Good,
+        1 => Outcome::Overflow(place),
+        _ => Outcome::Singular(place),
     }
-    if kind == 1 {
-        return Outcome::Overflow(place);
-    }
-    Outcome::Singular(place)
 }

@@ -6,12 +6,11 @@ use native.Mathlib.Nat.{suc-mul}
 use native.Mathlib.Omega.{arith}
 use lib.ListN.{length, take, drop, length-drop}
 use lib.Seq.{length-take-le, take-take}
-use Rattle.model.specs.declared.Answer.{Answer}
-use Rattle.model.specs.declared.Answer.TheVariants.{Accepted}
+use Rattle.std.specs.Prelude.{Ok, Err}
+use Rattle.model.specs.Answer.{Answer, accepted}
 use Rattle.model.specs.Read.{Frame, line_length, line_answer}
 use Rattle.cursors.specs.declared.Cursor.{Cursor}
-use Rattle.cursors.specs.declared.Step.{Step}
-use Rattle.cursors.specs.declared.Step.TheVariants.{Next, Stopped}
+use Rattle.cursors.specs.Steps.{Step}
 use Rattle.cursors.specs.Steps.{landed, step_of}
 use Rattle.frames_read.specs.Follow.{onward, follow}
 use Rattle.cursors.proofs.Steps.{stepped}
@@ -35,7 +34,7 @@ module _ (t L : ℕ) (text : List ℕ) (long : L ≤ length text) where
       let b : n ≤ length (drop c.at text) = rw (length-drop c.at text) (omega arith) in
       ap (λ (r : Answer). landed r (record { at = c.at + n; line = c.line + 1 }))
       (due_good t c.line f (drop c.at (take L text)) a
-      ∙ ap (λ (l : List ℕ). line_answer t c.line f l Accepted) (cut c.at n L text h)
+      ∙ ap (λ (l : List ℕ). line_answer t c.line f l accepted) (cut c.at n L text h)
       ∙ sym (due_good t c.line f (drop c.at text) b))
 
   pub follow_same : (k : ℕ) (fs : List Frame) (c : Cursor) → AllKind k fs → c.at + length fs * line_length t k ≤ L → follow t (take L text) fs c ≡ follow t text fs c
@@ -47,7 +46,7 @@ module _ (t L : ℕ) (text : List ℕ) (long : L ≤ length text) where
     where
       go : ((d : Cursor) → d.at + length fs * line_length t k ≤ L → follow t (take L text) fs d ≡ follow t text fs d) → (s : Step) → step_of t text f c ≡ s
           → onward (follow t (take L text) fs) s ≡ onward (follow t text fs) s
-      go ih (Next d) q =
+      go ih (Ok d) q =
           let at-is : d.at ≡ c.at + line_length t f.kind = ap (λ (z : Cursor). z.at) (stepped t text f c d q).next in
           ih d (omega (arith, at-is, suc-mul (length fs) (line_length t k), ap (line_length t) e))
-      go ih (Stopped n x) q = refl
+      go ih (Err why) q = refl

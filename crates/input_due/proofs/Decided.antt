@@ -12,15 +12,16 @@ use lib.Seq.{length-take-le, take_all, take-take}
 use borrow.Author.Tests.{lt-ltb, ltb-false}
 use Rattle.laws.proofs.Tests.{lt_or_le, or_false_right}
 use Rattle.laws.proofs.Texts.{length_tile_frames}
-use Rattle.model.specs.declared.Answer.{Answer}
-use Rattle.model.specs.declared.Answer.TheVariants.{Refused}
+use Rattle.std.specs.Prelude.{Ok, Err}
+use Rattle.model.specs.Answer.{Answer, refused_by}
+use Rattle.model.specs.declared.Rule.{Rule}
+use Rattle.model.specs.declared.Rule.TheVariants.{BadSizes, Malformed, WrongFrame, WrongEnd}
 use Rattle.model.specs.Refusal.{refuse}
 use Rattle.model.specs.Text.{bad_shape, refusal_frame}
 use Rattle.model.specs.Read.{kind_in, tiles_in, side_in, line_length, lines_from, system_frames, tile_frames, file_answer, printed, program}
 use Rattle.laws.proofs.Refusals.{passed}
 use Rattle.cursors.specs.declared.Cursor.{Cursor}
-use Rattle.cursors.specs.declared.Step.{Step}
-use Rattle.cursors.specs.declared.Step.TheVariants.{Next, Stopped}
+use Rattle.cursors.specs.Steps.{Step}
 use Rattle.frames_read.specs.Follow.{follow, text_end}
 use Rattle.lines_read.specs.Line.{malformed}
 use Rattle.header_read.specs.Heads.{header_line, header_answer}
@@ -41,11 +42,11 @@ order_small : {text : List ℕ} {N t : ℕ} → Headed 48 text N t → N * t ≤
 unfolding header_answer
 order_small {text} {N} {t} h =
     let H = header_line text in
-    let a = passed 14 1 (eqb (length text) 0) _ h.accepted in
-    let b = passed 12 1 (ltb (length text) 7) _ a.1 in
-    let c = passed 12 1 (malformed 0 H) _ b.1 in
-    let d = passed 13 1 (not (eqb (kind_in H) 1)) _ c.1 in
-    let e = passed 1 1 (bad_shape (tiles_in H) (side_in H) || ltb 48 (tiles_in H * side_in H)) _ d.1 in
+    let a = passed WrongEnd 1 (eqb (length text) 0) _ h.accepted in
+    let b = passed Malformed 1 (ltb (length text) 7) _ a.1 in
+    let c = passed Malformed 1 (malformed 0 H) _ b.1 in
+    let d = passed WrongFrame 1 (not (eqb (kind_in H) 1)) _ c.1 in
+    let e = passed BadSizes 1 (bad_shape (tiles_in H) (side_in H) || ltb 48 (tiles_in H * side_in H)) _ d.1 in
     rw (h.tiles_told, h.side_told) (ltb-false 48 (tiles_in H * side_in H) (or_false_right (bad_shape (tiles_in H) (side_in H)) (ltb 48 (tiles_in H * side_in H)) e.0))
 
 -- what the code multiplies, and how many bytes are due at most
@@ -62,16 +63,16 @@ limits {text} {N} {t} h =
 abbrev answer_of : List ℕ → Answer
 answer_of text = file_answer 48 system_frames (λ N t. false) (lines_from [] text)
 
-prints_refusal : (text : List ℕ) (n x : ℕ) → answer_of text ≡ Refused n x → program text ≡ refusal_frame n x
+prints_refusal : (text : List ℕ) (n : Rule) (x : ℕ) → answer_of text ≡ refused_by n x → program text ≡ refusal_frame n x
 unfolding program printed
 prints_refusal text n x e = ap (λ (a : Answer). printed a (lines_from [] text)) e
 
-both_refused : (text other : List ℕ) (n x : ℕ) → answer_of text ≡ Refused n x → answer_of other ≡ Refused n x → program text ≡ program other
+both_refused : (text other : List ℕ) (n : Rule) (x : ℕ) → answer_of text ≡ refused_by n x → answer_of other ≡ refused_by n x → program text ≡ program other
 both_refused text other n x a b = prints_refusal text n x a ∙ sym (prints_refusal other n x b)
 
 -- ---- a refused header
 
-pub seven_decide : (text front : List ℕ) (n x : ℕ) → take 7 text ≡ take 7 front → header_answer 48 front ≡ Refused n x → program (take 7 text) ≡ program text
+pub seven_decide : (text front : List ℕ) (n : Rule) (x : ℕ) → take 7 text ≡ take 7 front → header_answer 48 front ≡ refused_by n x → program (take 7 text) ≡ program text
 seven_decide text front n x e r =
     let all = same_header 48 text front e ∙ r in
     let seven = same_header 48 (take 7 text) front (take-take 7 7 text (omega arith) ∙ e) ∙ r in
@@ -98,11 +99,11 @@ module _ (N t : ℕ) (text : List ℕ) (headed : Headed 48 text N t) (long : sys
   alike = follow_same t L text long 2 (tile_frames N) start (tiles_kind N) (omega (arith, ap (λ (k : ℕ). k * (7 + 16 * (t * t))) (length_tile_frames N), tiles_size N t))
 
   -- more text comes after the frames, in both
-  more_behind : (k : List ℕ) (d : Cursor) → d.at < length k → text_end k (Next d) ≡ Refused 14 d.line
+  more_behind : (k : List ℕ) (d : Cursor) → d.at < length k → text_end k (Ok d) ≡ refused_by WrongEnd d.line
   unfolding text_end refuse
   more_behind k d h = rw (lt-ltb d.at (length k) h)
 
-  stops : (k : List ℕ) (n x : ℕ) → text_end k (Stopped n x) ≡ Refused n x
+  stops : (k : List ℕ) (n : Rule) (x : ℕ) → text_end k (refused_by n x) ≡ refused_by n x
   unfolding text_end
   stops k n x = refl
 
@@ -111,13 +112,13 @@ module _ (N t : ℕ) (text : List ℕ) (headed : Headed 48 text N t) (long : sys
   cut_decides = go (follow t text (system_frames N) start) refl
     where
       go : (s : Step) → follow t text (system_frames N) start ≡ s → program short ≡ program text
-      go (Next d) q =
+      go (Ok d) q =
           let at-is = tiles_end t N text start d (start_placed text (facts headed).long) q in
           let below : d.at < L = omega (arith, at-is, tiles_size N t) in
           both_refused short text 14 d.line
           (by_frames short short_headed ∙ ap (text_end short) (alike ∙ q) ∙ more_behind short d (omega (arith, length-take-le L text long)))
           (by_frames text headed ∙ ap (text_end text) q ∙ more_behind text d (omega arith))
-      go (Stopped n x) q =
+      go (Err why) q =
           both_refused short text n x
           (by_frames short short_headed ∙ ap (text_end short) (alike ∙ q) ∙ stops short n x)
           (by_frames text headed ∙ ap (text_end text) q ∙ stops text n x)

@@ -10,8 +10,8 @@ use lib.ListN.{length, take}
 use lib.Seq.{length-take-le, take_all, take-take}
 use borrow.Author.Tests.{ne_eqb, le-ltb}
 use Rattle.laws.proofs.Tests.{lt_or_le}
-use Rattle.model.specs.declared.Answer.{Answer}
-use Rattle.model.specs.declared.Answer.TheVariants.{Accepted}
+use Rattle.model.specs.Answer.{Answer, accepted}
+use Rattle.model.specs.declared.Rule.TheVariants.{BadSizes, Malformed, WrongFrame}
 use Rattle.model.specs.Refusal.{refuse}
 use Rattle.model.specs.Text.{bad_shape}
 use Rattle.model.specs.Read.{kind_in, tiles_in, side_in}
@@ -23,7 +23,7 @@ module _ (limit : ℕ) where
   -- what seven bytes answer
   seven_answer : List ℕ → Answer
   seven_answer h =
-      refuse 12 1 (malformed 0 h) (refuse 13 1 (not (eqb (kind_in h) 1)) (refuse 1 1 (bad_shape (tiles_in h) (side_in h) || ltb limit (tiles_in h * side_in h)) Accepted))
+      refuse Malformed 1 (malformed 0 h) (refuse WrongFrame 1 (not (eqb (kind_in h) 1)) (refuse BadSizes 1 (bad_shape (tiles_in h) (side_in h) || ltb limit (tiles_in h * side_in h)) accepted))
 
   long_header : (text : List ℕ) → 7 ≤ length text → header_answer limit text ≡ seven_answer (take 7 text)
   unfolding header_answer seven_answer refuse

@@ -1,8 +1,8 @@
 -- How many bytes of a text decide what the program prints. Assumes nothing.
-use Rattle.std.specs.Prelude.{ℕ, ◌+◌, ◌*◌, List}
+use Rattle.std.specs.Prelude.{Ok, Err, ℕ, ◌+◌, ◌*◌, List}
 use Rattle.model.specs.Limits.{program_order}
-use Rattle.header_read.specs.declared.Header.{Header}
-use Rattle.header_read.specs.declared.Header.TheVariants.{Shape, Unread}
+use Rattle.header_read.specs.Heads.{shape}
+use Rattle.header_read.specs.Heads.{Header}
 use Rattle.header_read.specs.Heads.{header_of}
 
 -- a byte more than a system of N by N tiles has, t by t each
@@ -10,8 +10,8 @@ abbrev pub system_due : ℕ → ℕ → ℕ
 system_due N t = 8 + N * (N * (7 + t * t * 16))
 
 abbrev pub due_behind : Header → ℕ
-due_behind (Shape N t) = system_due N t
-due_behind (Unread n x) = 7
+due_behind (Ok (shape N t)) = system_due N t
+due_behind (Err why) = 7
 
 unfoldable pub bytes_due : List ℕ → ℕ
 bytes_due text = due_behind (header_of program_order text)

@@ -16,7 +16,7 @@ pub fn bytes_due(front: &[u8]) -> usize
     ensures lower_bound { (7 ≤ result) × (result ≤ 38664) }
 {
     match check_header(front, PROGRAM_ORDER) {
-        Header::Shape(tiles, side) => 8 + tiles * (tiles * (7 + side * side * 16)),
-        Header::Unread(_, _) => 7,
+        Ok(Shape { tiles, side }) => 8 + tiles * (tiles * (7 + side * side * 16)),
+        Err(_) => 7,
     }
 }

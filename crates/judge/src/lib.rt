@@ -22,14 +22,14 @@ fn lengths_due(text: &[u8]) -> Lengths
     ensures { (result.numbers ≤ 65536) × (result.entries ≤ 4096) }
 {
     match check_header(text, MOST_ORDER) {
-        Header::Shape(tiles, side) => {
+        Ok(Shape { tiles, side }) => {
             let n = tiles * side;
             Lengths {
                 numbers: n * n,
                 entries: tiles * n,
             }
         }
-        Header::Unread(_, _) => Lengths {
+        Err(_) => Lengths {
             numbers: 0,
             entries: 0,
         },

@@ -5,7 +5,8 @@ use mathlib.Core.Path.{◌≡◌, refl, sym, ap, ◌∙◌, subst}
 use mathlib.Core.Logic.{◌⊎◌, inl, inr}
 use lib.ListN.{length}
 use Rattle.model.specs.declared.Sizes.{Sizes}
-use Rattle.model.specs.declared.RunAnswer.TheVariants.{Finished, Spent}
+use Rattle.std.specs.Prelude.{Ok}
+use Rattle.model.specs.declared.RunStop.TheVariants.{Finished, Spent}
 use Rattle.model.specs.Task.{tasks}
 use Rattle.model.specs.Plan.{plan, plan_of}
 use Rattle.model.specs.Links.{mark, finished, ready}
@@ -98,7 +99,7 @@ module _ (z : Sizes) (s : Lent) (h : Whole z s) where
 
 module _ (z : Sizes) (s : Lent) where
   abbrev end : Bool → ℕ → RunEnd
-  end f n = record { answer = cond f (Finished n) (Spent n); left = s }
+  end f n = record { answer = cond f (Ok (Finished n)) (Ok (Spent n)); left = s }
 
   pub finishes : (b n w : ℕ) → all_finished (plan_of z) s ≡ true → run_from (plan_of z) z.workers b n w s ≡ end true n
   unfolding run_from

@@ -1,7 +1,7 @@
 -- What document 02's K2 claims of the system told z. Assumes nothing.
 use Rattle.std.specs.Prelude.{ℕ, ◌+◌, ◌-◌, ◌*◌, ◌/◌, ◌≤◌, ◌<◌, ◌≡◌, true, List, length, Float}
 use Rattle.model.specs.declared.Sizes.{Sizes}
-use Rattle.model.specs.declared.Answer.TheVariants.{Accepted}
+use Rattle.model.specs.Answer.{accepted}
 use Rattle.model.specs.Task.{Task, tasks}
 use Rattle.model.specs.Links.{links_to, link_count, latest_writers, spoils}
 use Rattle.model.specs.Plan.{plan_of}
@@ -36,4 +36,4 @@ pub record K2 (z : Sizes) : Type 0 where
   -- the loops spoil the tasks that the old loops spoil, whatever the marks are, and end alike
   pub old_spoils_lem : (ms : List ℕ) (p : ℕ) → p < length (ts z) → spoils (ts z) ms p ≡ old_spoils (ts z) ms p
   pub old_loops_lem : (m : List Float) → loops (plan_of z) m ≡ old_loops (plan_of z) m
-  pub old_ends : (s : Lent) (cs : List Call) → (open_call z s).answer ≡ Accepted → Ends z s cs
+  pub old_ends : (s : Lent) (cs : List Call) → (open_call z s).answer ≡ accepted → Ends z s cs

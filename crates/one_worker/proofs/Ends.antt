@@ -14,10 +14,9 @@ use Rattle.model.specs.declared.Sizes.{Sizes}
 use Rattle.worker.specs.declared.Workers.{Workers}
 use Rattle.model.specs.declared.TaskRecord.{TaskRecord}
 use Rattle.model.specs.declared.Outcome.{Outcome}
-use Rattle.model.specs.declared.Answer.{Answer}
-use Rattle.model.specs.declared.Answer.TheVariants.{Accepted}
-use Rattle.model.specs.declared.RunAnswer.{RunAnswer}
-use Rattle.model.specs.declared.RunAnswer.TheVariants.{Finished, Spent}
+use Rattle.std.specs.Prelude.{Ok}
+use Rattle.model.specs.Answer.{Answer, RunAnswer, accepted}
+use Rattle.model.specs.declared.RunStop.TheVariants.{Finished, Spent}
 use Rattle.model.specs.Lists.{in_turn}
 use Rattle.model.specs.Task.{tasks}
 use Rattle.model.specs.Plan.{plan, plan_of, order}
@@ -61,7 +60,7 @@ module _ (N t : ℕ) (m : List Float) (l : List ℕ) (r : List (List ℕ)) (ws :
         eq-eqb (length (crew ws.slots ws.count)) 1 (length_crew ws.slots ws.count ∙ one),
       )
 
-  opens : (open_call z s).answer ≡ Accepted
+  opens : (open_call z s).answer ≡ accepted
   unfolding open_call open_answer refuse replied lent
   opens = rw (right_sizes, right_lengths, h.finite_all)
 
@@ -85,11 +84,11 @@ module _ (N t : ℕ) (m : List Float) (l : List ℕ) (r : List (List ℕ)) (ws :
   unfolding after_calls in_turn
   finishes = go (all_finished (plan N t) (run_call z budget first).left) refl (run_finishes z s [] opens budget (omega (arith, mul_comm (length (tasks N)) (suc t), add-one t)))
     where
-      go : (b : Bool) → all_finished (plan N t) (run_call z budget first).left ≡ b → (n : ℕ) × ((run_call z budget first).answer ≡ Finished n) → b ≡ true
+      go : (b : Bool) → all_finished (plan N t) (run_call z budget first).left ≡ b → (n : ℕ) × ((run_call z budget first).answer ≡ Ok (Finished n)) → b ≡ true
       go true q f = refl
       go false q (n, f) =
           let k = runs_are_calls z budget first (demand_3 z s [] opens).runs in
-          let g : (run_call z budget first).answer ≡ Spent (length k.calls) = k.answer ∙ ap (λ (b : Bool). cond b (Finished (length k.calls)) (Spent (length k.calls))) q in
+          let g : (run_call z budget first).answer ≡ Ok (Spent (length k.calls)) = k.answer ∙ ap (λ (b : Bool). cond b (Ok (Finished (length k.calls))) (Ok (Spent (length k.calls)))) q in
           let y : ◌≡◌ {A = ℕ} 0 1 = cc in
           absurd (omega arith)
 

@@ -7,8 +7,8 @@ ghost use Rattle.model.specs.Refusal.{open_answer};
 ghost use Rattle.records.specs.Records.{lent};
 
 use checks::{bad_lengths, bad_sizes};
-use finite_numbers::{Lowest, first_not_finite};
-use model::{Answer, Sizes};
+use finite_numbers::first_not_finite;
+use model::{Answer, Rule, Sizes};
 use records::Record;
 
 // What the opening answers, lent `count` workers.
@@ -23,14 +23,14 @@ pub fn open_answer(
         → result ≡ open_answer z (lent matrix.now lists.now records.now slots count number) }
 {
     if bad_sizes(z) {
-        return Answer::Refused(1, 0);
+        return Err(Rule::BadSizes.at(0));
     }
     if bad_lengths(z, matrix, lists, records, count) {
-        return Answer::Refused(2, 0);
+        return Err(Rule::BadLengths.at(0));
     }
     let found = first_not_finite(matrix);
     match found {
-        Lowest::At(x) => Answer::Refused(3, x),
-        Lowest::None => Answer::Accepted,
+        Some(x) => Err(Rule::NotFinite.at(x)),
+        None => Ok(()),
     }
 }

@@ -8,8 +8,8 @@ use lib.ListN.{length, replicate}
 use lib.Seq.{drop-length}
 use Rattle.model.specs.declared.Sizes.{Sizes}
 use Rattle.worker.specs.declared.Worker.{Worker}
-use Rattle.model.specs.declared.Answer.{Answer}
-use Rattle.model.specs.declared.Answer.TheVariants.{Accepted}
+use Rattle.model.specs.Answer.{Answer, accepted}
+use Rattle.model.specs.declared.Rule.TheVariants.{BadSizes, BadLengths}
 use Rattle.model.specs.Lengths.{LentFits}
 use Rattle.model.specs.Lists.{with_part}
 use Rattle.model.specs.Task.{tasks}
@@ -34,11 +34,11 @@ module _ (z : Sizes) (m : List Float) (l : List ℕ) (r : List (List ℕ)) (ws :
     pub fit : LentFits z m l r
     pub counted : count ≡ z.workers
 
-  pub checked : open_answer z old ≡ Accepted → Checked
+  pub checked : open_answer z old ≡ accepted → Checked
   unfolding open_answer
   checked e =
-      let a = passed 1 0 (bad_sizes z) _ e in
-      let b = passed 2 0 (bad_lengths (plan_of z) z.workers old) _ a.1 in
+      let a = passed BadSizes 0 (bad_sizes z) _ e in
+      let b = passed BadLengths 0 (bad_lengths (plan_of z) z.workers old) _ a.1 in
       record { sizes = sized z a.0; fit = lengths_fit z m l r ws count number b.0; counted = count_fits z m l r ws count number b.0 }
 
   module _ (a : Answer) (e : a ≡ open_answer z old) (b : Bool) (f : b ≡ accepts a) where
@@ -54,10 +54,10 @@ module _ (z : Sizes) (m : List Float) (l : List ℕ) (r : List (List ℕ)) (ws :
       filled_whole n new h g =
           g ∙ rw h (ap (λ k. replicate (length l) 0 ++ k) (drop-length l) ∙ append-nil (replicate (length l) 0) ∙ ap (λ k. replicate k 0) checked_then.fit.buffers.lists_fit)
 
-      pub accepted : (n : ℕ) (l' : List ℕ) (r' : List (List ℕ)) (ws' : List Worker) (count' number' : ℕ) → n ≡ length l → l' ≡ with_part 0 n (replicate n 0) l
+      pub accepted_lem : (n : ℕ) (l' : List ℕ) (r' : List (List ℕ)) (ws' : List Worker) (count' number' : ℕ) → n ≡ length l → l' ≡ with_part 0 n (replicate n 0) l
           → records_from r' ≡ map record_of (tasks z.tiles) → crew ws' count' ≡ replicate count idle → number' ≡ 0
           → ◌≡◌ {A = Reply} (record { answer = a; left = lent m l' r' ws' count' number' }) (open_call z old)
       unfolding open_call open_answer replied lent opened start plan
-      accepted n l' r' ws' count' number' h g i j o =
+      accepted_lem n l' r' ws' count' number' h g i j o =
           (λ t. record { answer = is_accepted a b f q t; left = record { buffers = record { matrix = m; lists = filled_whole n l' h g t }; records = i t; workers = (j ∙ ap (λ (k : ℕ). replicate k idle) checked_then.counted) t; number = o t } })
           ∙ ap (λ k. replied k old (opened (plan_of z) z.workers m)) (sym (is_accepted a b f q) ∙ e)

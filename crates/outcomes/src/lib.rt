@@ -7,8 +7,7 @@ ghost use Rattle.records.specs.Records.{all_lent};
 
 use checks::{bad_lengths, bad_sizes};
 use failures::outcome_of;
-use finite_numbers::Lowest;
-use model::{OutcomeAnswer, Sizes};
+use model::{OutcomeAnswer, Rule, Sizes, Standing};
 use records::Record;
 use unfinished::first_unfinished;
 use worker::Workers;
@@ -24,14 +23,14 @@ pub fn outcome(
     ensures { result ≡ outcome_call z (all_lent matrix.now lists.now records.now workers) }
 {
     if bad_sizes(z) {
-        return OutcomeAnswer::OutcomeRefused(1, 0);
+        return Err(Rule::BadSizes.at(0));
     }
     if bad_lengths(z, matrix, lists, records, workers.count) {
-        return OutcomeAnswer::OutcomeRefused(2, 0);
+        return Err(Rule::BadLengths.at(0));
     }
     let task = first_unfinished(records);
     match task {
-        Lowest::At(p) => OutcomeAnswer::Unfinished(p),
-        Lowest::None => OutcomeAnswer::Known(outcome_of(z, matrix, records)),
+        Some(p) => Ok(Standing::Unfinished(p)),
+        None => Ok(Standing::Known(outcome_of(z, matrix, records))),
     }
 }

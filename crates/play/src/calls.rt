@@ -78,7 +78,7 @@ fn play_call(
     }
     Played {
         workers,
-        told: tell(Answer::Accepted),
+        told: tell(Ok(())),
     }
 }
 

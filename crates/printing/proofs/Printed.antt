@@ -5,26 +5,25 @@ use mathlib.Core.List.{List, ◌++◌}
 use native.Mathlib.Omega.{arith}
 use lib.Dec.{ltb}
 use lib.ListN.{length, drop, length-append}
-use Rattle.model.specs.declared.Answer.{Answer}
-use Rattle.model.specs.declared.Answer.TheVariants.{Accepted, Refused}
-use Rattle.model.specs.declared.WriteAnswer.{WriteAnswer}
-use Rattle.model.specs.declared.WriteAnswer.TheVariants.{Written, WriteRefused}
+use Rattle.std.specs.Prelude.{Ok, Err}
+use Rattle.model.specs.Answer.{Answer, WriteAnswer, accepted, refused_by}
+use Rattle.model.specs.declared.Rule.TheVariants.{NoRoom}
 use Rattle.model.specs.Refusal.{refuse}
 use Rattle.model.specs.Text.{Writing, writing}
 use Rattle.model.specs.Read.{program}
 use Rattle.system_printed.specs.Print.{print_result}
 
-pub printed_within : (text out out' : List ℕ) (r : WriteAnswer) (k : ℕ) → record { answer = r; left = out' } ≡ print_result text out → r ≡ Written k → k ≤ length out'
+pub printed_within : (text out out' : List ℕ) (r : WriteAnswer) (k : ℕ) → record { answer = r; left = out' } ≡ print_result text out → r ≡ Ok k → k ≤ length out'
 unfolding print_result writing
-printed_within text out out' r k e q = go (refuse 15 0 (ltb (length out) (length (program text))) Accepted) e
+printed_within text out out' r k e q = go (refuse NoRoom 0 (ltb (length out) (length (program text))) accepted) e
   where
     go : (a : Answer) → record { answer = r; left = out' } ≡ writing a (program text) out → k ≤ length out'
-    go Accepted e =
-        let a : r ≡ Written (length (program text)) = ap (λ (w : Writing). w.answer) e in
+    go (Ok _) e =
+        let a : r ≡ Ok (length (program text)) = ap (λ (w : Writing). w.answer) e in
         let b : k ≡ length (program text) = cc in
         let c : out' ≡ program text ++ drop (length (program text)) out = ap (λ (w : Writing). w.left) e in
         rw (b, c, length-append) (omega arith)
-    go (Refused n x) e =
-        let a : r ≡ WriteRefused n x = ap (λ (w : Writing). w.answer) e in
+    go (Err why) e =
+        let a : r ≡ refused_by n x = ap (λ (w : Writing). w.answer) e in
         let z : ◌≡◌ {A = ℕ} 0 1 = cc in
         absurd (omega arith)

@@ -17,9 +17,9 @@ pub fn print_result(text: &[u8], out: &mut [u8]) -> WriteAnswer
     ensures text_len_bound { length (program text.now) ≤ 65536 }
 {
     match check_system(text, PROGRAM_ORDER) {
-        ReadAnswer::SystemRead(tiles, side) => print_system(text, tiles, side, out),
+        Ok(FileRead::SystemRead(tiles, side)) => print_system(text, tiles, side, out),
         ReadAnswer::ReadRefused(n, x) => write_refusal(n, x, out),
         // A system's check never answers this.
-        ReadAnswer::ResultRead(tiles, side, _) => write_refusal(12, 1, out),
+        Ok(FileRead::ResultRead(tiles, side, _)) => write_refusal(12, 1, out),
     }
 }

@@ -1,6 +1,7 @@
 -- Writing the one line 05. Assumes nothing.
 use Rattle.std.specs.Prelude.{ℕ, List, length, ltb}
-use Rattle.model.specs.declared.Answer.TheVariants.{Accepted}
+use Rattle.model.specs.Answer.{accepted}
+use Rattle.model.specs.declared.Rule.TheVariants.{NoRoom}
 use Rattle.model.specs.Refusal.{refuse, ◌otherwise◌}
 use Rattle.model.specs.Text.{refusal_frame, Writing, writing}
 
@@ -8,4 +9,4 @@ use Rattle.model.specs.Text.{refusal_frame, Writing, writing}
 unfoldable pub write_refusal : ℕ → ℕ → List ℕ → Writing
 write_refusal n x text =
     let new = refusal_frame n x in
-    writing (refuse 15 0 (ltb (length text) (length new)) otherwise Accepted) new text
+    writing (refuse NoRoom 0 (ltb (length text) (length new)) otherwise accepted) new text

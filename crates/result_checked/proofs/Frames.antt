@@ -4,8 +4,10 @@ use mathlib.Core.Path.{◌≡◌, refl, sym, ap, ◌∙◌}
 use mathlib.Core.List.{List, [], ◌∷◌, ◌++◌}
 use Rattle.model.specs.Read.{Frame, tile_frames, list_frames, result_frames}
 use Rattle.cursors.specs.declared.Cursor.{Cursor}
-use Rattle.cursors.specs.declared.Step.{Step}
-use Rattle.cursors.specs.declared.Step.TheVariants.{Next, Stopped}
+use Rattle.std.specs.Prelude.{Ok, Err}
+use Rattle.model.specs.Answer.{refused_by}
+use Rattle.model.specs.declared.Rule.{Rule}
+use Rattle.cursors.specs.Steps.{Step}
 use Rattle.cursors.specs.Steps.{step_of}
 use Rattle.frames_read.specs.Follow.{onward, follow}
 use Rattle.frames_read.proofs.Rows.{follow_append}
@@ -20,8 +22,8 @@ module _ (t N : ℕ) (text : List ℕ) where
   follow_one f c = go (step_of t text f c)
     where
       go : (s : Step) → onward (follow t text []) s ≡ s
-      go (Next d) = refl
-      go (Stopped n x) = refl
+      go (Ok d) = refl
+      go (Err why) = refl
 
   in_parts : (c : Cursor) → follow t text (result_frames N) c ≡ onward (step_of t text outcome_frame) (onward (follow t text (list_frames N)) (follow t text (tile_frames N) c))
   unfolding result_frames
@@ -31,18 +33,18 @@ module _ (t N : ℕ) (text : List ℕ) where
       ∙ ap (onward (step_of t text outcome_frame)) (follow_append t text (tile_frames N) (list_frames N) c)
     where
       last : (s : Step) → onward (follow t text (outcome_frame ∷ [])) s ≡ onward (step_of t text outcome_frame) s
-      last (Next d) = follow_one outcome_frame d
-      last (Stopped n x) = refl
+      last (Ok d) = follow_one outcome_frame d
+      last (Err why) = refl
 
   module _ (s : Cursor) where
-    pub tiles_stop : (n x : ℕ) → follow t text (tile_frames N) s ≡ Stopped n x → Stopped n x ≡ follow t text (result_frames N) s
+    pub tiles_stop : (n : Rule) (x : ℕ) → follow t text (tile_frames N) s ≡ refused_by n x → refused_by n x ≡ follow t text (result_frames N) s
     tiles_stop n x e = sym (in_parts s ∙ ap (λ (z : Step). onward (step_of t text outcome_frame) (onward (follow t text (list_frames N)) z)) e)
 
-    module _ (c : Cursor) (a : follow t text (tile_frames N) s ≡ Next c) where
-      pub lists_stop : (n x : ℕ) → follow t text (list_frames N) c ≡ Stopped n x → Stopped n x ≡ follow t text (result_frames N) s
+    module _ (c : Cursor) (a : follow t text (tile_frames N) s ≡ Ok c) where
+      pub lists_stop : (n : Rule) (x : ℕ) → follow t text (list_frames N) c ≡ refused_by n x → refused_by n x ≡ follow t text (result_frames N) s
       lists_stop n x e =
           sym (in_parts s ∙ ap (λ (z : Step). onward (step_of t text outcome_frame) (onward (follow t text (list_frames N)) z)) a ∙ ap (onward (step_of t text outcome_frame)) e)
 
-      pub to_outcome : (d : Cursor) → follow t text (list_frames N) c ≡ Next d → step_of t text outcome_frame d ≡ follow t text (result_frames N) s
+      pub to_outcome : (d : Cursor) → follow t text (list_frames N) c ≡ Ok d → step_of t text outcome_frame d ≡ follow t text (result_frames N) s
       to_outcome d e =
           sym (in_parts s ∙ ap (λ (z : Step). onward (step_of t text outcome_frame) (onward (follow t text (list_frames N)) z)) a ∙ ap (onward (step_of t text outcome_frame)) e)

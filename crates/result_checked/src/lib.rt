@@ -28,8 +28,8 @@ pub fn check_result_lines(text: &[u8], tiles: usize, side: usize) -> Step
                     j: 0,
                 },
             ),
-            Step::Stopped(n, x) => Step::Stopped(n, x),
+            Err(why) => Err(why),
         },
-        Step::Stopped(n, x) => Step::Stopped(n, x),
+        Err(why) => Err(why),
     }
 }

@@ -7,13 +7,13 @@ use lib.ListN.{length, get_or, drop, length-append, get_or-append}
 use lib.Seq.{get_or-append-add}
 use Rattle.laws.proofs.Blocks.{get_or_table}
 use Rattle.laws.proofs.Runs.{length_below, length_map_below}
-use Rattle.model.specs.declared.Answer.TheVariants.{Accepted}
+use Rattle.std.specs.Prelude.{Ok}
+use Rattle.model.specs.Answer.{accepted}
 use Rattle.model.specs.Lists.{below, table, joined}
 use Rattle.model.specs.Read.{Frame, line_length, lines_from, tile_frames, list_frames, result_frames}
 use Rattle.lines_read.specs.Line.{LineOfDigits}
 use Rattle.lines_read.proofs.Tested.{line_of_digits}
 use Rattle.cursors.specs.declared.Cursor.{Cursor}
-use Rattle.cursors.specs.declared.Step.TheVariants.{Next}
 use Rattle.frames_read.specs.Follow.{follow, row_frames, text_end}
 use Rattle.cursors.proofs.Steps.{stepped}
 use Rattle.frames_read.proofs.Rows.{follow_placed}
@@ -53,7 +53,7 @@ lists_count N = as_many (below N)
 pub record Parts (t N : ℕ) (text : List ℕ) : Type 0 where
   pub middle : Cursor
   pub last : Cursor
-  pub to_lists : follow t text (tile_frames N) start ≡ Next middle
+  pub to_lists : follow t text (tile_frames N) start ≡ Ok middle
   pub lists : Uniform t 3 text (list_frames N) middle last
   pub lists_in : last.at ≤ length text
   pub outcome_at : last.at + 9 ≡ length text
@@ -61,7 +61,7 @@ pub record Parts (t N : ℕ) (text : List ℕ) : Type 0 where
   pub outcome_last : lines_from [] (drop last.at text) ≡ line_at last.at 9 text ∷ []
 
 module _ (t N : ℕ) (text : List ℕ) (long : 7 ≤ length text) where
-  pub parts : text_end text (follow t text (result_frames N) start) ≡ Accepted → Parts t N text
+  pub parts : text_end text (follow t text (result_frames N) start) ≡ accepted → Parts t N text
   unfolding result_frames line_length
   parts e =
       let z = to_end t text (result_frames N) start e in

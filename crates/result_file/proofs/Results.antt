@@ -9,8 +9,11 @@ use lib.Dec.{leb}
 use lib.ListN.{length, get_or, drop, replicate}
 use lib.Ieee.{Float}
 use borrow.Author.Tests.{eq-eqb, ne_eqb, leb-true}
-use Rattle.model.specs.declared.Answer.TheVariants.{Accepted, Refused}
-use Rattle.model.specs.declared.ReadAnswer.TheVariants.{ResultRead, ReadRefused}
+use Rattle.std.specs.Prelude.{Ok}
+use Rattle.model.specs.Answer.{accepted, refused_by}
+use Rattle.model.specs.declared.Rule.{Rule}
+use Rattle.model.specs.declared.Rule.TheVariants.{BadLengths}
+use Rattle.model.specs.declared.FileRead.TheVariants.{ResultRead}
 use Rattle.model.specs.Lists.{joined}
 use Rattle.model.specs.Refusal.{refuse}
 use Rattle.model.specs.Text.{bad_matrix, bad_lists}
@@ -67,23 +70,23 @@ module _ (text : List ℕ) (m : List Float) (l : List ℕ) where
   abbrev lengths : ℕ → ℕ → Bool
   lengths N t = bad_matrix N t m || bad_lists N t l
 
-  refused : (n x : ℕ) → file_answer no_limit result_frames lengths (lines_from [] text) ≡ Refused n x → record { answer = ReadRefused n x; matrix = m; lists = l } ≡ read_result text m l
+  refused : (n : Rule) (x : ℕ) → file_answer no_limit result_frames lengths (lines_from [] text) ≡ refused_by n x → record { answer = refused_by n x; matrix = m; lists = l } ≡ read_result text m l
   unfolding read_result result_reading
   refused n x e = rw e
 
-  pub header_refused : (n x : ℕ) → header_answer no_limit text ≡ Refused n x → record { answer = ReadRefused n x; matrix = m; lists = l } ≡ read_result text m l
+  pub header_refused : (n : Rule) (x : ℕ) → header_answer no_limit text ≡ refused_by n x → record { answer = refused_by n x; matrix = m; lists = l } ≡ read_result text m l
   header_refused n x e = refused n x (file_refused no_limit result_frames lengths text n x e)
 
   module _ (N t : ℕ) (h : Headed no_limit text N t) where
-    by_lengths : (b : Bool) → lengths N t ≡ b → file_answer no_limit result_frames lengths (lines_from [] text) ≡ refuse 2 0 b (text_end text (follow t text (result_frames N) start))
-    by_lengths b e = file_followed no_limit result_frames lengths text N t h ∙ ap (λ (c : Bool). refuse 2 0 c (text_end text (follow t text (result_frames N) start))) e
+    by_lengths : (b : Bool) → lengths N t ≡ b → file_answer no_limit result_frames lengths (lines_from [] text) ≡ refuse BadLengths 0 b (text_end text (follow t text (result_frames N) start))
+    by_lengths b e = file_followed no_limit result_frames lengths text N t h ∙ ap (λ (c : Bool). refuse BadLengths 0 c (text_end text (follow t text (result_frames N) start))) e
 
-    pub matrix_refused : (length m ≡ N * t * (N * t) → ⊥) → record { answer = ReadRefused 2 0; matrix = m; lists = l } ≡ read_result text m l
+    pub matrix_refused : (length m ≡ N * t * (N * t) → ⊥) → record { answer = refused_by BadLengths 0; matrix = m; lists = l } ≡ read_result text m l
     unfolding refuse
     matrix_refused n = refused 2 0 (by_lengths true (ap (λ (b : Bool). b || bad_lists N t l) (wrong_matrix N t m n)))
 
     module _ (a : length m ≡ N * t * (N * t)) where
-      pub lists_refused : (length l ≡ N * (N * t) → ⊥) → record { answer = ReadRefused 2 0; matrix = m; lists = l } ≡ read_result text m l
+      pub lists_refused : (length l ≡ N * (N * t) → ⊥) → record { answer = refused_by BadLengths 0; matrix = m; lists = l } ≡ read_result text m l
       unfolding refuse bad_lists
       lists_refused n = refused 2 0 (by_lengths true (rw (right_matrix N t m a, ne_eqb (length l) (N * N * t) (λ e. n (e ∙ mul_assoc N N t)))))
 
@@ -92,11 +95,11 @@ module _ (text : List ℕ) (m : List Float) (l : List ℕ) where
         unfolding bad_lists
         both = rw (right_matrix N t m a, eq-eqb (length l) (N * N * t) (b ∙ sym (mul_assoc N N t)))
 
-        pub lines_refused : (n x : ℕ) → text_end text (follow t text (result_frames N) start) ≡ Refused n x → record { answer = ReadRefused n x; matrix = m; lists = l } ≡ read_result text m l
+        pub lines_refused : (n : Rule) (x : ℕ) → text_end text (follow t text (result_frames N) start) ≡ refused_by n x → record { answer = refused_by n x; matrix = m; lists = l } ≡ read_result text m l
         unfolding refuse
         lines_refused n x e = refused n x (by_lengths false both ∙ e)
 
-        pub result_read : text_end text (follow t text (result_frames N) start) ≡ Accepted → loaded_result N t text ≡ read_result text m l
+        pub result_read : text_end text (follow t text (result_frames N) start) ≡ accepted → loaded_result N t text ≡ read_result text m l
         unfolding read_result result_reading loaded_result refuse
         result_read e =
             let f = facts h in
@@ -105,9 +108,9 @@ module _ (text : List ℕ) (m : List Float) (l : List ℕ) where
             let tiles = tiles_read t N text start p.middle (start_placed text f.long) p.to_lists in
             let lists = lists_read t N text f.long p in
             rw (by_lengths false both ∙ e, f.lines, ← h.tiles_told, ← h.side_told)
-            (λ i. record { answer = ResultRead N t (outcome_in (sym o i)); matrix = sym tiles i; lists = sym lists i })
+            (λ i. record { answer = Ok (ResultRead N t (outcome_in (sym o i))); matrix = sym tiles i; lists = sym lists i })
 
-pub result_lines_lem : {limit : ℕ} (text : List ℕ) (N t : ℕ) → Headed limit text N t → text_end text (follow t text (result_frames N) start) ≡ Accepted → ResultLines N t text
+pub result_lines_lem : {limit : ℕ} (text : List ℕ) (N t : ℕ) → Headed limit text N t → text_end text (follow t text (result_frames N) start) ≡ accepted → ResultLines N t text
 result_lines_lem text N t h e =
     let f = facts h in
     parts_lines t N text f.long (parts t N text f.long e) (f.tiles.1, f.side.1)

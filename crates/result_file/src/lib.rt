@@ -24,14 +24,14 @@ fn read_result_lines(
 {
     let order = tiles * side;
     if matrix.len() != order * order {
-        return ReadAnswer::ReadRefused(2, 0);
+        return Err(Rule::BadLengths.at(0));
     }
     if lists.len() != tiles * order {
-        return ReadAnswer::ReadRefused(2, 0);
+        return Err(Rule::BadLengths.at(0));
     }
     match text_end(text, check_result_lines(text, tiles, side)) {
-        Answer::Refused(n, x) => ReadAnswer::ReadRefused(n, x),
-        Answer::Accepted => load_result(text, tiles, side, matrix, lists),
+        Err(why) => Err(why),
+        Ok(()) => load_result(text, tiles, side, matrix, lists),
     }
 }
 
@@ -40,7 +40,7 @@ pub fn read_result(text: &[u8], matrix: &mut [f64], lists: &mut [u8]) -> ReadAns
     ensures { record { answer = result; matrix = matrix.new; lists = lists.new } ≡ read_result text.now matrix.old lists.old }
 {
     match check_header(text, MOST_ORDER) {
-        Header::Shape(tiles, side) => read_result_lines(text, tiles, side, matrix, lists),
-        Header::Unread(n, x) => ReadAnswer::ReadRefused(n, x),
+        Ok(Shape { tiles, side }) => read_result_lines(text, tiles, side, matrix, lists),
+        Err(why) => Err(why),
     }
 }

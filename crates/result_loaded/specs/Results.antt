@@ -1,6 +1,6 @@
 -- What an accepted result's text holds, by the places where its parts start. Assumes nothing.
-use Rattle.std.specs.Prelude.{ℕ, ◌+◌, ◌-◌, ◌*◌, ◌≤◌, List, length}
-use Rattle.model.specs.declared.ReadAnswer.TheVariants.{ResultRead}
+use Rattle.std.specs.Prelude.{Ok, ℕ, ◌+◌, ◌-◌, ◌*◌, ◌≤◌, List, length}
+use Rattle.model.specs.declared.FileRead.TheVariants.{ResultRead}
 use Rattle.model.specs.Limits.{most_tiles, most_side}
 use Rattle.model.specs.Read.{ResultReading, outcome_in}
 use Rattle.lines_read.specs.Line.{LineOfDigits}
@@ -26,7 +26,7 @@ pub record ResultLines (N t : ℕ) (text : List ℕ) : Type 0 where
 -- what is read of such a text
 unfoldable pub loaded_result : ℕ → ℕ → List ℕ → ResultReading
 loaded_result N t text = record {
-  answer = ResultRead N t (outcome_in (outcome_text text));
+  answer = Ok (ResultRead N t (outcome_in (outcome_text text)));
   matrix = tiles_from (t * t) (N * N) 7 text;
   lists = lists_from N t (lists_start N t) text;
 }

@@ -27,5 +27,5 @@ pub fn load_result(
     load_lists(text, 7 + count * (7 + 16 * numbers), tiles, side, lists);
     let from = text.len() - 9;
     let outcome = outcome_at(&text[from..]);
-    ReadAnswer::ResultRead(tiles, side, outcome)
+    Ok(FileRead::ResultRead(tiles, side, outcome))
 }

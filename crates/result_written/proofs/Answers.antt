@@ -9,8 +9,9 @@ use lib.ListN.{length, length-append}
 use lib.Dec.{ltb}
 use lib.Ieee.{Float}
 use borrow.Author.Tests.{eq-eqb, ne_eqb}
-use Rattle.model.specs.declared.Answer.TheVariants.{Accepted}
-use Rattle.model.specs.declared.WriteAnswer.TheVariants.{Written, WriteRefused}
+use Rattle.std.specs.Prelude.{Ok}
+use Rattle.model.specs.Answer.{accepted, refused_by}
+use Rattle.model.specs.declared.Rule.TheVariants.{BadSizes, BadLengths, NoRoom}
 use Rattle.model.specs.declared.Outcome.{Outcome}
 use Rattle.model.specs.Lists.{below, joined, with_part}
 use Rattle.model.specs.Refusal.{refuse}
@@ -66,15 +67,15 @@ module _ (N t : ℕ) (m : List Float) (l : List ℕ) (o : Outcome) where
 -- ---- what the call answers
 
 module _ (N t : ℕ) (m : List Float) (text l : List ℕ) (o : Outcome) where
-  pub result_shape : bad_shape N t ≡ true → ◌≡◌ {A = Writing} (record { answer = WriteRefused 1 0; left = text }) (write_result N t m l o text)
+  pub result_shape : bad_shape N t ≡ true → ◌≡◌ {A = Writing} (record { answer = refused_by BadSizes 0; left = text }) (write_result N t m l o text)
   unfolding write_result refuse writing
   result_shape e = rw e
 
-  pub result_matrix : bad_shape N t ≡ false → (length m ≡ N * t * (N * t) → ⊥) → ◌≡◌ {A = Writing} (record { answer = WriteRefused 2 0; left = text }) (write_result N t m l o text)
+  pub result_matrix : bad_shape N t ≡ false → (length m ≡ N * t * (N * t) → ⊥) → ◌≡◌ {A = Writing} (record { answer = refused_by BadLengths 0; left = text }) (write_result N t m l o text)
   unfolding write_result refuse writing
   result_matrix e h = rw (e, wrong_matrix N t m h)
 
-  pub result_lists : bad_shape N t ≡ false → length m ≡ N * t * (N * t) → (length l ≡ N * N * t → ⊥) → ◌≡◌ {A = Writing} (record { answer = WriteRefused 2 0; left = text }) (write_result N t m l o text)
+  pub result_lists : bad_shape N t ≡ false → length m ≡ N * t * (N * t) → (length l ≡ N * N * t → ⊥) → ◌≡◌ {A = Writing} (record { answer = refused_by BadLengths 0; left = text }) (write_result N t m l o text)
   unfolding write_result refuse writing bad_lists
   result_lists e h k = rw (e, right_matrix N t m h, ne_eqb (length l) (N * N * t) k)
 
@@ -82,16 +83,16 @@ module _ (N t : ℕ) (m : List Float) (text l : List ℕ) (o : Outcome) where
     abbrev result : List ℕ
     result = result_text (plan N t) (record { matrix = m; lists = l }) o
 
-    result_told : write_result N t m l o text ≡ writing (refuse 15 0 (ltb (length text) (length result)) Accepted) result text
+    result_told : write_result N t m l o text ≡ writing (refuse NoRoom 0 (ltb (length text) (length result)) accepted) result text
     unfolding write_result refuse bad_lists
     result_told = rw (e, right_matrix N t m h, eq-eqb (length l) (N * N * t) g)
 
     result_size : length result ≡ result_length N t
     result_size = length_result N t m l o (enough N t (length m) h) (omega arith)
 
-    pub result_short : length text < result_length N t → ◌≡◌ {A = Writing} (record { answer = WriteRefused 15 0; left = text }) (write_result N t m l o text)
+    pub result_short : length text < result_length N t → ◌≡◌ {A = Writing} (record { answer = refused_by NoRoom 0; left = text }) (write_result N t m l o text)
     result_short k = too_short result text (result_length N t) result_size k ∙ sym result_told
 
     pub result_written : (text' : List ℕ) → result_length N t ≤ length text → text' ≡ with_part 0 (result_length N t) result text
-        → ◌≡◌ {A = Writing} (record { answer = Written (result_length N t); left = text' }) (write_result N t m l o text)
+        → ◌≡◌ {A = Writing} (record { answer = Ok (result_length N t); left = text' }) (write_result N t m l o text)
     result_written text' k is = long_enough result text (result_length N t) result_size text' k is ∙ sym result_told

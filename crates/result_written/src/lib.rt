@@ -10,7 +10,7 @@ ghost use Rattle.rows_written.specs.Rows.{result_length};
 
 use lines_written::put_outcome;
 use lists_written::put_lists;
-use model::{Outcome, WriteAnswer};
+use model::{Outcome, Rule, WriteAnswer};
 use rows_written::sizes::{result_length, system_length};
 use shapes::bad_shape;
 use system_written::put_system;
@@ -40,18 +40,18 @@ pub fn write_result(
     ensures { record { answer = result; left = text.new } ≡ write_result n t matrix.now lists.now outcome text.old }
 {
     if bad_shape(n, t) {
-        return WriteAnswer::WriteRefused(1, 0);
+        return Err(Rule::BadSizes.at(0));
     }
     if matrix.len() != n * t * (n * t) {
-        return WriteAnswer::WriteRefused(2, 0);
+        return Err(Rule::BadLengths.at(0));
     }
     if lists.len() != n * n * t {
-        return WriteAnswer::WriteRefused(2, 0);
+        return Err(Rule::BadLengths.at(0));
     }
     let length = result_length(n, t);
     if text.len() < length {
-        return WriteAnswer::WriteRefused(15, 0);
+        return Err(Rule::NoRoom.at(0));
     }
     put_result(text, matrix, lists, n, t, outcome);
-    WriteAnswer::Written(length)
+    Ok(length)
 }

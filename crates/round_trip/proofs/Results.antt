@@ -11,9 +11,11 @@ use lib.ListN.{length, get_or, take, drop, length-append, get_or-append, take-ap
 use lib.Seq.{get_or-append-add, get_or-append_seam, take-add, drop-cons, drop-length}
 use lib.Ieee.{Float}
 use Rattle.model.specs.declared.Outcome.{Outcome}
-use Rattle.model.specs.declared.Answer.{Answer}
-use Rattle.model.specs.declared.Answer.TheVariants.{Accepted, Refused}
-use Rattle.model.specs.declared.ReadAnswer.TheVariants.{ResultRead, ReadRefused}
+use Rattle.std.specs.Prelude.{Ok, Err}
+use Rattle.model.specs.Answer.{Answer, accepted, refused_by}
+use Rattle.header_read.specs.Heads.{shape}
+use Rattle.model.specs.declared.Rule.TheVariants.{WrongEnd}
+use Rattle.model.specs.declared.FileRead.TheVariants.{ResultRead}
 use Rattle.model.specs.Lists.{below, joined, part}
 use Rattle.model.specs.Loops.{outcome_place}
 use Rattle.model.specs.Plan.{plan}
@@ -130,7 +132,7 @@ module _ (N t : ℕ) (m : List Float) (l : List ℕ) (o : Outcome) (shape : bad_
       ∙ at_last (tile_lines N t m) (row_lines N t l) (outcome_frame o) [] (N * N) (listed N) (length_tiles N t m) (length_lists N t l)
 
   pub result_read : (m₀ : List Float) (l₀ : List ℕ) → bad_matrix N t m₀ ≡ false → bad_lists N t l₀ ≡ false
-      → read_result (result_text (plan N t) (record { matrix = m; lists = l }) o) m₀ l₀ ≡ record { answer = ResultRead N t o; matrix = m; lists = l }
+      → read_result (result_text (plan N t) (record { matrix = m; lists = l }) o) m₀ l₀ ≡ record { answer = Ok (ResultRead N t o); matrix = m; lists = l }
   unfolding read_result result_reading joined
   result_read m₀ l₀ bm bl =
       let h = header_line N t in
@@ -140,7 +142,7 @@ module _ (N t : ℕ) (m : List Float) (l : List ℕ) (o : Outcome) (shape : bad_
       let lined : Each Line ls = each_append Line (each_append Line (tiles_lined N t m) (each_grid Line rising (λ i j. row_line i j (rows N t l i j)) N (λ i j hi hj. row_lined i j (rows N t l i j)))) (cons (outcome_lined o) nil) in
       let cutted : lines_from [] (result_text (plan N t) (record { matrix = m; lists = l }) o) ≡ h ∷ ls =
       ap (lines_from []) (result_lines_lem N t m l o) ∙ lines_of (more (header_lined N t) (lines_all lined)) in
-      let lines : lines_answer t 2 (result_frames N) ls ≡ Accepted = subst (λ (x : List (List ℕ)). lines_answer t 2 (result_frames N) x ≡ Accepted) texts (accepted t text 2 all_fine) in
+      let lines : lines_answer t 2 (result_frames N) ls ≡ accepted = subst (λ (x : List (List ℕ)). lines_answer t 2 (result_frames N) x ≡ accepted) texts (accepted t text 2 all_fine) in
       ap (λ (x : List (List ℕ)). result_reading (file_answer no_limit result_frames bad x) x m₀ l₀) cutted
       ∙ ap (λ (a : Answer). result_reading a (h ∷ ls) m₀ l₀) (file_accepted no_limit result_frames bad N t ls shape (no_limit_lem N t r) right lines)
       ∙ rw (header_tiles N t small_N, header_side N t small_t, outcome_there, outcome_read o place, matrix_read N t m shape wm ls (rw (length-append, length-append) (omega (arith, length_tiles N t m))) tile_there, lists_read N t l wl ls (λ i j hi hj. ap (entries_in t) (list_there i j hi hj) ∙ row_read N t l wl i j hi (omega arith) small_t))
@@ -195,7 +197,7 @@ module _ (m₀ : List Float) (l₀ : List ℕ) where
   abbrev answer_of : List (List ℕ) → Answer
   answer_of ls = file_answer no_limit result_frames (λ N t. bad_matrix N t m₀ || bad_lists N t l₀) ls
 
-  lines_back : (h : List ℕ) (ls : List (List ℕ)) → answer_of (h ∷ ls) ≡ Accepted
+  lines_back : (h : List ℕ) (ls : List (List ℕ)) → answer_of (h ∷ ls) ≡ accepted
       → result_text (plan (tiles_in h) (side_in h)) (record { matrix = tiles_of (tiles_in h) (side_in h) ls; lists = lists_of (tiles_in h) (side_in h) ls }) (outcome_in (get_or ls (outcome_line (tiles_in h)) [])) ≡ h ++ joined ls
   lines_back h ls e =
       let N = tiles_in h in
@@ -217,13 +219,13 @@ module _ (m₀ : List Float) (l₀ : List ℕ) where
       ∙ ap (λ (x : List ℕ). take (N * N) ls ++ part (N * N) (listed N) ls ++ x ∷ []) (sym (outcome_again t (get_or ls (outcome_line N) []) last) ∙ ap (λ (k : ℕ). get_or ls k []) last-is)
       ∙ sym (in_three (N * N) (listed N) ls long))
 
-  text_back : (N t : ℕ) (m : List Float) (l : List ℕ) (o : Outcome) (a : Answer) (ls : List (List ℕ)) → answer_of ls ≡ a → result_reading a ls m₀ l₀ ≡ record { answer = ResultRead N t o; matrix = m; lists = l }
+  text_back : (N t : ℕ) (m : List Float) (l : List ℕ) (o : Outcome) (a : Answer) (ls : List (List ℕ)) → answer_of ls ≡ a → result_reading a ls m₀ l₀ ≡ record { answer = Ok (ResultRead N t o); matrix = m; lists = l }
       → result_text (plan N t) (record { matrix = m; lists = l }) o ≡ joined ls
   unfolding result_reading joined
-  text_back N t m l o (Refused n x) ls e q = let p : ReadRefused n x ≡ ResultRead N t o = ap (λ (r : ResultReading). r.answer) q in let z : ◌≡◌ {A = ℕ} 0 1 = cc in absurd (omega arith)
-  text_back N t m l o Accepted [] e q = let p : ReadRefused 14 1 ≡ ResultRead N t o = ap (λ (r : ResultReading). r.answer) q in let z : ◌≡◌ {A = ℕ} 0 1 = cc in absurd (omega arith)
-  text_back N t m l o Accepted (h ∷ ls) e q =
-      let p : ResultRead (tiles_in h) (side_in h) (outcome_in (get_or ls (outcome_line (tiles_in h)) [])) ≡ ResultRead N t o = ap (λ (r : ResultReading). r.answer) q in
+  text_back N t m l o (Err why) ls e q = let p : Err why ≡ Ok (ResultRead N t o) = ap (λ (r : ResultReading). r.answer) q in let z : ◌≡◌ {A = ℕ} 0 1 = cc in absurd (omega arith)
+  text_back N t m l o (Ok _) [] e q = let p : refused_by WrongEnd 1 ≡ Ok (ResultRead N t o) = ap (λ (r : ResultReading). r.answer) q in let z : ◌≡◌ {A = ℕ} 0 1 = cc in absurd (omega arith)
+  text_back N t m l o (Ok _) (h ∷ ls) e q =
+      let p : ResultRead (tiles_in h) (side_in h) (outcome_in (get_or ls (outcome_line (tiles_in h)) [])) ≡ Ok (ResultRead N t o) = ap (λ (r : ResultReading). r.answer) q in
       let eN : tiles_in h ≡ N = cc in
       let et : side_in h ≡ t = cc in
       let eo : outcome_in (get_or ls (outcome_line (tiles_in h)) []) ≡ o = cc in
@@ -232,6 +234,6 @@ module _ (m₀ : List Float) (l₀ : List ℕ) where
       rw (← em, ← el, ← eo, ← eN, ← et) (lines_back h ls e)
 
 pub result_again : (text : List ℕ) (m₀ : List Float) (l₀ : List ℕ) (N t : ℕ) (o : Outcome) (m : List Float) (l : List ℕ)
-    → read_result text m₀ l₀ ≡ record { answer = ResultRead N t o; matrix = m; lists = l } → result_text (plan N t) (record { matrix = m; lists = l }) o ≡ text
+    → read_result text m₀ l₀ ≡ record { answer = Ok (ResultRead N t o); matrix = m; lists = l } → result_text (plan N t) (record { matrix = m; lists = l }) o ≡ text
 unfolding read_result
 result_again text m₀ l₀ N t o m l q = text_back m₀ l₀ N t m l o (answer_of m₀ l₀ (lines_from [] text)) (lines_from [] text) refl q ∙ joined_lines [] text

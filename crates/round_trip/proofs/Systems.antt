@@ -11,9 +11,11 @@ use lib.ListN.{length, get_or}
 use lib.Seq.{take_all}
 use lib.Ieee.{Float}
 use borrow.Author.Tests.{eqb-true, le-ltb, not-false}
-use Rattle.model.specs.declared.Answer.{Answer}
-use Rattle.model.specs.declared.Answer.TheVariants.{Accepted, Refused}
-use Rattle.model.specs.declared.ReadAnswer.TheVariants.{SystemRead, ReadRefused}
+use Rattle.std.specs.Prelude.{Ok, Err}
+use Rattle.model.specs.Answer.{Answer, accepted, refused_by}
+use Rattle.header_read.specs.Heads.{shape}
+use Rattle.model.specs.declared.Rule.TheVariants.{BadSizes, BadLengths, Malformed, WrongFrame, WrongEnd}
+use Rattle.model.specs.declared.FileRead.TheVariants.{SystemRead}
 use Rattle.model.specs.Lists.{joined}
 use Rattle.model.specs.Plan.{plan}
 use Rattle.model.specs.Buffer.{tile, tile_of}
@@ -48,8 +50,8 @@ no_limit_lem N t r = le-ltb 256 (N * t) (mul-le-mul r.tiles r.side)
 
 module _ (limit : ℕ) (frames : ℕ → List Frame) (bad : ℕ → ℕ → Bool) where
   -- a header and the lines due after it
-  pub file_accepted : (N t : ℕ) (ls : List (List ℕ)) → bad_shape N t ≡ false → ltb limit (N * t) ≡ false → bad N t ≡ false → lines_answer t 2 (frames N) ls ≡ Accepted
-      → file_answer limit frames bad (header_line N t ∷ ls) ≡ Accepted
+  pub file_accepted : (N t : ℕ) (ls : List (List ℕ)) → bad_shape N t ≡ false → ltb limit (N * t) ≡ false → bad N t ≡ false → lines_answer t 2 (frames N) ls ≡ accepted
+      → file_answer limit frames bad (header_line N t ∷ ls) ≡ accepted
   unfolding file_answer refuse
   file_accepted N t ls a b c e =
       let r = range N t a in
@@ -58,21 +60,21 @@ module _ (limit : ℕ) (frames : ℕ → List Frame) (bad : ℕ → ℕ → Bool
   pub record Accepts (h : List ℕ) (ls : List (List ℕ)) : Type 0 where
     pub header : h ≡ header_line (tiles_in h) (side_in h)
     pub shape : bad_shape (tiles_in h) (side_in h) ≡ false
-    pub lines : lines_answer (side_in h) 2 (frames (tiles_in h)) ls ≡ Accepted
+    pub lines : lines_answer (side_in h) 2 (frames (tiles_in h)) ls ≡ accepted
 
-  pub file_accepts : (h : List ℕ) (ls : List (List ℕ)) → file_answer limit frames bad (h ∷ ls) ≡ Accepted → Accepts h ls
+  pub file_accepts : (h : List ℕ) (ls : List (List ℕ)) → file_answer limit frames bad (h ∷ ls) ≡ accepted → Accepts h ls
   unfolding file_answer
   file_accepts h ls e =
       let N = tiles_in h in
       let t = side_in h in
       let r₄ = lines_answer t 2 (frames N) ls in
-      let r₃ = refuse 2 0 (bad N t) r₄ in
-      let r₂ = refuse 1 1 (bad_shape N t || ltb limit (N * t)) r₃ in
-      let r₁ = refuse 13 1 (not (eqb (kind_in h) 1)) r₂ in
-      let e₁ = passed 12 1 (bad_line 0 1 h) r₁ e in
-      let e₂ = passed 13 1 (not (eqb (kind_in h) 1)) r₂ e₁.1 in
-      let e₃ = passed 1 1 (bad_shape N t || ltb limit (N * t)) r₃ e₂.1 in
-      let e₄ = passed 2 0 (bad N t) r₄ e₃.1 in
+      let r₃ = refuse BadLengths 0 (bad N t) r₄ in
+      let r₂ = refuse BadSizes 1 (bad_shape N t || ltb limit (N * t)) r₃ in
+      let r₁ = refuse WrongFrame 1 (not (eqb (kind_in h) 1)) r₂ in
+      let e₁ = passed Malformed 1 (bad_line 0 1 h) r₁ e in
+      let e₂ = passed WrongFrame 1 (not (eqb (kind_in h) 1)) r₂ e₁.1 in
+      let e₃ = passed BadSizes 1 (bad_shape N t || ltb limit (N * t)) r₃ e₂.1 in
+      let e₄ = passed BadLengths 0 (bad N t) r₄ e₃.1 in
       record {
         header = header_again h e₁.0 (eqb-true (kind_in h) 1 (not-false (eqb (kind_in h) 1) e₂.0));
         shape = or_false_left (bad_shape N t) (ltb limit (N * t)) e₃.0;
@@ -122,7 +124,7 @@ module _ (N t : ℕ) (m : List Float) (shape : bad_shape N t ≡ false) (w : Mat
   pub matrix_read : (ls : List (List ℕ)) → N * N ≤ length ls → ((i j : ℕ) → i < N → j < N → get_or ls (i * N + j) [] ≡ tile_line i j (tile N t m i j)) → tiles_of N t ls ≡ m
   matrix_read ls h is = tiles_read N t m w.long ls h (λ i j hi hj. ap (numbers_in t) (is i j hi hj) ∙ tile_read N t m w i j hi hj)
 
-  pub system_read : (l : List ℕ) (m₀ : List Float) → bad_matrix N t m₀ ≡ false → read_system (system_text (plan N t) (record { matrix = m; lists = l })) m₀ ≡ record { answer = SystemRead N t; matrix = m }
+  pub system_read : (l : List ℕ) (m₀ : List Float) → bad_matrix N t m₀ ≡ false → read_system (system_text (plan N t) (record { matrix = m; lists = l })) m₀ ≡ record { answer = Ok (SystemRead N t); matrix = m }
   unfolding read_system system_reading joined system_frames
   system_read l m₀ b =
       let h = header_line N t in
@@ -131,7 +133,7 @@ module _ (N t : ℕ) (m : List Float) (shape : bad_shape N t ≡ false) (w : Mat
       let r = range N t shape in
       let cutted : lines_from [] (system_text (plan N t) (record { matrix = m; lists = l })) ≡ h ∷ ls =
       ap (lines_from []) (system_lines N t m l) ∙ lines_of (more (header_lined N t) (lines_all (tiles_lined N t m))) in
-      let lines : lines_answer t 2 (tile_frames N) ls ≡ Accepted = subst (λ (x : List (List ℕ)). lines_answer t 2 (tile_frames N) x ≡ Accepted) tile_texts (accepted t (tile_text N t m) 2 tiles_fine) in
+      let lines : lines_answer t 2 (tile_frames N) ls ≡ accepted = subst (λ (x : List (List ℕ)). lines_answer t 2 (tile_frames N) x ≡ accepted) tile_texts (accepted t (tile_text N t m) 2 tiles_fine) in
       ap (λ (x : List (List ℕ)). system_reading (file_answer no_limit system_frames bad x) x m₀) cutted
       ∙ ap (λ (a : Answer). system_reading a (h ∷ ls) m₀) (file_accepted no_limit system_frames bad N t ls shape (no_limit_lem N t r) b lines)
       ∙ rw (header_tiles N t (omega (arith, r.tiles)), header_side N t (omega (arith, r.side)), matrix_read ls (omega (arith, length_tiles N t m)) (tile_at_lem N t m))
@@ -152,7 +154,7 @@ module _ (m₀ : List Float) where
   abbrev answer_of : List (List ℕ) → Answer
   answer_of ls = file_answer no_limit system_frames (λ N t. bad_matrix N t m₀) ls
 
-  lines_back : (l : List ℕ) (h : List ℕ) (ls : List (List ℕ)) → answer_of (h ∷ ls) ≡ Accepted
+  lines_back : (l : List ℕ) (h : List ℕ) (ls : List (List ℕ)) → answer_of (h ∷ ls) ≡ accepted
       → system_text (plan (tiles_in h) (side_in h)) (record { matrix = tiles_of (tiles_in h) (side_in h) ls; lists = l }) ≡ h ++ joined ls
   unfolding system_frames
   lines_back l h ls e =
@@ -166,19 +168,19 @@ module _ (m₀ : List Float) where
       ∙ ap (λ (x : List ℕ). x ++ joined (tile_lines N t (tiles_of N t ls))) (sym a.header)
       ∙ ap (λ (x : List (List ℕ)). h ++ joined x) (sym again ∙ take_all (N * N) ls (omega arith))
 
-  text_back : (l : List ℕ) (N t : ℕ) (m : List Float) (a : Answer) (ls : List (List ℕ)) → answer_of ls ≡ a → system_reading a ls m₀ ≡ record { answer = SystemRead N t; matrix = m }
+  text_back : (l : List ℕ) (N t : ℕ) (m : List Float) (a : Answer) (ls : List (List ℕ)) → answer_of ls ≡ a → system_reading a ls m₀ ≡ record { answer = Ok (SystemRead N t); matrix = m }
       → system_text (plan N t) (record { matrix = m; lists = l }) ≡ joined ls
   unfolding system_reading joined
-  text_back l N t m (Refused n x) ls e q = let p : ReadRefused n x ≡ SystemRead N t = ap (λ (r : SystemReading). r.answer) q in let z : ◌≡◌ {A = ℕ} 0 1 = cc in absurd (omega arith)
-  text_back l N t m Accepted [] e q = let p : ReadRefused 14 1 ≡ SystemRead N t = ap (λ (r : SystemReading). r.answer) q in let z : ◌≡◌ {A = ℕ} 0 1 = cc in absurd (omega arith)
-  text_back l N t m Accepted (h ∷ ls) e q =
-      let p : SystemRead (tiles_in h) (side_in h) ≡ SystemRead N t = ap (λ (r : SystemReading). r.answer) q in
+  text_back l N t m (Err why) ls e q = let p : Err why ≡ Ok (SystemRead N t) = ap (λ (r : SystemReading). r.answer) q in let z : ◌≡◌ {A = ℕ} 0 1 = cc in absurd (omega arith)
+  text_back l N t m (Ok _) [] e q = let p : refused_by WrongEnd 1 ≡ Ok (SystemRead N t) = ap (λ (r : SystemReading). r.answer) q in let z : ◌≡◌ {A = ℕ} 0 1 = cc in absurd (omega arith)
+  text_back l N t m (Ok _) (h ∷ ls) e q =
+      let p : Ok (SystemRead (tiles_in h) (side_in h)) ≡ Ok (SystemRead N t) = ap (λ (r : SystemReading). r.answer) q in
       let eN : tiles_in h ≡ N = cc in
       let et : side_in h ≡ t = cc in
       let em : tiles_of (tiles_in h) (side_in h) ls ≡ m = ap (λ (r : SystemReading). r.matrix) q in
       rw (← em, ← eN, ← et) (lines_back l h ls e)
 
-pub system_again : (text : List ℕ) (m₀ : List Float) (N t : ℕ) (m : List Float) (l : List ℕ) → read_system text m₀ ≡ record { answer = SystemRead N t; matrix = m }
+pub system_again : (text : List ℕ) (m₀ : List Float) (N t : ℕ) (m : List Float) (l : List ℕ) → read_system text m₀ ≡ record { answer = Ok (SystemRead N t); matrix = m }
     → system_text (plan N t) (record { matrix = m; lists = l }) ≡ text
 unfolding read_system
 system_again text m₀ N t m l q = text_back m₀ l N t m (answer_of m₀ (lines_from [] text)) (lines_from [] text) refl q ∙ joined_lines [] text

@@ -1,9 +1,9 @@
 -- What a contract states of files: reading and writing undo each other. Assumes nothing.
-use Rattle.std.specs.Prelude.{ℕ, ◌*◌, ◌<◌, ◌≤◌, ◌≡◌, true, false, List, T, Float, length, get_or, replicate}
+use Rattle.std.specs.Prelude.{Ok, ℕ, ◌*◌, ◌<◌, ◌≤◌, ◌≡◌, true, false, List, T, Float, length, get_or, replicate}
 use Rattle.std.specs.Float.{nan, binary64}
 use Rattle.std.specs.Float.Ieee.{fits}
 use Rattle.model.specs.declared.Outcome.{Outcome}
-use Rattle.model.specs.declared.ReadAnswer.TheVariants.{SystemRead, ResultRead}
+use Rattle.model.specs.declared.FileRead.TheVariants.{SystemRead, ResultRead}
 use Rattle.model.specs.Tile.{all_finite}
 use Rattle.model.specs.Plan.{plan}
 use Rattle.model.specs.Buffer.{rows}
@@ -39,11 +39,11 @@ pub record Lendable (N t : ℕ) (m₀ : List Float) (l₀ : List ℕ) : Type 0 w
 pub record RoundTrips (N t : ℕ) : Type 0 where
   -- what is written is read back
   pub system_read : bad_shape N t ≡ false → (m : List Float) (l : List ℕ) → Matrix N t m → (m₀ : List Float) → bad_matrix N t m₀ ≡ false
-      → read_system (system_text (plan N t) (record { matrix = m; lists = l })) m₀ ≡ record { answer = SystemRead N t; matrix = m }
+      → read_system (system_text (plan N t) (record { matrix = m; lists = l })) m₀ ≡ record { answer = Ok (SystemRead N t); matrix = m }
   pub result_read : bad_shape N t ≡ false → (m : List Float) (l : List ℕ) (o : Outcome) → Matrix N t m → Lists N t l → outcome_place o < 65536 → (m₀ : List Float) (l₀ : List ℕ) → Lendable N t m₀ l₀
-      → read_result (result_text (plan N t) (record { matrix = m; lists = l }) o) m₀ l₀ ≡ record { answer = ResultRead N t o; matrix = m; lists = l }
+      → read_result (result_text (plan N t) (record { matrix = m; lists = l }) o) m₀ l₀ ≡ record { answer = Ok (ResultRead N t o); matrix = m; lists = l }
   -- an accepted text, written again, has the same bytes
-  pub system_again : (text : List ℕ) (m₀ m : List Float) (l : List ℕ) → read_system text m₀ ≡ record { answer = SystemRead N t; matrix = m }
+  pub system_again : (text : List ℕ) (m₀ m : List Float) (l : List ℕ) → read_system text m₀ ≡ record { answer = Ok (SystemRead N t); matrix = m }
       → system_text (plan N t) (record { matrix = m; lists = l }) ≡ text
   pub result_again : (text : List ℕ) (m₀ : List Float) (l₀ : List ℕ) (o : Outcome) (m : List Float) (l : List ℕ)
-      → read_result text m₀ l₀ ≡ record { answer = ResultRead N t o; matrix = m; lists = l } → result_text (plan N t) (record { matrix = m; lists = l }) o ≡ text
+      → read_result text m₀ l₀ ≡ record { answer = Ok (ResultRead N t o); matrix = m; lists = l } → result_text (plan N t) (record { matrix = m; lists = l }) o ≡ text

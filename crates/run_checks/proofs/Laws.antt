@@ -6,8 +6,8 @@ use mathlib.Core.List.{List}
 use lib.Ieee.{Float}
 use Rattle.model.specs.declared.Sizes.{Sizes}
 use Rattle.worker.specs.declared.Worker.{Worker}
-use Rattle.model.specs.declared.Answer.{Answer}
-use Rattle.model.specs.declared.Answer.TheVariants.{Accepted, Refused}
+use Rattle.model.specs.Answer.{Answer, accepted, refused_by}
+use Rattle.model.specs.declared.Rule.TheVariants.{Damaged}
 use Rattle.model.specs.Tile.{all_finite}
 use Rattle.model.specs.Plan.{plan_of}
 use Rattle.model.specs.Calls.{Lent}
@@ -34,15 +34,15 @@ module _ (z : Sizes) (m : List Float) (l : List ℕ) (r : List (List ℕ)) (ws :
   module _ (a : Answer) (e : a ≡ state_answer z s) (b : Bool) (f : b ≡ accepts a) where
     pub state_stops : b ≡ false → a ≡ run_answer z s
     unfolding run_answer lent
-    state_stops q = e ∙ stops z s bad (not (all_finite m)) worse else Accepted (ap accepts (sym e) ∙ sym f ∙ q)
+    state_stops q = e ∙ stops z s bad (not (all_finite m)) worse else accepted (ap accepts (sym e) ∙ sym f ∙ q)
 
     module _ (q : b ≡ true) (x : Bool) (i : x ≡ all_finite m) where
-      after : refuse 4 0 (not (all_finite m)) Accepted ≡ run_answer z s
+      after : refuse Damaged 0 (not (all_finite m)) accepted ≡ run_answer z s
       unfolding run_answer lent
-      after = goes_on z s bad (not (all_finite m)) worse else Accepted (sym e ∙ is_accepted a b f q)
+      after = goes_on z s bad (not (all_finite m)) worse else accepted (sym e ∙ is_accepted a b f q)
 
-      pub element_stops : x ≡ false → Refused 4 0 ≡ run_answer z s
-      element_stops j = sym (refuses 4 0 (not (all_finite m)) Accepted (rw (sym i ∙ j))) ∙ after
+      pub element_stops : x ≡ false → refused_by Damaged 0 ≡ run_answer z s
+      element_stops j = sym (refuses Damaged 0 (not (all_finite m)) accepted (rw (sym i ∙ j))) ∙ after
 
-      pub all_pass : x ≡ true → Accepted ≡ run_answer z s
-      all_pass j = sym (passes 4 0 (not (all_finite m)) Accepted (rw (sym i ∙ j))) ∙ after
+      pub all_pass : x ≡ true → accepted ≡ run_answer z s
+      all_pass j = sym (passes Damaged 0 (not (all_finite m)) accepted (rw (sym i ∙ j))) ∙ after

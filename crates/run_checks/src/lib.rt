@@ -5,9 +5,8 @@ ghost use Rattle.std.specs.Prelude.{◌≡◌};
 ghost use Rattle.model.specs.Refusal.{run_answer};
 ghost use Rattle.records.specs.Records.{all_lent};
 
-use answers::accepted;
 use finite_numbers::all_finite;
-use model::{Answer, Sizes};
+use model::{Answer, Rule, Sizes};
 use records::Record;
 use states::state_answer;
 use worker::Workers;
@@ -22,12 +21,9 @@ pub fn run_answer(
 ) -> Answer
     ensures { result ≡ run_answer z (all_lent matrix.now lists.now records.now workers) }
 {
-    let state = state_answer(z, matrix, lists, records, workers);
-    if !accepted(state) {
-        return state;
-    }
+    state_answer(z, matrix, lists, records, workers)?;
     if !all_finite(matrix) {
-        return Answer::Refused(4, 0);
+        return Err(Rule::Damaged.at(0));
     }
-    Answer::Accepted
+    Ok(())
 }

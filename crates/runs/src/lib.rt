@@ -5,7 +5,7 @@ ghost use Rattle.std.specs.Prelude.{◌≡◌};
 ghost use Rattle.model.specs.Refusal.{run_call};
 ghost use Rattle.records.specs.Records.{all_lent, OthersKept};
 
-use model::{Answer, RunAnswer, RunReply, Sizes};
+use model::{RunReply, Sizes};
 use records::Record;
 use run_checks::run_answer;
 use turns::take_turns;
@@ -27,9 +27,9 @@ pub fn run(
     ensures others_kept { OthersKept workers result.workers }
 {
     let answer = run_answer(z, matrix, lists, records, workers);
-    if let Answer::Refused(number, place) = answer {
+    if let Err(why) = answer {
         return RunReply {
-            answer: RunAnswer::RunRefused(number, place),
+            answer: Err(why),
             workers,
         };
     }

@@ -7,6 +7,7 @@ use Rattle.solumivaf.specs.declared.Failure.{Failure}
 use Rattle.solumivaf.specs.declared.Failure.TheVariants.{Unread, Incomplete}
 use Rattle.solumivaf.specs.declared.Input.{Input}
 use Rattle.solumivaf.specs.declared.Input.TheVariants.{Bytes, Lost}
+use Rattle.model.specs.Answer.{refused_by}
 
 -- no more bytes than there is room for
 abbrev pub Within : ℕ → Input → Type 0
@@ -31,5 +32,5 @@ Decides before buffer (Lost why) = Unit {0}
 
 -- where the input could not be read nothing is printed
 abbrev pub QuietWhereUnread : Option (List ℕ) → Option (List ℕ) → Failure → Type 0
-QuietWhereUnread before after (Unread why) = Keeps before after
+QuietWhereUnread before after (refused_by why) = Keeps before after
 QuietWhereUnread before after (Incomplete why) = Unit {0}

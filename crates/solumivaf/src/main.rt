@@ -135,7 +135,7 @@ fn print<W: Write>(to: &mut W, text: &[u8]) -> io::Result<()>
 {
     let mut output = [0; 65536];
     match print_result(text, &mut output) {
-        WriteAnswer::Written(k) => write_full(to, &output[..k]),
+        Ok(k) => write_full(to, &output[..k]),
         // Never: the buffer has room for all that is printed.
         WriteAnswer::WriteRefused(_, _) => Ok(()),
     }

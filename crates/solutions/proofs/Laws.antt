@@ -8,7 +8,8 @@ use lib.Ieee.{Float, nan}
 use lib.ListN.{length, get_or, set}
 use lib.Seq.{get_or-set_same, get_or-set_other}
 use Rattle.model.specs.declared.Sizes.{Sizes}
-use Rattle.model.specs.declared.Answer.TheVariants.{Accepted, Refused}
+use Rattle.model.specs.Answer.{accepted, refused_by}
+use Rattle.model.specs.declared.Rule.TheVariants.{NotSolved}
 use Rattle.model.specs.Lists.{in_turn}
 use Rattle.model.specs.Task.{tasks}
 use Rattle.model.specs.Plan.{plan, plan_of, order}
@@ -36,7 +37,7 @@ copy_more from to i h f j k = go (same_or_not j i)
 
 module _ (z : Sizes) (s : Buffers) (y x : List Float) where
   abbrev end : Passed → Answers
-  end p = answered Accepted x p
+  end p = answered accepted x p
 
   solved_is : solved (plan_of z) s y ≡ back_below (plan_of z) s (z.tiles * z.side) (in_turn (pass (plan_of z) s) (tasks z.tiles) (going y))
   unfolding solved back_below order plan
@@ -44,7 +45,7 @@ module _ (z : Sizes) (s : Buffers) (y x : List Float) where
 
   module _ (f : Progress) (mid : List Float) (e : passed_of f mid ≡ in_turn (pass (plan_of z) s) (tasks z.tiles) (going y)) where
     -- a number of the forward pass wasn't finite
-    pub stops_forward : (p : ℕ) → f ≡ Stopped p → ◌≡◌ {A = Answers} (record { answer = Refused 11 p; left = x }) (answered Accepted x (solved (plan_of z) s y))
+    pub stops_forward : (p : ℕ) → f ≡ Stopped p → ◌≡◌ {A = Answers} (record { answer = refused_by NotSolved p; left = x }) (answered accepted x (solved (plan_of z) s y))
     unfolding answered
     stops_forward p q =
         sym (ap end (solved_is ∙ ap (back_below (plan_of z) s (z.tiles * z.side)) (sym (halted f mid _ e p q)) ∙ back_stopped (plan_of z) s (z.tiles * z.side) p))
@@ -54,14 +55,14 @@ module _ (z : Sizes) (s : Buffers) (y x : List Float) where
       ends = g ∙ ap (back_below (plan_of z) s (z.tiles * z.side)) (went f mid _ e on) ∙ sym solved_is
 
       -- a number of a backward row wasn't finite
-      pub stops_back : (p : ℕ) → b ≡ Stopped p → ◌≡◌ {A = Answers} (record { answer = Refused 11 p; left = x }) (answered Accepted x (solved (plan_of z) s y))
+      pub stops_back : (p : ℕ) → b ≡ Stopped p → ◌≡◌ {A = Answers} (record { answer = refused_by NotSolved p; left = x }) (answered accepted x (solved (plan_of z) s y))
       unfolding answered
       stops_back p q = ap end (halted b last _ ends p q)
 
-      pub all_answered : b ≡ Going → ◌≡◌ {A = Answers} (record { answer = Accepted; left = last }) (answered Accepted x (solved (plan_of z) s y))
+      pub all_answered : b ≡ Going → ◌≡◌ {A = Answers} (record { answer = accepted; left = last }) (answered accepted x (solved (plan_of z) s y))
       unfolding answered
       all_answered q = ap end (went b last _ ends q)
 
 -- answers that were copied
-pub answered_as : (x y : List Float) (whole : Answers) → x ≡ y → ◌≡◌ {A = Answers} (record { answer = Accepted; left = y }) whole → ◌≡◌ {A = Answers} (record { answer = Accepted; left = x }) whole
-answered_as x y whole e q = (λ i. record { answer = Accepted; left = e i }) ∙ q
+pub answered_as : (x y : List Float) (whole : Answers) → x ≡ y → ◌≡◌ {A = Answers} (record { answer = accepted; left = y }) whole → ◌≡◌ {A = Answers} (record { answer = accepted; left = x }) whole
+answered_as x y whole e q = (λ i. record { answer = accepted; left = e i }) ∙ q

@@ -2,14 +2,14 @@
 #![tactic(auto)]
 
 ghost use Rattle.std.specs.Prelude.{◌≡◌, true, ◌*◌, length};
-ghost use Rattle.model.specs.declared.Answer.TheVariants.{Accepted};
+ghost use Rattle.model.specs.Answer.{accepted};
 ghost use Rattle.model.specs.Tile.{all_finite};
 ghost use Rattle.model.specs.Plan.{plan_of};
 ghost use Rattle.model.specs.Solve.{answered, solved};
 ghost use Rattle.progress.specs.Right.{Solvable, RightSide};
 
 use backward::back_rows;
-use model::{Answer, Sizes};
+use model::{Answer, Rule, Sizes};
 use progress::Progress;
 use right_sides::pass;
 
@@ -39,17 +39,17 @@ pub fn solve_in(
     requires right_side { RightSide z right.now }
     requires matrix_value { (all_finite matrix.now ≡ true) × (length answers.old ≡ z.tiles * z.side) × (length y.old ≡ z.tiles * z.side) }
     ensures { record { answer = result; left = answers.new }
-        ≡ answered Accepted answers.old (solved (plan_of z) (record { matrix = matrix.now; lists = lists.now }) right.now) }
+        ≡ answered accepted answers.old (solved (plan_of z) (record { matrix = matrix.now; lists = lists.now }) right.now) }
 {
     copy(right, y);
     let forward = pass(z, matrix, lists, y);
     if let Progress::Stopped(place) = forward {
-        return Answer::Refused(11, place);
+        return Err(Rule::NotSolved.at(place));
     }
     let back = back_rows(z, matrix, y);
     if let Progress::Stopped(row) = back {
-        return Answer::Refused(11, row);
+        return Err(Rule::NotSolved.at(row));
     }
     copy(y, answers);
-    Answer::Accepted
+    Ok(())
 }

@@ -3,7 +3,8 @@
 
 ghost use Rattle.std.specs.Prelude.{◌≡◌, not, List, ℕ};
 ghost use Rattle.worker.specs.declared.Worker.{Worker as SomeWorker};
-ghost use Rattle.model.specs.declared.Answer.TheVariants.{Accepted};
+ghost use Rattle.model.specs.Answer.{accepted};
+ghost use Rattle.model.specs.declared.Rule.TheVariants.{NotFinite};
 ghost use Rattle.model.specs.Lengths.{MatrixFits, RecordsFit};
 ghost use Rattle.model.specs.Tile.{all_finite};
 ghost use Rattle.model.specs.Refusal.{refuse, first_not_finite};
@@ -15,20 +16,20 @@ ghost use Rattle.solve_checks.specs.Rest.{rest_answer};
 use checks::{bad_lengths, bad_sizes};
 use damage::damaged;
 use failures::outcome_of;
-use finite_numbers::{Lowest, all_finite, first_not_finite};
-use model::{Answer, Outcome, Sizes};
+use finite_numbers::{all_finite, first_not_finite};
+use model::{Answer, Outcome, Rule, Sizes};
 use records::Record;
 use unfinished::first_unfinished;
 use worker::Workers;
 
 // Refusal 3.
 fn right_answer(right: &[f64]) -> Answer
-    ensures { result ≡ refuse 3 (first_not_finite right.now) (not (all_finite right.now)) Accepted }
+    ensures { result ≡ refuse NotFinite (first_not_finite right.now) (not (all_finite right.now)) accepted }
 {
     let offset = first_not_finite(right);
     match offset {
-        Lowest::At(x) => Answer::Refused(3, x),
-        Lowest::None => Answer::Accepted,
+        Some(x) => Err(Rule::NotFinite.at(x)),
+        None => Ok(()),
     }
 }
 
@@ -39,13 +40,13 @@ fn rest_answer(z: Sizes, matrix: &[f64], records: &[Record], right: &[f64]) -> A
         ≡ rest_answer z (lent matrix.now lists records.now slots count number) right.now }
 {
     let task = first_unfinished(records);
-    if let Lowest::At(p) = task {
-        return Answer::Refused(8, p);
+    if let Some(p) = task {
+        return Err(Rule::NotFinished.at(p));
     }
     let end = outcome_of(z, matrix, records);
     match end {
-        Outcome::Overflow(p) => Answer::Refused(9, p as usize),
-        Outcome::Singular(x) => Answer::Refused(10, x as usize),
+        Outcome::Overflow(p) => Err(Rule::TaskOverflow.at(p as usize)),
+        Outcome::Singular(x) => Err(Rule::RowSingular.at(x as usize)),
         Outcome::Good => right_answer(right),
     }
 }
@@ -63,24 +64,24 @@ pub fn solve_answer(
     ensures { result ≡ solve_answer z (all_lent matrix.now lists.now records.now workers) right.now answers.now }
 {
     if bad_sizes(z) {
-        return Answer::Refused(1, 0);
+        return Err(Rule::BadSizes.at(0));
     }
     if bad_lengths(z, matrix, lists, records, workers.count) {
-        return Answer::Refused(2, 0);
+        return Err(Rule::BadLengths.at(0));
     }
     let order = z.tiles * z.side;
     if right.len() != order {
-        return Answer::Refused(2, 0);
+        return Err(Rule::BadLengths.at(0));
     }
     if answers.len() != order {
-        return Answer::Refused(2, 0);
+        return Err(Rule::BadLengths.at(0));
     }
     let slots = workers.slots;
     if damaged(z, lists, records, slots, workers.number) {
-        return Answer::Refused(4, 0);
+        return Err(Rule::Damaged.at(0));
     }
     if !all_finite(matrix) {
-        return Answer::Refused(4, 0);
+        return Err(Rule::Damaged.at(0));
     }
     rest_answer(z, matrix, records, right)
 }

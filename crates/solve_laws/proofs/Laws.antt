@@ -10,8 +10,8 @@ use lib.ListN.{length, length-map}
 use lib.Ieee.{Float}
 use borrow.Author.Tests.{eq-eqb, eqb-true, not-false}
 use Rattle.model.specs.declared.Sizes.{Sizes}
-use Rattle.model.specs.declared.Answer.{Answer}
-use Rattle.model.specs.declared.Answer.TheVariants.{Accepted, Refused}
+use Rattle.model.specs.Answer.{Answer, accepted, refused_by}
+use Rattle.model.specs.declared.Rule.TheVariants.{BadSizes, BadLengths, NotFinite, Damaged, NotFinished, NotSolved}
 use Rattle.model.specs.Lists.{run, below, keep, first_or}
 use Rattle.model.specs.Tile.{all_finite}
 use Rattle.model.specs.Plan.{Plan, plan, plan_of, order}
@@ -49,23 +49,23 @@ module _ (z : Plan) (s : Lent) (long : length s.records ≡ length z.tasks) (e :
 
 unfoldable settled : Plan → State → List Float → List Float → Answers
 settled p u b x = answered
-    (refuse 2 0 (not (eqb (length b) (order p) && eqb (length x) (order p)))
-    (unless_good (outcome p u) (refuse 3 (first_not_finite b) (not (all_finite b)) Accepted))) x (solved p u.buffers b)
+    (refuse BadLengths 0 (not (eqb (length b) (order p) && eqb (length x) (order p)))
+    (unless_good (outcome p u) (refuse NotFinite (first_not_finite b) (not (all_finite b)) accepted))) x (solved p u.buffers b)
 
-module _ (z : Sizes) (s : Lent) (b x : List Float) (ok : run_answer z s ≡ Accepted) (e : all_finished (plan_of z) s ≡ true) where
+module _ (z : Sizes) (s : Lent) (b x : List Float) (ok : run_answer z s ≡ accepted) (e : all_finished (plan_of z) s ≡ true) where
   abbrev rights : Bool
   rights = not (eqb (length b) (order (plan_of z)) && eqb (length x) (order (plan_of z)))
 
   abbrev rest : Answer
-  rest = unless_good (outcome (plan_of z) (state_of s)) (refuse 3 (first_not_finite b) (not (all_finite b)) Accepted)
+  rest = unless_good (outcome (plan_of z) (state_of s)) (refuse NotFinite (first_not_finite b) (not (all_finite b)) accepted)
 
   -- refusals 1, 2 and 4 but for the right side
   lent_well : (bad_sizes z ≡ false) × (bad_lengths (plan_of z) z.workers s ≡ false) × ((damaged (plan_of z) s || not (all_finite s.buffers.matrix)) ≡ false)
   unfolding run_answer
   lent_well =
-      let c = passed 1 0 (bad_sizes z) _ ok in
-      let d = passed 2 0 (bad_lengths (plan_of z) z.workers s) _ c.1 in
-      let f = passed 4 0 (damaged (plan_of z) s || not (all_finite s.buffers.matrix)) Accepted d.1 in
+      let c = passed BadSizes 0 (bad_sizes z) _ ok in
+      let d = passed BadLengths 0 (bad_lengths (plan_of z) z.workers s) _ c.1 in
+      let f = passed Damaged 0 (damaged (plan_of z) s || not (all_finite s.buffers.matrix)) accepted d.1 in
       (c.0, d.0, f.0)
 
   records_long : length s.records ≡ length (plan_of z).tasks
@@ -78,15 +78,15 @@ module _ (z : Sizes) (s : Lent) (b x : List Float) (ok : run_answer z s ≡ Acce
       let three = and_left (M && L && R) W (not-false (M && L && R && W) lent_well.1) in
       eqb-true (length s.records) (length (plan_of z).tasks) (and_right (M && L) R three)
 
-  answer_settles : solve_answer z s b x ≡ refuse 2 0 rights rest
+  answer_settles : solve_answer z s b x ≡ refuse BadLengths 0 rights rest
   unfolding solve_answer
   answer_settles =
       let none : not (eqb (length (unfinished (plan_of z) s)) 0) ≡ false = rw (none_unfinished (plan_of z) s records_long e) in
-      passes 1 0 (bad_sizes z) _ lent_well.0
+      passes BadSizes 0 (bad_sizes z) _ lent_well.0
       ∙ rw lent_well.1
-      (ap (refuse 2 0 rights)
-      (passes 4 0 (damaged (plan_of z) s || not (all_finite s.buffers.matrix)) _ lent_well.2
-      ∙ passes 8 (first_or (unfinished (plan_of z) s) (λ p. p) 0) (not (eqb (length (unfinished (plan_of z) s)) 0)) rest none))
+      (ap (refuse BadLengths 0 rights)
+      (passes Damaged 0 (damaged (plan_of z) s || not (all_finite s.buffers.matrix)) _ lent_well.2
+      ∙ passes NotFinished (first_or (unfinished (plan_of z) s) (λ p. p) 0) (not (eqb (length (unfinished (plan_of z) s)) 0)) rest none))
 
   settles : solve_call z s b x ≡ settled (plan_of z) (state_of s) b x
   unfolding solve_call settled state_of
@@ -102,23 +102,23 @@ solves_alike z y s r cs ds p b x =
 
 -- ---- a good system
 
-ends_by_11 : (x : List Float) (u : Passed) → ((answered Accepted x u).answer ≡ Accepted) ⊎ ((p : ℕ) × ((answered Accepted x u).answer ≡ Refused 11 p))
+ends_by_11 : (x : List Float) (u : Passed) → ((answered accepted x u).answer ≡ accepted) ⊎ ((p : ℕ) × ((answered accepted x u).answer ≡ refused_by NotSolved p))
 unfolding answered
 ends_by_11 x (going y) = inl refl
 ends_by_11 x (stopped p) = inr (p, refl)
 
 module _ (z : Sizes) (s : Lent) (b x : List Float) (h : GoodSystem z s b x) where
-  solves : solve_call z s b x ≡ answered Accepted x (solved (plan_of z) s.buffers b)
+  solves : solve_call z s b x ≡ answered accepted x (solved (plan_of z) s.buffers b)
   unfolding settled unless_good state_of
   solves =
       settles z s b x h.undamaged h.finished
       ∙ ap (λ (a : Answer). answered a x (solved (plan_of z) s.buffers b))
-      (passes 2 0 (rights z s b x h.undamaged h.finished) _ (rw (eq-eqb (length b) (order (plan_of z)) h.right_long, eq-eqb (length x) (order (plan_of z)) h.answers_long))
-      ∙ ap (λ o. unless_good o (refuse 3 (first_not_finite b) (not (all_finite b)) Accepted)) h.good
-      ∙ passes 3 (first_not_finite b) (not (all_finite b)) Accepted (ap not h.right_finite))
+      (passes BadLengths 0 (rights z s b x h.undamaged h.finished) _ (rw (eq-eqb (length b) (order (plan_of z)) h.right_long, eq-eqb (length x) (order (plan_of z)) h.answers_long))
+      ∙ ap (λ o. unless_good o (refuse NotFinite (first_not_finite b) (not (all_finite b)) accepted)) h.good
+      ∙ passes NotFinite (first_not_finite b) (not (all_finite b)) accepted (ap not h.right_finite))
 
-  only_11 : ((solve_call z s b x).answer ≡ Accepted) ⊎ ((p : ℕ) × ((solve_call z s b x).answer ≡ Refused 11 p))
-  only_11 = subst (λ (a : Answers). (a.answer ≡ Accepted) ⊎ ((p : ℕ) × (a.answer ≡ Refused 11 p))) (sym solves) (ends_by_11 x (solved (plan_of z) s.buffers b))
+  only_11 : ((solve_call z s b x).answer ≡ accepted) ⊎ ((p : ℕ) × ((solve_call z s b x).answer ≡ refused_by NotSolved p))
+  only_11 = subst (λ (a : Answers). (a.answer ≡ accepted) ⊎ ((p : ℕ) × (a.answer ≡ refused_by NotSolved p))) (sym solves) (ends_by_11 x (solved (plan_of z) s.buffers b))
 
 pub solves_promise : (z : Sizes) → Solves z
 solves_promise z = record { any_calls = λ y s r cs ds p b x. solves_alike z y s r cs ds p b x; only_11 = λ s b x h. only_11 z s b x h }

@@ -10,8 +10,10 @@ use lib.ListN.{length, get_or}
 use borrow.Author.Tests.{eq-eqb, ne_eqb, lt-ltb, eqb-true, not-false}
 use Rattle.model.specs.declared.Sizes.{Sizes}
 use Rattle.worker.specs.declared.Worker.{Worker}
-use Rattle.model.specs.declared.Answer.{Answer}
-use Rattle.model.specs.declared.Answer.TheVariants.{Accepted, Refused}
+use Rattle.model.specs.Answer.{Answer, accepted}
+use Rattle.model.specs.declared.Refusal.{Refusal}
+use Rattle.std.specs.Prelude.{Err}
+use Rattle.model.specs.declared.Rule.TheVariants.{BadSizes, BadLengths, NotFinite, Damaged, NotFinished}
 use Rattle.model.specs.declared.Outcome.{Outcome}
 use Rattle.model.specs.declared.Outcome.TheVariants.{Good, Overflow, Singular}
 use Rattle.model.specs.Tile.{all_finite}
@@ -37,7 +39,7 @@ pub record Checked (z : Sizes) (m : List Float) (l : List ℕ) (y x : List Float
   pub all_finite_lem : all_finite m ≡ true
   pub answers_long : length x ≡ z.tiles * z.side
 
-is_good : (o : Outcome) (a : Answer) → unless_good o a ≡ Accepted → a ≡ Accepted
+is_good : (o : Outcome) (a : Answer) → unless_good o a ≡ accepted → a ≡ accepted
 unfolding unless_good
 is_good Good a e = e
 is_good (Overflow p) a e = let y : ◌≡◌ {A = ℕ} 0 1 = cc in absurd (omega arith)
@@ -62,17 +64,17 @@ module _ (z : Sizes) (m : List Float) (l : List ℕ) (r : List (List ℕ)) (ws :
         let other : eqb i k ≡ false = ne_eqb i k (λ q. omega arith) in
         rw (other, lt-ltb k i h) at (entry_fits (plan_of z) s fine i k e hi (omega arith) he)
 
-  pub checked : solve_answer z s y x ≡ Accepted → Checked z m l y x
+  pub checked : solve_answer z s y x ≡ accepted → Checked z m l y x
   unfolding solve_answer lent order plan
   checked q =
       let bad = bad_lengths (plan_of z) z.workers s in
       let Y = eqb (length y) (order (plan_of z)) in
       let X = eqb (length x) (order (plan_of z)) in
-      let a = passed 1 0 (bad_sizes z) _ q in
-      let b = passed 2 0 (bad || not (Y && X)) _ a.1 in
-      let c = passed 4 0 (damaged (plan_of z) s || not (all_finite s.buffers.matrix)) _ b.1 in
-      let d = passed 8 _ (not (eqb (length (unfinished (plan_of z) s)) 0)) _ c.1 in
-      let g = passed 3 _ (not (all_finite y)) Accepted (is_good (outcome (plan_of z) (state_of s)) _ d.1) in
+      let a = passed BadSizes 0 (bad_sizes z) _ q in
+      let b = passed BadLengths 0 (bad || not (Y && X)) _ a.1 in
+      let c = passed Damaged 0 (damaged (plan_of z) s || not (all_finite s.buffers.matrix)) _ b.1 in
+      let d = passed NotFinished _ (not (eqb (length (unfinished (plan_of z) s)) 0)) _ c.1 in
+      let g = passed NotFinite _ (not (all_finite y)) accepted (is_good (outcome (plan_of z) (state_of s)) _ d.1) in
       let sizes = sized z a.0 in
       let fit = lengths_fit z m l r ws count number (or_false_left bad (not (Y && X)) b.0) in
       let both = not-false (Y && X) (or_false_right bad (not (Y && X)) b.0) in
@@ -93,10 +95,10 @@ module _ (z : Sizes) (m : List Float) (l : List ℕ) (r : List (List ℕ)) (ws :
 -- ---- the call
 
 module _ (z : Sizes) (s : Lent) (y x : List Float) (a : Answer) (e : a ≡ solve_answer z s y x) where
-  pub refused : (number place : ℕ) → a ≡ Refused number place → ◌≡◌ {A = Answers} (record { answer = Refused number place; left = x }) (solve_call z s y x)
+  pub refused : (why : Refusal) → a ≡ Err why → ◌≡◌ {A = Answers} (record { answer = Err why; left = x }) (solve_call z s y x)
   unfolding solve_call answered
-  refused number place q = ap (λ (k : Answer). answered k x (solved (plan_of z) s.buffers y)) (sym q ∙ e)
+  refused why q = ap (λ (k : Answer). answered k x (solved (plan_of z) s.buffers y)) (sym q ∙ e)
 
-  pub accepted : a ≡ Accepted → answered Accepted x (solved (plan_of z) s.buffers y) ≡ solve_call z s y x
+  pub accepted_lem : a ≡ accepted → answered accepted x (solved (plan_of z) s.buffers y) ≡ solve_call z s y x
   unfolding solve_call
-  accepted q = ap (λ (k : Answer). answered k x (solved (plan_of z) s.buffers y)) (sym q ∙ e)
+  accepted_lem q = ap (λ (k : Answer). answered k x (solved (plan_of z) s.buffers y)) (sym q ∙ e)

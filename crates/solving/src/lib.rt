@@ -2,7 +2,7 @@
 #![tactic(auto)]
 
 ghost use Rattle.std.specs.Prelude.{◌≡◌, true, ◌*◌, length};
-ghost use Rattle.model.specs.declared.Answer.TheVariants.{Accepted};
+ghost use Rattle.model.specs.Answer.{accepted};
 ghost use Rattle.model.specs.Limits.{most_order};
 ghost use Rattle.model.specs.Tile.{all_finite};
 ghost use Rattle.model.specs.Plan.{plan_of};
@@ -29,7 +29,7 @@ fn solve_with(
     requires right_side { RightSide z right.now }
     requires matrix_value { (all_finite matrix.now ≡ true) × (length answers.old ≡ z.tiles * z.side) × (length work.old ≡ most_order) }
     ensures { record { answer = result; left = answers.new }
-        ≡ answered Accepted answers.old (solved (plan_of z) (record { matrix = matrix.now; lists = lists.now }) right.now) }
+        ≡ answered accepted answers.old (solved (plan_of z) (record { matrix = matrix.now; lists = lists.now }) right.now) }
 {
     let order = z.tiles * z.side;
     solve_in(z, matrix, lists, right, answers, &mut work[..order])
@@ -49,10 +49,7 @@ pub fn solve(
     ensures { record { answer = result; left = answers.new }
         ≡ solve_call z (all_lent matrix.now lists.now records.now workers) right.now answers.old }
 {
-    let answer = solve_answer(z, matrix, lists, records, workers, right, answers);
-    if let Answer::Refused(number, place) = answer {
-        return Answer::Refused(number, place);
-    }
+    solve_answer(z, matrix, lists, records, workers, right, answers)?;
     let mut work = [0.0; MOST_ORDER];
     solve_with(z, matrix, lists, right, answers, &mut work)
 }

@@ -2,8 +2,8 @@
 use Rattle.std.specs.Prelude.{ℕ, ◌≡◌, false, List, Float}
 use Rattle.model.specs.declared.Sizes.{Sizes}
 use Rattle.worker.specs.declared.Worker.{Worker}
-use Rattle.model.specs.declared.Answer.{Answer}
-use Rattle.model.specs.declared.Answer.TheVariants.{Accepted}
+use Rattle.model.specs.Answer.{Answer, accepted}
+use Rattle.model.specs.declared.Rule.TheVariants.{BadSizes, BadLengths, Damaged}
 use Rattle.model.specs.Lengths.{LentFits}
 use Rattle.model.specs.Plan.{plan_of}
 use Rattle.model.specs.Calls.{Lent}
@@ -14,10 +14,10 @@ use Rattle.checks.specs.Checks.{Sized}
 -- refusals 1, 2 and 4 but for elements
 unfoldable pub state_answer : Sizes → Lent → Answer
 state_answer z s =
-    refuse 1 0 (bad_sizes z)
-    otherwise refuse 2 0 (bad_lengths (plan_of z) z.workers s)
-    otherwise refuse 4 0 (damaged (plan_of z) s)
-    otherwise Accepted
+    refuse BadSizes 0 (bad_sizes z)
+    otherwise refuse BadLengths 0 (bad_lengths (plan_of z) z.workers s)
+    otherwise refuse Damaged 0 (damaged (plan_of z) s)
+    otherwise accepted
 
 -- sizes in their ranges, lengths as stated, and nothing damaged
 pub record Undamaged (z : Sizes) (m : List Float) (l : List ℕ) (r : List (List ℕ)) (ws : List Worker) (number : ℕ) : Type 0 where

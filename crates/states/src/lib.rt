@@ -7,7 +7,7 @@ ghost use Rattle.states.specs.States.{state_answer};
 
 use checks::{bad_lengths, bad_sizes};
 use damage::damaged;
-use model::{Answer, Sizes};
+use model::{Answer, Rule, Sizes};
 use records::Record;
 use worker::Workers;
 
@@ -22,14 +22,14 @@ pub fn state_answer(
     ensures { result ≡ state_answer z (all_lent matrix.now lists.now records.now workers) }
 {
     if bad_sizes(z) {
-        return Answer::Refused(1, 0);
+        return Err(Rule::BadSizes.at(0));
     }
     if bad_lengths(z, matrix, lists, records, workers.count) {
-        return Answer::Refused(2, 0);
+        return Err(Rule::BadLengths.at(0));
     }
     let slots = workers.slots;
     if damaged(z, lists, records, slots, workers.number) {
-        return Answer::Refused(4, 0);
+        return Err(Rule::Damaged.at(0));
     }
-    Answer::Accepted
+    Ok(())
 }

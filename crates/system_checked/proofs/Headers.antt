@@ -9,15 +9,17 @@ use lib.ListN.{length, drop}
 use borrow.Author.Tests.{ltb-false}
 use Rattle.laws.proofs.Tests.{or_false_left}
 use Rattle.laws.proofs.Refusals.{shape_range}
-use Rattle.model.specs.declared.Answer.{Answer}
-use Rattle.model.specs.declared.Answer.TheVariants.{Accepted, Refused}
+use Rattle.std.specs.Prelude.{Ok, Err}
+use Rattle.model.specs.Answer.{Answer, accepted, refused_by}
+use Rattle.model.specs.declared.Rule.{Rule}
+use Rattle.header_read.specs.Heads.{shape}
+use Rattle.model.specs.declared.Rule.TheVariants.{BadSizes, BadLengths, Malformed, WrongFrame, WrongEnd}
 use Rattle.model.specs.Refusal.{refuse}
 use Rattle.model.specs.Text.{bad_shape}
 use Rattle.model.specs.Read.{Frame, kind_in, tiles_in, side_in, lines_from, file_answer}
 use Rattle.lines_read.specs.Line.{malformed}
 use Rattle.lines_read.proofs.Tested.{well_formed}
-use Rattle.header_read.specs.declared.Header.{Header}
-use Rattle.header_read.specs.declared.Header.TheVariants.{Shape, Unread}
+use Rattle.header_read.specs.Heads.{Header}
 use Rattle.cursors.specs.Steps.{CursorFits}
 use Rattle.frames_read.specs.Follow.{follow, text_end}
 use Rattle.header_read.specs.Heads.{header_line, header_answer, shaped, header_of}
@@ -34,7 +36,7 @@ pub record HeaderFacts (text : List ℕ) (N t : ℕ) : Type 0 where
   pub tiles : (1 ≤ N) × (N ≤ 16)
   pub side : (1 ≤ t) × (t ≤ 16)
 
-pub header_facts : (limit : ℕ) (text : List ℕ) → header_answer limit text ≡ Accepted → HeaderFacts text (tiles_in (header_line text)) (side_in (header_line text))
+pub header_facts : (limit : ℕ) (text : List ℕ) → header_answer limit text ≡ accepted → HeaderFacts text (tiles_in (header_line text)) (side_in (header_line text))
 unfolding header_answer refuse
 header_facts limit text e =
     go (eqb (length text) 0) (ltb (length text) 7) (malformed 0 h) (not (eqb (kind_in h) 1)) (bad_shape (tiles_in h) (side_in h) || ltb limit (tiles_in h * side_in h)) refl refl refl e
@@ -44,7 +46,7 @@ header_facts limit text e =
 
     go : (a b m k s : Bool) → ltb (length text) 7 ≡ b → malformed 0 (header_line text) ≡ m
         → (bad_shape (tiles_in (header_line text)) (side_in (header_line text)) || ltb limit (tiles_in (header_line text) * side_in (header_line text))) ≡ s
-        → refuse 14 1 a (refuse 12 1 b (refuse 12 1 m (refuse 13 1 k (refuse 1 1 s Accepted)))) ≡ Accepted
+        → refuse WrongEnd 1 a (refuse Malformed 1 b (refuse Malformed 1 m (refuse WrongFrame 1 k (refuse BadSizes 1 s accepted)))) ≡ accepted
         → HeaderFacts text (tiles_in (header_line text)) (side_in (header_line text))
     go true b m k s p q r e = let z : ◌≡◌ {A = ℕ} 0 1 = cc in absurd (omega arith)
     go false true m k s p q r e = let z : ◌≡◌ {A = ℕ} 0 1 = cc in absurd (omega arith)
@@ -60,21 +62,21 @@ pub facts : {limit N t : ℕ} {text : List ℕ} → Headed limit text N t → He
 facts {limit} {N} {t} {text} h = rw (h.tiles_told, h.side_told) (header_facts limit text h.accepted)
 
 -- what the header's reader answered
-pub shape_read : (limit : ℕ) (text : List ℕ) (r : Header) (N t : ℕ) → r ≡ header_of limit text → r ≡ Shape N t → Headed limit text N t
+pub shape_read : (limit : ℕ) (text : List ℕ) (r : Header) (N t : ℕ) → r ≡ header_of limit text → r ≡ Ok (shape N t) → Headed limit text N t
 unfolding header_of
 shape_read limit text r N t e q = go (header_answer limit text) refl (sym q ∙ e)
   where
-    go : (a : Answer) → header_answer limit text ≡ a → Shape N t ≡ shaped a (header_line text) → Headed limit text N t
-    go Accepted p e = record { accepted = p; tiles_told = cc; side_told = cc }
-    go (Refused n x) p e = let z : ◌≡◌ {A = ℕ} 0 1 = cc in absurd (omega arith)
+    go : (a : Answer) → header_answer limit text ≡ a → Ok (shape N t) ≡ shaped a (header_line text) → Headed limit text N t
+    go (Ok _) p e = record { accepted = p; tiles_told = cc; side_told = cc }
+    go (Err why) p e = let z : ◌≡◌ {A = ℕ} 0 1 = cc in absurd (omega arith)
 
-pub refusal_read : (limit : ℕ) (text : List ℕ) (r : Header) (n x : ℕ) → r ≡ header_of limit text → r ≡ Unread n x → header_answer limit text ≡ Refused n x
+pub refusal_read : (limit : ℕ) (text : List ℕ) (r : Header) (n : Rule) (x : ℕ) → r ≡ header_of limit text → r ≡ refused_by n x → header_answer limit text ≡ refused_by n x
 unfolding header_of
 refusal_read limit text r n x e q = go (header_answer limit text) refl (sym q ∙ e)
   where
-    go : (a : Answer) → header_answer limit text ≡ a → Unread n x ≡ shaped a (header_line text) → header_answer limit text ≡ Refused n x
-    go Accepted p e = let z : ◌≡◌ {A = ℕ} 0 1 = cc in absurd (omega arith)
-    go (Refused m y) p e = cc
+    go : (a : Answer) → header_answer limit text ≡ a → refused_by n x ≡ shaped a (header_line text) → header_answer limit text ≡ refused_by n x
+    go (Ok _) p e = let z : ◌≡◌ {A = ℕ} 0 1 = cc in absurd (omega arith)
+    go (Err why) p e = cc
 
 pub start_placed : (text : List ℕ) → 7 ≤ length text → CursorFits text start
 start_placed text h = record { within = h; counted = omega arith }
@@ -82,13 +84,13 @@ start_placed text h = record { within = h; counted = omega arith }
 -- ---- the whole file
 
 module _ (limit : ℕ) (frames : ℕ → List Frame) (lengths : ℕ → ℕ → Bool) (text : List ℕ) where
-  pub file_refused : (n x : ℕ) → header_answer limit text ≡ Refused n x → file_answer limit frames lengths (lines_from [] text) ≡ Refused n x
+  pub file_refused : (n : Rule) (x : ℕ) → header_answer limit text ≡ refused_by n x → file_answer limit frames lengths (lines_from [] text) ≡ refused_by n x
   file_refused n x e = file_headed limit frames lengths text ∙ ap (λ (a : Answer). passed a (behind_header limit frames lengths (header_line text) (lines_from [] (drop 7 text)))) e
 
   module _ (N t : ℕ) (h : Headed limit text N t) where
-    pub file_followed : file_answer limit frames lengths (lines_from [] text) ≡ refuse 2 0 (lengths N t) (text_end text (follow t text (frames N) start))
+    pub file_followed : file_answer limit frames lengths (lines_from [] text) ≡ refuse BadLengths 0 (lengths N t) (text_end text (follow t text (frames N) start))
     file_followed =
         rw (h.tiles_told, h.side_told)
         (file_headed limit frames lengths text
         ∙ ap (λ (a : Answer). passed a (behind_header limit frames lengths (header_line text) (lines_from [] (drop 7 text)))) h.accepted
-        ∙ ap (refuse 2 0 (lengths (tiles_in (header_line text)) (side_in (header_line text)))) (lines_followed (side_in (header_line text)) text (frames (tiles_in (header_line text))) start))
+        ∙ ap (refuse BadLengths 0 (lengths (tiles_in (header_line text)) (side_in (header_line text)))) (lines_followed (side_in (header_line text)) text (frames (tiles_in (header_line text))) start))

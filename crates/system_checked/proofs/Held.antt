@@ -13,7 +13,9 @@ use Rattle.laws.proofs.Blocks.{get_or_table}
 use Rattle.laws.proofs.Every.{every_at}
 use Rattle.laws.proofs.Runs.{length_map_below}
 use Rattle.laws.proofs.Texts.{length_tile_frames}
-use Rattle.model.specs.declared.Answer.TheVariants.{Accepted}
+use Rattle.std.specs.Prelude.{Ok, Err}
+use Rattle.model.specs.Answer.{accepted}
+use Rattle.model.specs.declared.Rule.TheVariants.{WrongEnd}
 use Rattle.model.specs.Lists.{below, table, joined}
 use Rattle.model.specs.Num.{finite}
 use Rattle.model.specs.Tile.{all_finite}
@@ -21,8 +23,7 @@ use Rattle.model.specs.Refusal.{refuse}
 use Rattle.model.specs.Read.{Frame, field, line_length, lines_from, last_line, numbers_in, tile_frames, tiles_of}
 use Rattle.lines_read.proofs.Tested.{line_of_digits}
 use Rattle.cursors.specs.declared.Cursor.{Cursor}
-use Rattle.cursors.specs.declared.Step.{Step}
-use Rattle.cursors.specs.declared.Step.TheVariants.{Next, Stopped}
+use Rattle.cursors.specs.Steps.{Step}
 use Rattle.cursors.specs.Steps.{CursorFits}
 use Rattle.frames_read.specs.Follow.{onward, follow, row_frames, text_end}
 use Rattle.frames_read.proofs.Rows.{follow_append, follow_placed}
@@ -33,20 +34,20 @@ use Rattle.system_checked.proofs.Uniform.{AllKind, all_map, all_joined, Checked,
 
 pub record Ended (t : ℕ) (text : List ℕ) (fs : List Frame) (c : Cursor) : Type 0 where
   pub end : Cursor
-  pub followed : follow t text fs c ≡ Next end
+  pub followed : follow t text fs c ≡ Ok end
   pub last : length text ≤ end.at
 
-pub to_end : (t : ℕ) (text : List ℕ) (fs : List Frame) (c : Cursor) → text_end text (follow t text fs c) ≡ Accepted → Ended t text fs c
+pub to_end : (t : ℕ) (text : List ℕ) (fs : List Frame) (c : Cursor) → text_end text (follow t text fs c) ≡ accepted → Ended t text fs c
 unfolding text_end refuse
 to_end t text fs c e = go (follow t text fs c) refl e
   where
-    at_last : (d : Cursor) (b : Bool) → ltb d.at (length text) ≡ b → refuse 14 d.line b Accepted ≡ Accepted → length text ≤ d.at
+    at_last : (d : Cursor) (b : Bool) → ltb d.at (length text) ≡ b → refuse WrongEnd d.line b accepted ≡ accepted → length text ≤ d.at
     at_last d true p e = let z : ◌≡◌ {A = ℕ} 0 1 = cc in absurd (omega arith)
     at_last d false p e = ltb-false d.at (length text) p
 
-    go : (s : Step) → follow t text fs c ≡ s → text_end text s ≡ Accepted → Ended t text fs c
-    go (Next d) q e = record { end = d; followed = q; last = at_last d (ltb d.at (length text)) refl e }
-    go (Stopped n x) q e = let z : ◌≡◌ {A = ℕ} 0 1 = cc in absurd (omega arith)
+    go : (s : Step) → follow t text fs c ≡ s → text_end text s ≡ accepted → Ended t text fs c
+    go (Ok d) q e = record { end = d; followed = q; last = at_last d (ltb d.at (length text)) refl e }
+    go (Err why) q e = let z : ◌≡◌ {A = ℕ} 0 1 = cc in absurd (omega arith)
 
 pub none_behind : (text : List ℕ) (a : ℕ) → length text ≤ a → lines_from [] (drop a text) ≡ []
 unfolding lines_from last_line
@@ -55,15 +56,15 @@ none_behind text a h = ap (lines_from []) (drop_of_length-le text h)
 -- frames in two parts
 pub record Split (t : ℕ) (text : List ℕ) (fs gs : List Frame) (c d : Cursor) : Type 0 where
   pub middle : Cursor
-  pub before : follow t text fs c ≡ Next middle
-  pub behind : follow t text gs middle ≡ Next d
+  pub before : follow t text fs c ≡ Ok middle
+  pub behind : follow t text gs middle ≡ Ok d
 
-pub split : (t : ℕ) (text : List ℕ) (fs gs : List Frame) (c d : Cursor) → follow t text (fs ++ gs) c ≡ Next d → Split t text fs gs c d
+pub split : (t : ℕ) (text : List ℕ) (fs gs : List Frame) (c d : Cursor) → follow t text (fs ++ gs) c ≡ Ok d → Split t text fs gs c d
 split t text fs gs c d e = go (follow t text fs c) refl (sym (follow_append t text fs gs c) ∙ e)
   where
-    go : (s : Step) → follow t text fs c ≡ s → onward (follow t text gs) s ≡ Next d → Split t text fs gs c d
-    go (Next m) q e = record { middle = m; before = q; behind = e }
-    go (Stopped n x) q e = let z : ◌≡◌ {A = ℕ} 0 1 = cc in absurd (omega arith)
+    go : (s : Step) → follow t text fs c ≡ s → onward (follow t text gs) s ≡ Ok d → Split t text fs gs c d
+    go (Ok m) q e = record { middle = m; before = q; behind = e }
+    go (Err why) q e = let z : ◌≡◌ {A = ℕ} 0 1 = cc in absurd (omega arith)
 
 -- ---- tiles
 
@@ -83,7 +84,7 @@ tile_line_lem t l c = record {
       rw (get_or_table (t * t) num x nan h) at e;
 }
 
-module _ (t N : ℕ) (text : List ℕ) (c d : Cursor) (p : CursorFits text c) (e : follow t text (tile_frames N) c ≡ Next d) where
+module _ (t N : ℕ) (text : List ℕ) (c d : Cursor) (p : CursorFits text c) (e : follow t text (tile_frames N) c ≡ Ok d) where
   pub tiles_followed : Uniform t 2 text (tile_frames N) c d
   tiles_followed = uniform t text 2 (tile_frames N) c d (tiles_kind N) e
 

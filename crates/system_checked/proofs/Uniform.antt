@@ -9,15 +9,16 @@ use lib.Dec.{eqb}
 use lib.ListN.{length, take, drop, length-drop}
 use lib.Seq.{length-take-le, drop-drop}
 use borrow.Author.Tests.{eq-eqb, not-false}
-use Rattle.model.specs.declared.Answer.TheVariants.{Accepted}
+use Rattle.std.specs.Prelude.{Ok, Err}
+use Rattle.model.specs.Answer.{accepted}
+use Rattle.model.specs.declared.Rule.TheVariants.{NotFinite, Malformed, WrongFrame}
 use Rattle.model.specs.Lists.{run, below, joined}
 use Rattle.model.specs.Tile.{all_finite}
 use Rattle.model.specs.Refusal.{refuse, inside}
 use Rattle.model.specs.Read.{Frame, kind_in, line_length, lines_from, not_digits, bad_content, bad_line, wrong_frame, not_finite_in, numbers_in, line_answer}
 use Rattle.lines_read.proofs.Tested.{length_above}
 use Rattle.cursors.specs.declared.Cursor.{Cursor}
-use Rattle.cursors.specs.declared.Step.{Step}
-use Rattle.cursors.specs.declared.Step.TheVariants.{Next, Stopped}
+use Rattle.cursors.specs.Steps.{Step}
 use Rattle.cursors.specs.Steps.{step_of}
 use Rattle.frames_read.specs.Follow.{onward, follow}
 use Rattle.frames_read.proofs.Lines.{whole_line}
@@ -63,11 +64,11 @@ pub finite_of : (t : ℕ) (f : Frame) (l : List ℕ) → f.kind ≡ 2 → not_fi
 unfolding not_finite_in
 finite_of t f l k e = not-false (all_finite (numbers_in t l)) (rw (eq-eqb f.kind 2 k) at e)
 
-line_checked : (t x : ℕ) (f : Frame) (l : List ℕ) → length l ≡ line_length t f.kind → line_answer t x f l Accepted ≡ Accepted → Checked t f.kind l
+line_checked : (t x : ℕ) (f : Frame) (l : List ℕ) → length l ≡ line_length t f.kind → line_answer t x f l accepted ≡ accepted → Checked t f.kind l
 unfolding line_answer refuse
 line_checked t x f l s e = go (bad_line t f.kind l) (wrong_frame f l) (not_finite_in t f l) refl refl e
   where
-    go : (a b c : Bool) → bad_line t f.kind l ≡ a → not_finite_in t f l ≡ c → refuse 12 x a (refuse 13 x b (refuse 3 x c Accepted)) ≡ Accepted → Checked t f.kind l
+    go : (a b c : Bool) → bad_line t f.kind l ≡ a → not_finite_in t f l ≡ c → refuse Malformed x a (refuse WrongFrame x b (refuse NotFinite x c accepted)) ≡ accepted → Checked t f.kind l
     go true b c p q e = let z : ◌≡◌ {A = ℕ} 0 1 = cc in absurd (omega arith)
     go false true c p q e = let z : ◌≡◌ {A = ℕ} 0 1 = cc in absurd (omega arith)
     go false false true p q e = let z : ◌≡◌ {A = ℕ} 0 1 = cc in absurd (omega arith)
@@ -150,14 +151,14 @@ module _ (t : ℕ) (text : List ℕ) where
     unfolding g
     more = record { ends = u.ends ∙ place (length fs); lines = more_lines; each = more_each }
 
-  pub uniform : (k : ℕ) (fs : List Frame) (c d : Cursor) → AllKind k fs → follow t text fs c ≡ Next d → Uniform t k text fs c d
+  pub uniform : (k : ℕ) (fs : List Frame) (c d : Cursor) → AllKind k fs → follow t text fs c ≡ Ok d → Uniform t k text fs c d
   unfolding follow
   uniform k [] c d a e = none t k text c d (cc)
   uniform k (f ∷ fs) c d a e = go (uniform f.kind fs) (step_of t text f c) refl e
     where
-      go : ((c d : Cursor) → AllKind f.kind fs → follow t text fs c ≡ Next d → Uniform t f.kind text fs c d) → (s : Step) → step_of t text f c ≡ s
-          → onward (follow t text fs) s ≡ Next d → Uniform t k text (f ∷ fs) c d
-      go ih (Next c') q e =
+      go : ((c d : Cursor) → AllKind f.kind fs → follow t text fs c ≡ Ok d → Uniform t f.kind text fs c d) → (s : Step) → step_of t text f c ≡ s
+          → onward (follow t text fs) s ≡ Ok d → Uniform t k text (f ∷ fs) c d
+      go ih (Ok c') q e =
           subst (λ (j : ℕ). Uniform t j text (f ∷ fs) c d) a.0
           (more f fs c c' d (stepped t text f c c' q) (ih c' d (subst (λ (j : ℕ). AllKind j fs) (sym a.0) a.1) e))
-      go ih (Stopped n x) q e = let z : ◌≡◌ {A = ℕ} 0 1 = cc in absurd (omega arith)
+      go ih (Err why) q e = let z : ◌≡◌ {A = ℕ} 0 1 = cc in absurd (omega arith)

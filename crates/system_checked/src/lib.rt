@@ -20,11 +20,11 @@ pub fn text_end(text: &[u8], step: Step) -> Answer
         Step::Next(c) => {
             let at = c.at;
             if at < text.len() {
-                return Answer::Refused(14, c.line);
+                return Err(Rule::WrongEnd.at(c.line));
             }
-            Answer::Accepted
+            Ok(())
         }
-        Step::Stopped(n, x) => Answer::Refused(n, x),
+        Err(why) => Err(why),
     }
 }
 
@@ -44,10 +44,10 @@ pub fn check_system(text: &[u8], limit: usize) -> ReadAnswer
     ensures { result ≡ checked_system limit text.now }
 {
     match check_header(text, limit) {
-        Header::Shape(tiles, side) => match check_system_lines(text, tiles, side) {
-            Answer::Accepted => ReadAnswer::SystemRead(tiles, side),
-            Answer::Refused(n, x) => ReadAnswer::ReadRefused(n, x),
+        Ok(Shape { tiles, side }) => match check_system_lines(text, tiles, side) {
+            Ok(()) => Ok(FileRead::SystemRead(tiles, side)),
+            Err(why) => Err(why),
         },
-        Header::Unread(n, x) => ReadAnswer::ReadRefused(n, x),
+        Err(why) => Err(why),
     }
 }

@@ -5,8 +5,11 @@ use mathlib.Core.Bool.{Bool}
 use mathlib.Core.List.{List}
 use lib.ListN.{length}
 use lib.Ieee.{Float}
-use Rattle.model.specs.declared.Answer.TheVariants.{Accepted, Refused}
-use Rattle.model.specs.declared.ReadAnswer.TheVariants.{SystemRead, ReadRefused}
+use Rattle.std.specs.Prelude.{Ok}
+use Rattle.model.specs.Answer.{accepted, refused_by}
+use Rattle.model.specs.declared.Rule.{Rule}
+use Rattle.model.specs.declared.Rule.TheVariants.{BadLengths}
+use Rattle.model.specs.declared.FileRead.TheVariants.{SystemRead}
 use Rattle.model.specs.Refusal.{refuse}
 use Rattle.model.specs.Text.{bad_matrix}
 use Rattle.model.specs.Read.{system_frames, tile_frames, no_limit, read_system}
@@ -22,31 +25,31 @@ use Rattle.laws.proofs.Refusals.{right_matrix, wrong_matrix}
 -- ---- into a lent matrix
 
 module _ (text : List ℕ) (m : List Float) where
-  pub header_refused : (n x : ℕ) → header_answer no_limit text ≡ Refused n x → record { answer = ReadRefused n x; matrix = m } ≡ read_system text m
+  pub header_refused : (n : Rule) (x : ℕ) → header_answer no_limit text ≡ refused_by n x → record { answer = refused_by n x; matrix = m } ≡ read_system text m
   unfolding read_system reading
   header_refused n x e = refused (λ N t. bad_matrix N t m) no_limit text m n x (file_refused no_limit system_frames (λ N t. bad_matrix N t m) text n x e)
 
   module _ (N t : ℕ) (h : Headed no_limit text N t) where
-    pub length_refused : (length m ≡ N * t * (N * t) → ⊥) → record { answer = ReadRefused 2 0; matrix = m } ≡ read_system text m
+    pub length_refused : (length m ≡ N * t * (N * t) → ⊥) → record { answer = refused_by BadLengths 0; matrix = m } ≡ read_system text m
     unfolding read_system reading refuse
     length_refused n =
         refused (λ N t. bad_matrix N t m) no_limit text m 2 0
-        (file_followed no_limit system_frames (λ N t. bad_matrix N t m) text N t h ∙ ap (λ (b : Bool). refuse 2 0 b (text_end text (follow t text (system_frames N) start))) (wrong_matrix N t m n))
+        (file_followed no_limit system_frames (λ N t. bad_matrix N t m) text N t h ∙ ap (λ (b : Bool). refuse BadLengths 0 b (text_end text (follow t text (system_frames N) start))) (wrong_matrix N t m n))
 
     module _ (l : length m ≡ N * t * (N * t)) where
-      pub lines_refused : (n x : ℕ) → text_end text (follow t text (system_frames N) start) ≡ Refused n x → record { answer = ReadRefused n x; matrix = m } ≡ read_system text m
+      pub lines_refused : (n : Rule) (x : ℕ) → text_end text (follow t text (system_frames N) start) ≡ refused_by n x → record { answer = refused_by n x; matrix = m } ≡ read_system text m
       unfolding read_system reading
       lines_refused n x e = refused (λ N t. bad_matrix N t m) no_limit text m n x (by_frames (λ N t. bad_matrix N t m) no_limit text m N t h (right_matrix N t m l) ∙ e)
 
-      pub system_read : (m' : List Float) → text_end text (follow t text (system_frames N) start) ≡ Accepted → m' ≡ tiles_from (t * t) (N * N) 7 text
-          → record { answer = SystemRead N t; matrix = m' } ≡ read_system text m
+      pub system_read : (m' : List Float) → text_end text (follow t text (system_frames N) start) ≡ accepted → m' ≡ tiles_from (t * t) (N * N) 7 text
+          → record { answer = Ok (SystemRead N t); matrix = m' } ≡ read_system text m
       unfolding read_system reading
       system_read m' e q =
-          ap (λ (f : List Float). record { answer = SystemRead N t; matrix = f }) q ∙ accepted (λ N t. bad_matrix N t m) no_limit text m N t h (right_matrix N t m l) e
+          ap (λ (f : List Float). record { answer = Ok (SystemRead N t); matrix = f }) q ∙ accepted (λ N t. bad_matrix N t m) no_limit text m N t h (right_matrix N t m l) e
 
 -- ---- what loading asks
 
-pub system_lines : {limit : ℕ} (text : List ℕ) (N t : ℕ) → Headed limit text N t → text_end text (follow t text (system_frames N) start) ≡ Accepted → TileLines (t * t) (N * N) 7 text
+pub system_lines : {limit : ℕ} (text : List ℕ) (N t : ℕ) → Headed limit text N t → text_end text (follow t text (system_frames N) start) ≡ accepted → TileLines (t * t) (N * N) 7 text
 unfolding system_frames
 system_lines text N t h e =
     let z = to_end t text (tile_frames N) start e in

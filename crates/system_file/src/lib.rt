@@ -17,13 +17,13 @@ fn read_system_lines(text: &[u8], tiles: usize, side: usize, matrix: &mut [f64])
 {
     let order = tiles * side;
     if matrix.len() != order * order {
-        return ReadAnswer::ReadRefused(2, 0);
+        return Err(Rule::BadLengths.at(0));
     }
     match check_system_lines(text, tiles, side) {
-        Answer::Refused(n, x) => ReadAnswer::ReadRefused(n, x),
-        Answer::Accepted => {
+        Err(why) => Err(why),
+        Ok(()) => {
             load_tiles(text, 7, side * side, tiles * tiles, matrix);
-            ReadAnswer::SystemRead(tiles, side)
+            Ok(FileRead::SystemRead(tiles, side))
         }
     }
 }
@@ -33,7 +33,7 @@ pub fn read_system(text: &[u8], matrix: &mut [f64]) -> ReadAnswer
     ensures { record { answer = result; matrix = matrix.new } ≡ read_system text.now matrix.old }
 {
     match check_header(text, MOST_ORDER) {
-        Header::Shape(tiles, side) => read_system_lines(text, tiles, side, matrix),
-        Header::Unread(n, x) => ReadAnswer::ReadRefused(n, x),
+        Ok(Shape { tiles, side }) => read_system_lines(text, tiles, side, matrix),
+        Err(why) => Err(why),
     }
 }

@@ -9,8 +9,8 @@ use lib.Ieee.{Float}
 use borrow.Author.Tests.{eq-eqb}
 use Rattle.model.specs.declared.TaskRecord.{TaskRecord}
 use Rattle.model.specs.declared.Outcome.{Outcome}
-use Rattle.model.specs.declared.Answer.TheVariants.{Accepted}
-use Rattle.model.specs.declared.ReadAnswer.{ReadAnswer}
+use Rattle.model.specs.Answer.{ReadAnswer, accepted}
+use Rattle.model.specs.declared.Rule.TheVariants.{NoRoom}
 use Rattle.model.specs.Lengths.{LentFits}
 use Rattle.model.specs.Plan.{plan, order, sizes}
 use Rattle.model.specs.Refusal.{refuse}
@@ -23,9 +23,9 @@ use Rattle.result_written.proofs.Answers.{length_result}
 use Rattle.system_printed.specs.Print.{print_result}
 use Rattle.system_printed.proofs.Checked.{Checked, small_sizes}
 
-pub print_as : (text out new : List ℕ) → program text ≡ new → writing (refuse 15 0 (ltb (length out) (length new)) Accepted) new out ≡ print_result text out
+pub print_as : (text out new : List ℕ) → program text ≡ new → writing (refuse NoRoom 0 (ltb (length out) (length new)) accepted) new out ≡ print_result text out
 unfolding print_result
-print_as text out new e = ap (λ (k : List ℕ). writing (refuse 15 0 (ltb (length out) (length k)) Accepted) k out) (sym e)
+print_as text out new e = ap (λ (k : List ℕ). writing (refuse NoRoom 0 (ltb (length out) (length k)) accepted) k out) (sym e)
 
 module _ (text : List ℕ) (N t : ℕ) (c : Checked text N t) where
   -- ---- what was read

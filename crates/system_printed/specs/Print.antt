@@ -1,6 +1,7 @@
 -- Printing what the program prints into a lent text. Assumes nothing.
 use Rattle.std.specs.Prelude.{ℕ, List, ltb, length}
-use Rattle.model.specs.declared.Answer.TheVariants.{Accepted}
+use Rattle.model.specs.Answer.{accepted}
+use Rattle.model.specs.declared.Rule.TheVariants.{NoRoom}
 use Rattle.model.specs.Refusal.{refuse, ◌otherwise◌}
 use Rattle.model.specs.Text.{Writing, writing}
 use Rattle.model.specs.Read.{program}
@@ -9,4 +10,4 @@ use Rattle.model.specs.Read.{program}
 unfoldable pub print_result : List ℕ → List ℕ → Writing
 print_result text out =
     let new = program text in
-    writing (refuse 15 0 (ltb (length out) (length new)) otherwise Accepted) new out
+    writing (refuse NoRoom 0 (ltb (length out) (length new)) otherwise accepted) new out

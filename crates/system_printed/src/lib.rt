@@ -6,7 +6,7 @@ ghost use Rattle.model.specs.Plan.{sizes};
 ghost use Rattle.model.specs.Lengths.{LentFits};
 ghost use Rattle.model.specs.Limits.{program_order, most_tasks};
 ghost use Rattle.model.specs.Read.{program};
-ghost use Rattle.model.specs.declared.ReadAnswer.TheVariants.{SystemRead};
+ghost use Rattle.model.specs.declared.FileRead.TheVariants.{SystemRead};
 ghost use Rattle.system_checked.specs.Files.{checked_system};
 ghost use Rattle.system_printed.specs.Print.{print_result};
 

@@ -7,8 +7,9 @@ use native.Mathlib.Omega.{arith}
 use lib.ListN.{length, length-append}
 use lib.Dec.{ltb}
 use lib.Ieee.{Float}
-use Rattle.model.specs.declared.Answer.TheVariants.{Accepted}
-use Rattle.model.specs.declared.WriteAnswer.TheVariants.{Written, WriteRefused}
+use Rattle.std.specs.Prelude.{Ok}
+use Rattle.model.specs.Answer.{accepted, refused_by}
+use Rattle.model.specs.declared.Rule.TheVariants.{BadSizes, BadLengths, NoRoom}
 use Rattle.model.specs.Lists.{with_part}
 use Rattle.model.specs.Refusal.{refuse}
 use Rattle.model.specs.Plan.{plan}
@@ -51,11 +52,11 @@ module _ (N t : ℕ) (m : List Float) where
 -- ---- what the call answers
 
 module _ (N t : ℕ) (m : List Float) (text : List ℕ) where
-  pub system_shape : bad_shape N t ≡ true → ◌≡◌ {A = Writing} (record { answer = WriteRefused 1 0; left = text }) (write_system N t m text)
+  pub system_shape : bad_shape N t ≡ true → ◌≡◌ {A = Writing} (record { answer = refused_by BadSizes 0; left = text }) (write_system N t m text)
   unfolding write_system refuse writing
   system_shape e = rw e
 
-  pub system_matrix : bad_shape N t ≡ false → (length m ≡ N * t * (N * t) → ⊥) → ◌≡◌ {A = Writing} (record { answer = WriteRefused 2 0; left = text }) (write_system N t m text)
+  pub system_matrix : bad_shape N t ≡ false → (length m ≡ N * t * (N * t) → ⊥) → ◌≡◌ {A = Writing} (record { answer = refused_by BadLengths 0; left = text }) (write_system N t m text)
   unfolding write_system refuse writing
   system_matrix e h = rw (e, wrong_matrix N t m h)
 
@@ -63,13 +64,13 @@ module _ (N t : ℕ) (m : List Float) (text : List ℕ) where
     abbrev new : List ℕ
     new = system_text (plan N t) (record { matrix = m; lists = [] })
 
-    system_told : write_system N t m text ≡ writing (refuse 15 0 (ltb (length text) (length new)) Accepted) new text
+    system_told : write_system N t m text ≡ writing (refuse NoRoom 0 (ltb (length text) (length new)) accepted) new text
     unfolding write_system refuse
     system_told = rw (e, right_matrix N t m h)
 
-    pub system_short : length text < system_length N t → ◌≡◌ {A = Writing} (record { answer = WriteRefused 15 0; left = text }) (write_system N t m text)
+    pub system_short : length text < system_length N t → ◌≡◌ {A = Writing} (record { answer = refused_by NoRoom 0; left = text }) (write_system N t m text)
     system_short k = too_short new text (system_length N t) (length_system N t m [] (enough N t (length m) h)) k ∙ sym system_told
 
     pub system_written : (text' : List ℕ) → system_length N t ≤ length text → text' ≡ with_part 0 (system_length N t) new text
-        → ◌≡◌ {A = Writing} (record { answer = Written (system_length N t); left = text' }) (write_system N t m text)
+        → ◌≡◌ {A = Writing} (record { answer = Ok (system_length N t); left = text' }) (write_system N t m text)
     system_written text' k is = long_enough new text (system_length N t) (length_system N t m [] (enough N t (length m) h)) text' k is ∙ sym system_told

@@ -9,7 +9,7 @@ ghost use Rattle.model.specs.Text.{system_text, write_system};
 ghost use Rattle.rows_written.specs.Rows.{system_length};
 
 use lines_written::put_header;
-use model::WriteAnswer;
+use model::{Rule, WriteAnswer};
 use rows_written::put_tiles;
 use rows_written::sizes::system_length;
 use shapes::bad_shape;
@@ -30,15 +30,15 @@ pub fn write_system(n: usize, t: usize, matrix: &[f64], text: &mut [u8]) -> Writ
     ensures { record { answer = result; left = text.new } ≡ write_system n t matrix.now text.old }
 {
     if bad_shape(n, t) {
-        return WriteAnswer::WriteRefused(1, 0);
+        return Err(Rule::BadSizes.at(0));
     }
     if matrix.len() != n * t * (n * t) {
-        return WriteAnswer::WriteRefused(2, 0);
+        return Err(Rule::BadLengths.at(0));
     }
     let length = system_length(n, t);
     if text.len() < length {
-        return WriteAnswer::WriteRefused(15, 0);
+        return Err(Rule::NoRoom.at(0));
     }
     put_system(text, matrix, n, t);
-    WriteAnswer::Written(length)
+    Ok(length)
 }

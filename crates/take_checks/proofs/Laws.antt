@@ -10,8 +10,8 @@ use lib.ListN.{length, get_or}
 use borrow.Author.Tests.{le-leb, lt-leb, leb-false}
 use Rattle.model.specs.declared.Sizes.{Sizes}
 use Rattle.worker.specs.declared.Worker.{Worker}
-use Rattle.model.specs.declared.Answer.{Answer}
-use Rattle.model.specs.declared.Answer.TheVariants.{Accepted, Refused}
+use Rattle.model.specs.Answer.{Answer, accepted, refused_by}
+use Rattle.model.specs.declared.Rule.TheVariants.{BadSizes, BadLengths, Damaged, WrongWorker, NoTask, NotReady}
 use Rattle.model.specs.Task.{tasks}
 use Rattle.model.specs.Plan.{plan, plan_of}
 use Rattle.model.specs.Links.{ready}
@@ -37,16 +37,16 @@ module _ (z : Sizes) (m : List Float) (l : List ℕ) (r : List (List ℕ)) (ws :
   -- ---- the rows of the table that are left after each
 
   abbrev from_7 : Answer
-  from_7 = refuse 7 p (not (ready (plan_of z).tasks (marks_of old) p)) Accepted
+  from_7 = refuse NotReady p (not (ready (plan_of z).tasks (marks_of old) p)) accepted
 
   abbrev from_6 : Answer
-  from_6 = refuse 6 0 (leb (length (plan_of z).tasks) p) from_7
+  from_6 = refuse NoTask 0 (leb (length (plan_of z).tasks) p) from_7
 
   abbrev from_5 : Answer
-  from_5 = refuse 5 w bad_worker_lem from_6
+  from_5 = refuse WrongWorker w bad_worker_lem from_6
 
   abbrev from_4 : Answer
-  from_4 = refuse 4 0 (damaged (plan_of z) old) from_5
+  from_4 = refuse Damaged 0 (damaged (plan_of z) old) from_5
 
   module _ (a : Answer) (e : a ≡ state_answer z old) (b : Bool) (f : b ≡ accepts a) where
     pub state_stops : b ≡ false → a ≡ take_answer z w p old
@@ -64,39 +64,39 @@ module _ (z : Sizes) (m : List Float) (l : List ℕ) (r : List (List ℕ)) (ws :
       unfolding take_answer refuse
       after_4 = goes_on z old (damaged (plan_of z) old) false (λ h. h) (λ h. h) from_5 (sym e ∙ is_accepted a b f q)
 
-      pub no_worker_lem : z.workers ≤ w → Refused 5 w ≡ take_answer z w p old
+      pub no_worker_lem : z.workers ≤ w → refused_by WrongWorker w ≡ take_answer z w p old
       unfolding no_worker
       no_worker_lem x =
-          sym (refuses 5 w bad_worker_lem from_6 (or_left (no_worker w old) (worker old w).busy (le-leb (length old.workers) w (omega (arith, workers_long m l r ws count number w, counted))))) ∙ after_4
+          sym (refuses WrongWorker w bad_worker_lem from_6 (or_left (no_worker w old) (worker old w).busy (le-leb (length old.workers) w (omega (arith, workers_long m l r ws count number w, counted))))) ∙ after_4
 
       module _ (x : w < z.workers) where
         busy_is : (worker old w).busy ≡ (get_or ws w idle).busy
         busy_is = ap (λ (h : Worker). h.busy) (worker_lent m l r ws count number w (omega (arith, counted)))
 
-        pub busy_worker : (get_or ws w idle).busy ≡ true → Refused 5 w ≡ take_answer z w p old
-        busy_worker y = sym (refuses 5 w bad_worker_lem from_6 (or_right (no_worker w old) (worker old w).busy (busy_is ∙ y))) ∙ after_4
+        pub busy_worker : (get_or ws w idle).busy ≡ true → refused_by WrongWorker w ≡ take_answer z w p old
+        busy_worker y = sym (refuses WrongWorker w bad_worker_lem from_6 (or_right (no_worker w old) (worker old w).busy (busy_is ∙ y))) ∙ after_4
 
         module _ (y : (get_or ws w idle).busy ≡ false) (n : ℕ) (c : n ≡ length (tasks z.tiles)) where
           after_5 : from_6 ≡ take_answer z w p old
           unfolding no_worker
-          after_5 = sym (passes 5 w bad_worker_lem from_6 (rw (lt-leb (length old.workers) w (omega (arith, workers_long m l r ws count number w, counted)), busy_is ∙ y))) ∙ after_4
+          after_5 = sym (passes WrongWorker w bad_worker_lem from_6 (rw (lt-leb (length old.workers) w (omega (arith, workers_long m l r ws count number w, counted)), busy_is ∙ y))) ∙ after_4
 
-          pub no_task : n ≤ p → Refused 6 0 ≡ take_answer z w p old
+          pub no_task : n ≤ p → refused_by NoTask 0 ≡ take_answer z w p old
           unfolding plan
-          no_task i = sym (refuses 6 0 (leb (length (tasks z.tiles)) p) from_7 (le-leb (length (tasks z.tiles)) p (omega (arith, c)))) ∙ after_5
+          no_task i = sym (refuses NoTask 0 (leb (length (tasks z.tiles)) p) from_7 (le-leb (length (tasks z.tiles)) p (omega (arith, c)))) ∙ after_5
 
           module _ (i : p < n) (t : Bool) (u : t ≡ ready (tasks z.tiles) (marks_from r) p) where
             after_6 : from_7 ≡ take_answer z w p old
             unfolding plan
-            after_6 = sym (passes 6 0 (leb (length (tasks z.tiles)) p) from_7 (lt-leb (length (tasks z.tiles)) p (omega (arith, c)))) ∙ after_5
+            after_6 = sym (passes NoTask 0 (leb (length (tasks z.tiles)) p) from_7 (lt-leb (length (tasks z.tiles)) p (omega (arith, c)))) ∙ after_5
 
-            pub not_ready : t ≡ false → Refused 7 p ≡ take_answer z w p old
+            pub not_ready : t ≡ false → refused_by NotReady p ≡ take_answer z w p old
             unfolding plan marks_of lent marks_from
-            not_ready v = sym (refuses 7 p (not (ready (tasks z.tiles) (marks_from r) p)) Accepted (ap not (sym u ∙ v))) ∙ after_6
+            not_ready v = sym (refuses NotReady p (not (ready (tasks z.tiles) (marks_from r) p)) accepted (ap not (sym u ∙ v))) ∙ after_6
 
-            pub is_ready : t ≡ true → Accepted ≡ take_answer z w p old
+            pub is_ready : t ≡ true → accepted ≡ take_answer z w p old
             unfolding plan marks_of lent marks_from
-            is_ready v = sym (passes 7 p (not (ready (tasks z.tiles) (marks_from r) p)) Accepted (ap not (sym u ∙ v))) ∙ after_6
+            is_ready v = sym (passes NotReady p (not (ready (tasks z.tiles) (marks_from r) p)) accepted (ap not (sym u ∙ v))) ∙ after_6
 
   -- ---- an accepted take
 
@@ -106,15 +106,15 @@ module _ (z : Sizes) (m : List Float) (l : List ℕ) (r : List (List ℕ)) (ws :
     pub worker_exists : w < z.workers
     pub task_exists : p < length (tasks z.tiles)
 
-  pub accepting : take_answer z w p old ≡ Accepted → Accepting
+  pub accepting : take_answer z w p old ≡ accepted → Accepting
   unfolding take_answer state_answer plan no_worker
   accepting e =
-      let a = passed 1 0 (bad_sizes z) _ e in
-      let b = passed 2 0 (bad_lengths (plan_of z) z.workers old) from_4 a.1 in
-      let c = passed 4 0 (damaged (plan_of z) old) from_5 b.1 in
-      let d = passed 5 w bad_worker_lem from_6 c.1 in
-      let f = passed 6 0 (leb (length (tasks z.tiles)) p) from_7 d.1 in
-      let (n, s) = sound z m l r ws count number (passes 1 0 (bad_sizes z) _ a.0 ∙ passes 2 0 (bad_lengths (plan_of z) z.workers old) _ b.0 ∙ passes 4 0 (damaged (plan_of z) old) Accepted c.0) in
+      let a = passed BadSizes 0 (bad_sizes z) _ e in
+      let b = passed BadLengths 0 (bad_lengths (plan_of z) z.workers old) from_4 a.1 in
+      let c = passed Damaged 0 (damaged (plan_of z) old) from_5 b.1 in
+      let d = passed WrongWorker w bad_worker_lem from_6 c.1 in
+      let f = passed NoTask 0 (leb (length (tasks z.tiles)) p) from_7 d.1 in
+      let (n, s) = sound z m l r ws count number (passes BadSizes 0 (bad_sizes z) _ a.0 ∙ passes BadLengths 0 (bad_lengths (plan_of z) z.workers old) _ b.0 ∙ passes Damaged 0 (damaged (plan_of z) old) accepted c.0) in
       let g = workers_long m l r ws count number w in
       record {
         counted = n;

@@ -5,8 +5,7 @@ ghost use Rattle.std.specs.Prelude.{◌≡◌};
 ghost use Rattle.model.specs.Refusal.{take_answer};
 ghost use Rattle.records.specs.Records.{all_lent};
 
-use answers::accepted;
-use model::{Answer, Sizes};
+use model::{Answer, Rule, Sizes};
 use readiness::is_ready;
 use records::Record;
 use states::state_answer;
@@ -25,23 +24,20 @@ pub fn take_answer(
 ) -> Answer
     ensures { result ≡ take_answer z w p (all_lent matrix.now lists.now records.now workers) }
 {
-    let state = state_answer(z, matrix, lists, records, workers);
-    if !accepted(state) {
-        return state;
-    }
+    state_answer(z, matrix, lists, records, workers)?;
     if z.workers <= w {
-        return Answer::Refused(5, w);
+        return Err(Rule::WrongWorker.at(w));
     }
     let slots = workers.slots;
     let h = slots[w];
     if h.busy {
-        return Answer::Refused(5, w);
+        return Err(Rule::WrongWorker.at(w));
     }
     if task_count(z.tiles) <= p {
-        return Answer::Refused(6, 0);
+        return Err(Rule::NoTask.at(0));
     }
     if !is_ready(z.tiles, records, p) {
-        return Answer::Refused(7, p);
+        return Err(Rule::NotReady.at(p));
     }
-    Answer::Accepted
+    Ok(())
 }

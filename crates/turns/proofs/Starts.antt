@@ -6,7 +6,8 @@ use native.Mathlib.Omega.{arith}
 use lib.Ieee.{Float}
 use Rattle.model.specs.declared.Sizes.{Sizes}
 use Rattle.worker.specs.declared.Workers.{Workers}
-use Rattle.model.specs.declared.Answer.TheVariants.{Accepted}
+use Rattle.model.specs.Answer.{accepted}
+use Rattle.model.specs.declared.Rule.TheVariants.{BadSizes}
 use Rattle.model.specs.Plan.{plan_of}
 use Rattle.model.specs.Calls.{Lent, RunEnd, run_from, whole_run}
 use Rattle.model.specs.Refusal.{bad_sizes, run_answer}
@@ -15,11 +16,11 @@ use Rattle.records.specs.Records.{all_lent}
 use Rattle.checks.proofs.Laws.{sized}
 use Rattle.turns_from.specs.Underway.{Underway}
 
-pub starts : (z : Sizes) (budget : ℕ) (m : List Float) (l : List ℕ) (r : List (List ℕ)) (ws : Workers) → run_answer z (all_lent m l r ws) ≡ Accepted
+pub starts : (z : Sizes) (budget : ℕ) (m : List Float) (l : List ℕ) (r : List (List ℕ)) (ws : Workers) → run_answer z (all_lent m l r ws) ≡ accepted
     → Underway z budget m l r ws 0 0 0
 unfolding run_answer
 starts z budget m l r ws e =
-    let s = sized z (passed 1 0 (bad_sizes z) _ e).0 in
+    let s = sized z (passed BadSizes 0 (bad_sizes z) _ e).0 in
     record {
       accepted = e;
       none = λ q k. absurd (omega arith);

@@ -2,7 +2,7 @@
 #![tactic(auto)]
 
 ghost use Rattle.std.specs.Prelude.{◌≡◌};
-ghost use Rattle.model.specs.declared.Answer.TheVariants.{Accepted};
+ghost use Rattle.model.specs.Answer.{accepted};
 ghost use Rattle.model.specs.Plan.{plan_of};
 ghost use Rattle.model.specs.Calls.{whole_run};
 ghost use Rattle.model.specs.Refusal.{run_answer};
@@ -22,7 +22,7 @@ pub fn take_turns(
     workers: Workers,
     budget: u64,
 ) -> RunReply
-    requires { run_answer z (all_lent matrix.old lists.old records.old workers) ≡ Accepted }
+    requires { run_answer z (all_lent matrix.old lists.old records.old workers) ≡ accepted }
     ensures workers_after { record {
       answer = result.answer;
       left = all_lent matrix.new lists.new records.new result.workers;

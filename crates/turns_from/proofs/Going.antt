@@ -13,9 +13,10 @@ use Rattle.model.specs.declared.Sizes.{Sizes}
 use Rattle.model.specs.declared.TaskRecord.{TaskRecord}
 use Rattle.worker.specs.declared.Worker.{Worker}
 use Rattle.worker.specs.declared.Workers.{Workers}
-use Rattle.model.specs.declared.Answer.TheVariants.{Accepted}
-use Rattle.model.specs.declared.RunAnswer.{RunAnswer}
-use Rattle.model.specs.declared.RunAnswer.TheVariants.{Finished, Spent}
+use Rattle.std.specs.Prelude.{Ok}
+use Rattle.model.specs.Answer.{RunAnswer, accepted}
+use Rattle.model.specs.declared.Rule.TheVariants.{BadSizes, BadLengths, Damaged}
+use Rattle.model.specs.declared.RunStop.TheVariants.{Finished, Spent}
 use Rattle.model.specs.Lists.{every}
 use Rattle.model.specs.Task.{t_1, tasks}
 use Rattle.model.specs.Plan.{plan, plan_of}
@@ -122,9 +123,9 @@ module _ {z : Sizes} {budget : ℕ} {all : RunEnd} {ws₀ : List Worker} {m : Li
   fine : damaged (plan_of z) s ≡ false
   unfolding run_answer
   fine =
-      let a = passed 1 0 _ _ (run_accepted z s g.whole) in
-      let b = passed 2 0 _ _ a.1 in
-      (or_false _ _ (passed 4 0 _ _ b.1).0).0
+      let a = passed BadSizes 0 _ _ (run_accepted z s g.whole) in
+      let b = passed BadLengths 0 _ _ a.1 in
+      (or_false _ _ (passed Damaged 0 _ _ b.1).0).0
 
   -- the run's number is far from a u32's largest
   pub few_calls : number ≤ 25432
@@ -212,7 +213,7 @@ module _ {z : Sizes} {budget : ℕ} {all : RunEnd} {ws₀ : List Worker} {m : Li
 
       -- ---- or the run is over
 
-      pub run_over : ((x : ℕ) → x < W → (get_or ws x idle).busy ≡ false) → ◌≡◌ {A = RunEnd} (record { answer = Finished n; left = s }) all
+      pub run_over : ((x : ℕ) → x < W → (get_or ws x idle).busy ≡ false) → ◌≡◌ {A = RunEnd} (record { answer = Ok (Finished n); left = s }) all
       run_over quiet = sym (finishes z s (budget - n) n w (over z s g.whole no_task (λ x h. as_lent x false h (quiet x h)))) ∙ g.left_to_do
 
   -- ---- a busy worker does a column
@@ -308,7 +309,7 @@ module _ {z : Sizes} {budget : ℕ} {all : RunEnd} {ws₀ : List Worker} {m : Li
 
   -- ---- the budget is spent
 
-  pub run_ends : budget ≤ n → (a : RunAnswer) → a ≡ cond (every finished (marks_from r)) (Finished n) (Spent n)
+  pub run_ends : budget ≤ n → (a : RunAnswer) → a ≡ cond (every finished (marks_from r)) (Ok (Finished n)) (Ok (Spent n))
       → ◌≡◌ {A = RunEnd} (record { answer = a; left = s }) all
   unfolding all_finished
   run_ends h a e =
@@ -320,13 +321,13 @@ module _ {z : Sizes} {budget : ℕ} {all : RunEnd} {ws₀ : List Worker} {m : Li
 -- ---- the first turn
 
 -- a run that is accepted has as many workers as the sizes say
-pub counted : (z : Sizes) (m : List Float) (l : List ℕ) (r : List (List ℕ)) (ws : Workers) → run_answer z (all_lent m l r ws) ≡ Accepted → ws.count ≡ z.workers
+pub counted : (z : Sizes) (m : List Float) (l : List ℕ) (r : List (List ℕ)) (ws : Workers) → run_answer z (all_lent m l r ws) ≡ accepted → ws.count ≡ z.workers
 unfolding run_answer
 counted z m l r ws e =
-    let a = passed 1 0 (bad_sizes z) _ e in
-    count_fits z m l r ws.slots ws.count ws.number (passed 2 0 (bad_lengths (plan_of z) z.workers (all_lent m l r ws)) _ a.1).0
+    let a = passed BadSizes 0 (bad_sizes z) _ e in
+    count_fits z m l r ws.slots ws.count ws.number (passed BadLengths 0 (bad_lengths (plan_of z) z.workers (all_lent m l r ws)) _ a.1).0
 
-whole_then : (z : Sizes) (m : List Float) (l : List ℕ) (r : List (List ℕ)) (ws : Workers) → run_answer z (all_lent m l r ws) ≡ Accepted → Whole z (lent m l r ws.slots z.workers ws.number)
+whole_then : (z : Sizes) (m : List Float) (l : List ℕ) (r : List (List ℕ)) (ws : Workers) → run_answer z (all_lent m l r ws) ≡ accepted → Whole z (lent m l r ws.slots z.workers ws.number)
 whole_then z m l r ws e = subst (λ (k : ℕ). Whole z (lent m l r ws.slots k ws.number)) (counted z m l r ws e) (run_whole z (all_lent m l r ws) e)
 
 pub starts : (z : Sizes) (budget : ℕ) (m : List Float) (l : List ℕ) (r : List (List ℕ)) (ws : Workers) (n w from : ℕ) → length ws.slots ≡ 32
@@ -344,7 +345,7 @@ starts z budget m l r ws n w from h d = record {
 
 -- ---- lengths stay, and the loop ends: with each call the budget left gets smaller, and a turn that passes goes from an idle worker to a busy one
 
-module _ {z : Sizes} {budget : ℕ} {all : RunEnd} (m₀ : List Float) (l₀ : List ℕ) (r₀ : List (List ℕ)) (ws₀ : Workers) (a : run_answer z (all_lent m₀ l₀ r₀ ws₀) ≡ Accepted)
+module _ {z : Sizes} {budget : ℕ} {all : RunEnd} (m₀ : List Float) (l₀ : List ℕ) (r₀ : List (List ℕ)) (ws₀ : Workers) (a : run_answer z (all_lent m₀ l₀ r₀ ws₀) ≡ accepted)
     {m : List Float} {l : List ℕ} {r : List (List ℕ)} {ws : List Worker} {number n w from : ℕ}
     (g : Going z budget all ws₀.slots m l r ws number n w from) where
   pub matrix_kept : length m ≡ length m₀

@@ -8,7 +8,7 @@ ghost use Rattle.records.specs.Records.{all_lent, OthersKept};
 ghost use Rattle.turns_from.specs.Underway.{Underway};
 
 use advancing::advance;
-use model::{RunAnswer, RunReply, Sizes};
+use model::{RunReply, RunStop, Sizes};
 use next_task::{lowest_ready, search_start, take_task};
 use next_worker::worker_after;
 use records::Record;
@@ -83,7 +83,7 @@ pub fn turns_from(
             u += 1;
         }
         return RunReply {
-            answer: RunAnswer::Finished(n),
+            answer: Ok(RunStop::Finished(n)),
             workers: Workers {
                 slots: left,
                 count: workers.count,

@@ -15,23 +15,29 @@ use Rattle.model.specs.Links.{mark, finished}
 use Rattle.model.specs.Plan.{plan, plan_of}
 use Rattle.model.specs.Calls.{marks_of}
 use Rattle.model.specs.Refusal.{unfinished}
+use Rattle.laws.proofs.Tests.{never}
 use Rattle.records.specs.Records.{marks_from, lent}
 use Rattle.records.proofs.Laws.{length_marks}
-use Rattle.finite_numbers.specs.declared.Lowest.{Lowest}
-use Rattle.finite_numbers.specs.declared.Lowest.TheVariants.{None, At}
+use Rattle.std.specs.Prelude.{Some, None, Option, is_some}
 use Rattle.laws.proofs.Searches.{every_places, every_is_none}
 
 -- whether something was found
-abbrev pub is_found : Lowest → Bool
+abbrev pub is_found : Option ℕ → Bool
 is_found None = false
-is_found (At x) = true
+is_found (Some x) = true
 
-found_some : (f : ℕ → Bool) (xs : List ℕ) → is_found (first_or (keep f xs) At None) ≡ some f xs
+pub found_none : (x : Option ℕ) (b : Bool) → is_some x ≡ not b → b ≡ not (is_found x)
+found_none None true e = refl
+found_none None false e = never e refl
+found_none (Some x) true e = never refl e
+found_none (Some x) false e = refl
+
+found_some : (f : ℕ → Bool) (xs : List ℕ) → is_found (first_or (keep f xs) Some None) ≡ some f xs
 unfolding first_or keep some
 found_some f [] = refl
 found_some f (x ∷ xs) = go (f x) (found_some f xs)
   where
-    go : (b : Bool) → is_found (first_or (keep f xs) At None) ≡ some f xs → is_found (first_or (cond b (x ∷ keep f xs) (keep f xs)) At None) ≡ (b || some f xs)
+    go : (b : Bool) → is_found (first_or (keep f xs) Some None) ≡ some f xs → is_found (first_or (cond b (x ∷ keep f xs) (keep f xs)) Some None) ≡ (b || some f xs)
     go true e = refl
     go false e = e
 
@@ -43,10 +49,10 @@ module _ (r : List (List ℕ)) where
       ∙ every_places finished (length (marks_from r)) (marks_from r) 0 (omega arith)
       ∙ ap (λ (n : ℕ). every (λ p. finished (mark (marks_from r) p)) (below n)) (length_marks r)
 
-  pub none_found : (x : Lowest) → x ≡ first_or (keep (λ p. not (finished (mark (marks_from r) p))) (below (length r))) At None
+  pub none_found : (x : Option ℕ) → x ≡ first_or (keep (λ p. not (finished (mark (marks_from r) p))) (below (length r))) Some None
       → not (is_found x) ≡ every finished (marks_from r)
   none_found x e =
-      ap (λ (y : Lowest). not (is_found y)) e ∙ ap not (found_some (λ p. not (finished (mark (marks_from r) p))) (below (length r)))
+      ap (λ (y : Option ℕ). not (is_found y)) e ∙ ap not (found_some (λ p. not (finished (mark (marks_from r) p))) (below (length r)))
       ∙ sym (by_mark ∙ every_is_none (λ p. finished (mark (marks_from r) p)) (below (length r)))
 
 -- the search over the lent records is the definition's

@@ -1,14 +1,15 @@
--- Each variant tells. Assumes nothing.
-use mathlib.Core.Path.{sym, ap}
+-- std's test is the definition's, for either variant. Assumes nothing.
+use mathlib.Core.Path.{◌≡◌, refl, ◌∙◌}
+use Rattle.std.specs.Prelude.{Ok, Err, is_ok}
+use Rattle.model.specs.Answer.{Answer}
 use Rattle.answers.specs.Answers.{accepts}
 use Rattle.answers.proofs.accepted.Goals as goal
 
-pub returns-in-Accepted : goal.returns-in-Accepted
+same : (a : Answer) → is_ok a ≡ accepts a
 unfolding accepts
-returns-in-Accepted c =
-    sym (ap accepts c.in-Accepted.is)
+same (Ok _) = refl
+same (Err why) = refl
 
-pub returns-in-Refused : goal.returns-in-Refused
-unfolding accepts
-returns-in-Refused c =
-    sym (ap accepts c.in-Refused.is)
+pub returns : goal.returns
+returns c =
+    c.is_ok.ensures.value ∙ same c.args.answer

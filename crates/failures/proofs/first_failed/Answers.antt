@@ -9,7 +9,7 @@ use Rattle.model.specs.Links.{mark, failed}
 use Rattle.model.specs.Loops.{failed_tasks}
 use Rattle.records.specs.Records.{marks_from}
 use Rattle.records.proofs.Laws.{length_marks}
-use Rattle.finite_numbers.specs.declared.Lowest.TheVariants.{None, At}
+use Rattle.std.specs.Prelude.{Some, None}
 use Rattle.unfinished.proofs.First.{first_begins, first_stops, first_goes_on, first_ends}
 use Rattle.failures.proofs.first_failed.Goals as goal
 
@@ -22,15 +22,7 @@ unfolding failed_tasks
 returns-then-mark_of-eq3 c =
     first_stops _ _ _ _ c.loop-p.invariant c.loop-p-test.true
     (ap (λ (x : ℕ). eqb x failed) (sym c.mark_of.ensures) ∙ eq-eqb _ 3 c.if-mark_of-eq3.true)
-    ∙ ap (λ (k : ℕ). first_or (keep (λ q. eqb (mark (marks_from c.args.records.now) q) failed) (below k)) At None) (sym (length_marks c.args.records.now))
-
-pub overflow_add-p : goal.overflow_add-p
-overflow_add-p c =
-    omega arith
-
-pub loop-p-smaller : goal.loop-p-smaller
-loop-p-smaller c =
-    omega arith
+    ∙ ap (λ (k : ℕ). first_or (keep (λ q. eqb (mark (marks_from c.args.records.now) q) failed) (below k)) Some None) (sym (length_marks c.args.records.now))
 
 pub loop-p-preserved : goal.loop-p-preserved
 loop-p-preserved c =
@@ -41,4 +33,4 @@ pub returns : goal.returns
 unfolding failed_tasks
 returns c =
     first_ends _ _ _ _ c.loop-p.invariant (omega arith)
-    ∙ ap (λ (k : ℕ). first_or (keep (λ q. eqb (mark (marks_from c.args.records.now) q) failed) (below k)) At None) (sym (length_marks c.args.records.now))
+    ∙ ap (λ (k : ℕ). first_or (keep (λ q. eqb (mark (marks_from c.args.records.now) q) failed) (below k)) Some None) (sym (length_marks c.args.records.now))

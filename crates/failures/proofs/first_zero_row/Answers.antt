@@ -24,14 +24,6 @@ returns-then-diagonal c =
     first_stops _ _ _ _ c.loop-x.invariant c.loop-x-test.true
     (ap is_zero (sym c.diagonal.ensures) ∙ c.if-diagonal.true)
 
-pub overflow_add-x : goal.overflow_add-x
-overflow_add-x c =
-    omega (arith, small _ _ c.requires.0.few_tiles c.requires.0.small_side)
-
-pub loop-x-smaller : goal.loop-x-smaller
-loop-x-smaller c =
-    omega arith
-
 pub loop-x-preserved : goal.loop-x-preserved
 unfolding of_bits is_zero
 loop-x-preserved c =

@@ -8,20 +8,20 @@ use Rattle.failures.proofs.outcome_of.Goals as goal
 
 pub overflow_cast-result : goal.overflow_cast-result
 overflow_cast-result c =
-    omega (arith, failed_below _ _ _ c.first_failed-task.ensures c.in-At.is, length_marks c.args.records.now, few_tasks _ c.requires.0.few_tiles)
+    omega (arith, failed_below _ _ _ c.first_failed-task.ensures c.in-Some.is, length_marks c.args.records.now, few_tasks _ c.requires.0.few_tiles)
 
-pub returns-in-At : goal.returns-in-At
-returns-in-At c =
-    λ lists. outcome_failed c.args.z _ lists _ _ _ _ c.first_failed-task.ensures c.in-At.is
+pub returns-in-Some : goal.returns-in-Some
+returns-in-Some c =
+    λ lists. outcome_failed c.args.z _ lists _ _ _ _ c.first_failed-task.ensures c.in-Some.is
 
-pub overflow_cast-result-in-At-row : goal.overflow_cast-result-in-At-row
-overflow_cast-result-in-At-row c =
-    omega (arith, zero_below c.args.z _ _ _ c.first_zero_row-row.ensures c.in-At-row.is, small _ _ c.requires.0.few_tiles c.requires.0.small_side)
+pub overflow_cast-result-in-Some-row : goal.overflow_cast-result-in-Some-row
+overflow_cast-result-in-Some-row c =
+    omega (arith, zero_below c.args.z _ _ _ c.first_zero_row-row.ensures c.in-Some-row.is, small _ _ c.requires.0.few_tiles c.requires.0.small_side)
 
-pub returns-in-At-row : goal.returns-in-At-row
-returns-in-At-row c =
+pub returns-in-Some-row : goal.returns-in-Some-row
+returns-in-Some-row c =
     λ lists. outcome_zero c.args.z _ lists _ _ _ c.first_failed-task.ensures c.in_default.is
-    _ _ c.first_zero_row-row.ensures c.in-At-row.is
+    _ _ c.first_zero_row-row.ensures c.in-Some-row.is
 
 pub returns-in-None : goal.returns-in-None
 returns-in-None c =

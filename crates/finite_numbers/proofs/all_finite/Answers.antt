@@ -10,18 +10,18 @@ use Rattle.model.specs.Tile.{all_finite}
 use Rattle.laws.proofs.Every.{every_more}
 use Rattle.finite_numbers.proofs.all_finite.Goals as goal
 
-pub loop-k-init : goal.loop-k-init
+pub loop-number-init : goal.loop-number-init
 unfolding every
-loop-k-init c =
-    (omega arith, refl)
+loop-number-init c =
+    refl
 
-pub loop-k-preserved : goal.loop-k-preserved
-loop-k-preserved c =
-    let k = c.loop-k.k in
+pub loop-number-preserved : goal.loop-number-preserved
+loop-number-preserved c =
+    let k = c.loop-number.number-index in
     let numbers = c.args.numbers.now in
-    (omega arith, rw add-one (cc (every_more finite numbers k nan (omega arith))))
+    rw add-one (cc (every_more finite numbers k nan (omega arith)))
 
 pub returns : goal.returns
 unfolding all_finite
 returns c =
-    c.loop-k.invariant.1 ∙ ap (every finite) (take_all c.loop-k.k c.args.numbers.now (omega arith))
+    c.loop-number.invariant ∙ ap (every finite) (take_all c.loop-number.number-index c.args.numbers.now (omega arith))

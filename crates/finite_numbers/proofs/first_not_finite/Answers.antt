@@ -11,16 +11,16 @@ returns-then-all_finite c =
 
 pub loop-x-init : goal.loop-x-init
 loop-x-init c =
-    (omega arith, lowest_begins _)
+    lowest_begins _
 
 pub returns-then-not-is_finite : goal.returns-then-not-is_finite
 returns-then-not-is_finite c =
-    lowest_stops _ _ _ _ c.loop-x-test.true c.loop-x.invariant.1 (ap not (sym c.is_finite.ensures ∙ c.if-not-is_finite.true))
+    lowest_stops _ _ _ _ c.loop-x-test.true c.loop-x.invariant (ap not (sym c.is_finite.ensures ∙ c.if-not-is_finite.true))
 
 pub loop-x-preserved : goal.loop-x-preserved
 loop-x-preserved c =
-    (omega arith, lowest_goes_on _ _ _ _ c.loop-x-test.true c.loop-x.invariant.1 (ap not (sym c.is_finite.ensures ∙ c.if-not-is_finite.false)))
+    lowest_goes_on _ _ _ _ c.loop-x-test.true c.loop-x.invariant (ap not (sym c.is_finite.ensures ∙ c.if-not-is_finite.false))
 
 pub returns : goal.returns
 returns c =
-    lowest_ends _ _ _ _ (omega arith) c.loop-x.invariant.1
+    lowest_ends _ _ _ _ (omega arith) c.loop-x.invariant

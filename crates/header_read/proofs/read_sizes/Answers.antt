@@ -2,11 +2,12 @@
 use mathlib.Core.Path.{sym, ◌∙◌}
 use Rattle.header_read.proofs.Heads.{sizes_alone, foretold}
 use Rattle.header_read.proofs.read_sizes.Goals as goal
+use Rattle.std.specs.Prelude.{Ok, Err}
 
-pub returns-in-Shape : goal.returns-in-Shape
-returns-in-Shape c =
-    let e = sym c.in-Shape.is ∙ c.check_header.ensures in record { value = sizes_alone _ _ e; foretells = foretold _ _ e }
+pub returns-in-Ok : goal.returns-in-Ok
+returns-in-Ok c =
+    let e = sym c.in-Ok.is ∙ c.check_header.ensures in record { value = sizes_alone _ _ e; foretells = foretold _ _ e }
 
-pub returns-in-Unread : goal.returns-in-Unread
-returns-in-Unread c =
-    let e = sym c.in-Unread.is ∙ c.check_header.ensures in record { value = sizes_alone _ _ e; foretells = foretold _ _ e }
+pub returns-in-Err : goal.returns-in-Err
+returns-in-Err c =
+    let e = sym c.in-Err.is ∙ c.check_header.ensures in record { value = sizes_alone _ _ e; foretells = foretold _ _ e }

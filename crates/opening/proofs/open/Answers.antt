@@ -1,7 +1,7 @@
 -- A refusal leaves everything; else each part is as the definition has it. Assumes nothing.
 use mathlib.Core.Path.{refl}
 use native.Mathlib.Omega.{arith}
-use Rattle.opening.proofs.Laws.{checked_then, refused, accepted}
+use Rattle.opening.proofs.Laws.{checked_then, refused, accepted_lem}
 use Rattle.opening.proofs.open.Goals as goal
 
 pub returns-then-not-accepted : goal.returns-then-not-accepted
@@ -23,7 +23,7 @@ idle_workers-left-requires c =
 pub returns : goal.returns
 returns c =
     record {
-      workers_after = accepted _ _ _ _ c.args.workers.slots c.args.workers.count c.args.workers.number _ (c.open_answer-answer.ensures c.args.workers.slots c.args.workers.number)
+      workers_after = accepted_lem _ _ _ _ c.args.workers.slots c.args.workers.count c.args.workers.number _ (c.open_answer-answer.ensures c.args.workers.slots c.args.workers.number)
           _ c.accepted.ensures c.if-not-accepted.false
           _ _ _ _ _ _ refl c.fill_entries.ensures c.number_records.ensures c.idle_workers-left.ensures.count_value.0 c.idle_workers-left.ensures.count_value.1;
       others_kept = c.idle_workers-left.ensures.others_kept;

@@ -1,12 +1,13 @@
 -- The first refusal that holds, else what was found. Assumes nothing.
-use mathlib.Core.Path.{sym, ◌∙◌}
+use Rattle.std.specs.Prelude.{Err}
+use mathlib.Core.Path.{sym, ◌∙◌, ap}
 use Rattle.checks.proofs.Laws.{sized}
 use Rattle.outcomes.proofs.Laws.{answer_1, answer_2, answer_3, answer_4, fits}
 use Rattle.outcomes.proofs.outcome.Goals as goal
 
 pub returns-then-bad_sizes : goal.returns-then-bad_sizes
 returns-then-bad_sizes c =
-    answer_1 _ _ _ _ _ _ _ _ c.bad_sizes.ensures c.if-bad_sizes.true
+    ap Err c.at.ensures ∙ answer_1 _ _ _ _ _ _ _ _ c.bad_sizes.ensures c.if-bad_sizes.true
 
 pub bad_lengths-requires : goal.bad_lengths-requires
 bad_lengths-requires c =
@@ -14,7 +15,7 @@ bad_lengths-requires c =
 
 pub returns-then-bad_lengths : goal.returns-then-bad_lengths
 returns-then-bad_lengths c =
-    answer_2 _ _ _ _ _ _ _ _ c.bad_sizes.ensures c.if-bad_sizes.false _ (c.bad_lengths.ensures c.args.workers.slots c.args.workers.number) c.if-bad_lengths.true
+    ap Err c.at-then-bad_lengths.ensures ∙ answer_2 _ _ _ _ _ _ _ _ c.bad_sizes.ensures c.if-bad_sizes.false _ (c.bad_lengths.ensures c.args.workers.slots c.args.workers.number) c.if-bad_lengths.true
 
 pub outcome_of-requires : goal.outcome_of-requires
 outcome_of-requires c =
@@ -22,11 +23,11 @@ outcome_of-requires c =
     _ (c.bad_lengths.ensures c.args.workers.slots c.args.workers.number) c.if-bad_lengths.false in
     (sized _ (sym c.bad_sizes.ensures ∙ c.if-bad_sizes.false), f.buffers.matrix_fits, f.records_fit)
 
-pub returns-in-At : goal.returns-in-At
-returns-in-At c =
+pub returns-in-Some : goal.returns-in-Some
+returns-in-Some c =
     answer_3 _ _ _ _ _ _ _ _ c.bad_sizes.ensures c.if-bad_sizes.false
     _ (c.bad_lengths.ensures c.args.workers.slots c.args.workers.number) c.if-bad_lengths.false
-    _ c.first_unfinished-task.ensures _ c.in-At.is
+    _ c.first_unfinished-task.ensures _ c.in-Some.is
 
 pub returns-in-None : goal.returns-in-None
 returns-in-None c =

@@ -5,7 +5,7 @@ use Rattle.refusal_written.proofs.write_refusal.Goals as goal
 
 pub returns-then-text-lt9 : goal.returns-then-text-lt9
 returns-then-text-lt9 c =
-    refusal_short _ _ _ c.if-text-lt9.true
+    rw c.at.ensures (refusal_short _ _ _ c.if-text-lt9.true)
 
 pub put_refusal-requires : goal.put_refusal-requires
 put_refusal-requires c =

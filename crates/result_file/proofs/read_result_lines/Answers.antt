@@ -6,6 +6,7 @@ use Rattle.frames_read.specs.Follow.{text_end}
 use Rattle.system_checked.proofs.Headers.{facts}
 use Rattle.result_file.proofs.Results.{matrix_refused, lists_refused, lines_refused, result_read, result_lines_lem}
 use Rattle.result_file.proofs.read_result_lines.Goals as goal
+use Rattle.std.specs.Prelude.{Ok, Err}
 
 pub overflow_mul-order : goal.overflow_mul-order
 overflow_mul-order c =
@@ -34,15 +35,15 @@ check_result_lines-requires c =
 pub load_result-requires : goal.load_result-requires
 load_result-requires c =
     record {
-      result_lines = result_lines_lem _ _ _ c.requires (sym (c.text_end.ensures ∙ ap (text_end _) c.check_result_lines.ensures) ∙ c.in-Accepted.is);
+      result_lines = result_lines_lem _ _ _ c.requires (sym (c.text_end.ensures ∙ ap (text_end _) c.check_result_lines.ensures) ∙ c.in-Ok.is);
       matrix_len = (omega (arith, c.if-matrix-order.false), c.if-lists-tiles.false);
     }
 
-pub returns-in-Refused : goal.returns-in-Refused
-returns-in-Refused c =
-    lines_refused _ _ _ _ _ c.requires c.if-matrix-order.false c.if-lists-tiles.false _ _ (sym (c.text_end.ensures ∙ ap (text_end _) c.check_result_lines.ensures) ∙ c.in-Refused.is)
+pub returns-in-Err : goal.returns-in-Err
+returns-in-Err c =
+    lines_refused _ _ _ _ _ c.requires c.if-matrix-order.false c.if-lists-tiles.false _ _ (sym (c.text_end.ensures ∙ ap (text_end _) c.check_result_lines.ensures) ∙ c.in-Err.is)
 
-pub returns-in-Accepted : goal.returns-in-Accepted
-returns-in-Accepted c =
+pub returns-in-Ok : goal.returns-in-Ok
+returns-in-Ok c =
     c.load_result.ensures
-    ∙ result_read _ _ _ _ _ c.requires c.if-matrix-order.false c.if-lists-tiles.false (sym (c.text_end.ensures ∙ ap (text_end _) c.check_result_lines.ensures) ∙ c.in-Accepted.is)
+    ∙ result_read _ _ _ _ _ c.requires c.if-matrix-order.false c.if-lists-tiles.false (sym (c.text_end.ensures ∙ ap (text_end _) c.check_result_lines.ensures) ∙ c.in-Ok.is)

@@ -6,7 +6,8 @@ use native.Mathlib.Nat.{mul-le-mul}
 use native.Mathlib.Omega.{arith}
 use lib.ListN.{length, drop, length-drop}
 use lib.Seq.{length-take-le}
-use Rattle.model.specs.declared.ReadAnswer.TheVariants.{ResultRead}
+use Rattle.std.specs.Prelude.{Ok}
+use Rattle.model.specs.declared.FileRead.TheVariants.{ResultRead}
 use Rattle.result_loaded.specs.Results.{outcome_text, loaded_result}
 use Rattle.result_loaded.proofs.load_result.Goals as goal
 
@@ -59,7 +60,7 @@ pub returns : goal.returns
 unfolding loaded_result
 returns c =
     λ i. record {
-      answer = ResultRead c.args.tiles c.args.side (c.outcome_at-outcome.ensures i);
+      answer = Ok (ResultRead c.args.tiles c.args.side (c.outcome_at-outcome.ensures i));
       matrix = c.load_tiles.ensures i;
       lists = c.load_lists.ensures i;
     }

@@ -7,7 +7,7 @@ use Rattle.result_written.proofs.write_result.Goals as goal
 
 pub returns-then-bad_shape : goal.returns-then-bad_shape
 returns-then-bad_shape c =
-    result_shape _ _ _ _ _ _ (sym c.bad_shape.ensures ∙ c.if-bad_shape.true)
+    rw c.at.ensures (result_shape _ _ _ _ _ _ (sym c.bad_shape.ensures ∙ c.if-bad_shape.true))
 
 pub overflow_mul-n : goal.overflow_mul-n
 overflow_mul-n c =
@@ -23,7 +23,7 @@ overflow_mul-n-3 c =
 
 pub returns-then-matrix-n : goal.returns-then-matrix-n
 returns-then-matrix-n c =
-    result_matrix _ _ _ _ _ _ (sym c.bad_shape.ensures ∙ c.if-bad_shape.false) c.if-matrix-n.true
+    rw c.at-then-matrix-n.ensures (result_matrix _ _ _ _ _ _ (sym c.bad_shape.ensures ∙ c.if-bad_shape.false) c.if-matrix-n.true)
 
 pub overflow_mul-n-4 : goal.overflow_mul-n-4
 overflow_mul-n-4 c =
@@ -35,7 +35,7 @@ overflow_mul-n-5 c =
 
 pub returns-then-lists-n : goal.returns-then-lists-n
 returns-then-lists-n c =
-    result_lists _ _ _ _ _ _ (sym c.bad_shape.ensures ∙ c.if-bad_shape.false) c.if-matrix-n.false c.if-lists-n.true
+    rw c.at-then-lists-n.ensures (result_lists _ _ _ _ _ _ (sym c.bad_shape.ensures ∙ c.if-bad_shape.false) c.if-matrix-n.false c.if-lists-n.true)
 
 pub result_length-length-requires : goal.result_length-length-requires
 result_length-length-requires c =
@@ -43,7 +43,7 @@ result_length-length-requires c =
 
 pub returns-then-text-length : goal.returns-then-text-length
 returns-then-text-length c =
-    result_short _ _ _ _ _ _ (sym c.bad_shape.ensures ∙ c.if-bad_shape.false) c.if-matrix-n.false c.if-lists-n.false (rw c.result_length-length.ensures at c.if-text-length.true)
+    rw c.at-then-text-length.ensures (result_short _ _ _ _ _ _ (sym c.bad_shape.ensures ∙ c.if-bad_shape.false) c.if-matrix-n.false c.if-lists-n.false (rw c.result_length-length.ensures at c.if-text-length.true))
 
 pub put_result-requires : goal.put_result-requires
 put_result-requires c =

@@ -1,5 +1,6 @@
 -- The first refusal that holds, in the table's order. Assumes nothing.
-use mathlib.Core.Path.{sym, ◌∙◌}
+use mathlib.Core.Path.{sym, ap, ◌∙◌}
+use Rattle.std.specs.Prelude.{Err}
 use native.Mathlib.Omega.{arith}
 use Rattle.checks.proofs.Laws.{sized, small}
 use Rattle.solve_checks.proofs.Laws.{solve_1, solve_2, checked, solve_right, solve_answers, solve_4, solve_elements, solve_rest}
@@ -7,7 +8,7 @@ use Rattle.solve_checks.proofs.solve_answer.Goals as goal
 
 pub returns-then-bad_sizes : goal.returns-then-bad_sizes
 returns-then-bad_sizes c =
-    solve_1 _ _ _ _ _ _ _ _ _ _ c.bad_sizes.ensures c.if-bad_sizes.true
+    ap Err c.at.ensures ∙ solve_1 _ _ _ _ _ _ _ _ _ _ c.bad_sizes.ensures c.if-bad_sizes.true
 
 pub bad_lengths-requires : goal.bad_lengths-requires
 bad_lengths-requires c =
@@ -15,7 +16,7 @@ bad_lengths-requires c =
 
 pub returns-then-bad_lengths : goal.returns-then-bad_lengths
 returns-then-bad_lengths c =
-    solve_2 c.args.z _ _ _ c.args.workers.slots c.args.workers.count c.args.workers.number _ _ _ c.bad_sizes.ensures c.if-bad_sizes.false _ (c.bad_lengths.ensures c.args.workers.slots c.args.workers.number) c.if-bad_lengths.true
+    ap Err c.at-then-bad_lengths.ensures ∙ solve_2 c.args.z _ _ _ c.args.workers.slots c.args.workers.count c.args.workers.number _ _ _ c.bad_sizes.ensures c.if-bad_sizes.false _ (c.bad_lengths.ensures c.args.workers.slots c.args.workers.number) c.if-bad_lengths.true
 
 pub overflow_mul-order : goal.overflow_mul-order
 overflow_mul-order c =
@@ -24,11 +25,11 @@ overflow_mul-order c =
 
 pub returns-then-right-order : goal.returns-then-right-order
 returns-then-right-order c =
-    solve_right c.args.z _ _ _ c.args.workers.slots c.args.workers.count c.args.workers.number _ _ _ c.bad_sizes.ensures c.if-bad_sizes.false _ (c.bad_lengths.ensures c.args.workers.slots c.args.workers.number) c.if-bad_lengths.false c.if-right-order.true
+    ap Err c.at-then-right-order.ensures ∙ solve_right c.args.z _ _ _ c.args.workers.slots c.args.workers.count c.args.workers.number _ _ _ c.bad_sizes.ensures c.if-bad_sizes.false _ (c.bad_lengths.ensures c.args.workers.slots c.args.workers.number) c.if-bad_lengths.false c.if-right-order.true
 
 pub returns-then-answers-order : goal.returns-then-answers-order
 returns-then-answers-order c =
-    solve_answers c.args.z _ _ _ c.args.workers.slots c.args.workers.count c.args.workers.number _ _ _ c.bad_sizes.ensures c.if-bad_sizes.false _ (c.bad_lengths.ensures c.args.workers.slots c.args.workers.number) c.if-bad_lengths.false c.if-right-order.false c.if-answers-order.true
+    ap Err c.at-then-answers-order.ensures ∙ solve_answers c.args.z _ _ _ c.args.workers.slots c.args.workers.count c.args.workers.number _ _ _ c.bad_sizes.ensures c.if-bad_sizes.false _ (c.bad_lengths.ensures c.args.workers.slots c.args.workers.number) c.if-bad_lengths.false c.if-right-order.false c.if-answers-order.true
 
 pub damaged-requires : goal.damaged-requires
 damaged-requires c =
@@ -37,11 +38,11 @@ damaged-requires c =
 
 pub returns-then-damaged : goal.returns-then-damaged
 returns-then-damaged c =
-    solve_4 c.args.z _ _ _ c.args.workers.slots c.args.workers.count c.args.workers.number _ _ _ c.bad_sizes.ensures c.if-bad_sizes.false _ (c.bad_lengths.ensures c.args.workers.slots c.args.workers.number) c.if-bad_lengths.false c.if-right-order.false c.if-answers-order.false _ (c.damaged.ensures c.args.matrix.now) c.if-damaged.true
+    ap Err c.at-then-damaged.ensures ∙ solve_4 c.args.z _ _ _ c.args.workers.slots c.args.workers.count c.args.workers.number _ _ _ c.bad_sizes.ensures c.if-bad_sizes.false _ (c.bad_lengths.ensures c.args.workers.slots c.args.workers.number) c.if-bad_lengths.false c.if-right-order.false c.if-answers-order.false _ (c.damaged.ensures c.args.matrix.now) c.if-damaged.true
 
 pub returns-then-not-all_finite : goal.returns-then-not-all_finite
 returns-then-not-all_finite c =
-    solve_elements c.args.z _ _ _ c.args.workers.slots c.args.workers.count c.args.workers.number _ _ _ c.bad_sizes.ensures c.if-bad_sizes.false _ (c.bad_lengths.ensures c.args.workers.slots c.args.workers.number) c.if-bad_lengths.false c.if-right-order.false c.if-answers-order.false _ (c.damaged.ensures c.args.matrix.now) c.if-damaged.false
+    ap Err c.at-then-not-all_finite.ensures ∙ solve_elements c.args.z _ _ _ c.args.workers.slots c.args.workers.count c.args.workers.number _ _ _ c.bad_sizes.ensures c.if-bad_sizes.false _ (c.bad_lengths.ensures c.args.workers.slots c.args.workers.number) c.if-bad_lengths.false c.if-right-order.false c.if-answers-order.false _ (c.damaged.ensures c.args.matrix.now) c.if-damaged.false
     _ c.all_finite.ensures c.if-not-all_finite.true
 
 pub rest_answer-requires : goal.rest_answer-requires

@@ -1,12 +1,13 @@
 -- The first refusal that holds, in the table's order. Assumes nothing.
-use mathlib.Core.Path.{sym, ◌∙◌}
+use mathlib.Core.Path.{sym, ap, ◌∙◌}
+use Rattle.std.specs.Prelude.{Err}
 use Rattle.checks.proofs.Laws.{sized}
 use Rattle.states.proofs.Laws.{answer_1, answer_2, answer_4, answer_0, checked}
 use Rattle.states.proofs.state_answer.Goals as goal
 
 pub returns-then-bad_sizes : goal.returns-then-bad_sizes
 returns-then-bad_sizes c =
-    answer_1 _ _ _ _ _ _ _ _ c.bad_sizes.ensures c.if-bad_sizes.true
+    ap Err c.at.ensures ∙ answer_1 _ _ _ _ _ _ _ _ c.bad_sizes.ensures c.if-bad_sizes.true
 
 pub bad_lengths-requires : goal.bad_lengths-requires
 bad_lengths-requires c =
@@ -14,7 +15,7 @@ bad_lengths-requires c =
 
 pub returns-then-bad_lengths : goal.returns-then-bad_lengths
 returns-then-bad_lengths c =
-    answer_2 c.args.z _ _ _ c.args.workers.slots c.args.workers.count c.args.workers.number _ c.bad_sizes.ensures c.if-bad_sizes.false _ (c.bad_lengths.ensures c.args.workers.slots c.args.workers.number) c.if-bad_lengths.true
+    ap Err c.at-then-bad_lengths.ensures ∙ answer_2 c.args.z _ _ _ c.args.workers.slots c.args.workers.count c.args.workers.number _ c.bad_sizes.ensures c.if-bad_sizes.false _ (c.bad_lengths.ensures c.args.workers.slots c.args.workers.number) c.if-bad_lengths.true
 
 pub damaged-requires : goal.damaged-requires
 damaged-requires c =
@@ -23,7 +24,7 @@ damaged-requires c =
 
 pub returns-then-damaged : goal.returns-then-damaged
 returns-then-damaged c =
-    answer_4 c.args.z _ _ _ c.args.workers.slots c.args.workers.count c.args.workers.number _ c.bad_sizes.ensures c.if-bad_sizes.false _ (c.bad_lengths.ensures c.args.workers.slots c.args.workers.number) c.if-bad_lengths.false _ (c.damaged.ensures c.args.matrix.now) c.if-damaged.true
+    ap Err c.at-then-damaged.ensures ∙ answer_4 c.args.z _ _ _ c.args.workers.slots c.args.workers.count c.args.workers.number _ c.bad_sizes.ensures c.if-bad_sizes.false _ (c.bad_lengths.ensures c.args.workers.slots c.args.workers.number) c.if-bad_lengths.false _ (c.damaged.ensures c.args.matrix.now) c.if-damaged.true
 
 pub returns : goal.returns
 returns c =

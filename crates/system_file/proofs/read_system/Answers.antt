@@ -2,15 +2,16 @@
 use Rattle.system_checked.proofs.Headers.{shape_read, refusal_read}
 use Rattle.system_file.proofs.Systems.{header_refused}
 use Rattle.system_file.proofs.read_system.Goals as goal
+use Rattle.std.specs.Prelude.{Ok, Err}
 
 pub read_system_lines-requires : goal.read_system_lines-requires
 read_system_lines-requires c =
-    shape_read _ _ _ _ _ c.check_header.ensures c.in-Shape.is
+    shape_read _ _ _ _ _ c.check_header.ensures c.in-Ok.is
 
-pub returns-in-Shape : goal.returns-in-Shape
-returns-in-Shape c =
+pub returns-in-Ok : goal.returns-in-Ok
+returns-in-Ok c =
     c.read_system_lines.ensures
 
-pub returns-in-Unread : goal.returns-in-Unread
-returns-in-Unread c =
-    header_refused _ _ _ _ (refusal_read _ _ _ _ _ c.check_header.ensures c.in-Unread.is)
+pub returns-in-Err : goal.returns-in-Err
+returns-in-Err c =
+    header_refused _ _ _ _ (refusal_read _ _ _ _ _ c.check_header.ensures c.in-Err.is)

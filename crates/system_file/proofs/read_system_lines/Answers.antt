@@ -5,6 +5,7 @@ use native.Mathlib.Omega.{arith}
 use Rattle.system_checked.proofs.Headers.{facts}
 use Rattle.system_file.proofs.Systems.{length_refused, lines_refused, system_read, system_lines}
 use Rattle.system_file.proofs.read_system_lines.Goals as goal
+use Rattle.std.specs.Prelude.{Ok, Err}
 
 pub overflow_mul-order : goal.overflow_mul-order
 overflow_mul-order c =
@@ -32,12 +33,12 @@ overflow_mul-tiles c =
 
 pub load_tiles-requires : goal.load_tiles-requires
 load_tiles-requires c =
-    let f = facts c.requires in record { tile_lines = system_lines _ _ _ c.requires (sym c.check_system_lines.ensures ∙ c.in-Accepted.is); matrix_len = omega (arith, c.if-matrix-order.false); s_bound = (mul-le-mul f.side.1 f.side.1, mul-le-mul f.tiles.1 f.tiles.1) }
+    let f = facts c.requires in record { tile_lines = system_lines _ _ _ c.requires (sym c.check_system_lines.ensures ∙ c.in-Ok.is); matrix_len = omega (arith, c.if-matrix-order.false); s_bound = (mul-le-mul f.side.1 f.side.1, mul-le-mul f.tiles.1 f.tiles.1) }
 
-pub returns-in-Refused : goal.returns-in-Refused
-returns-in-Refused c =
-    lines_refused _ _ _ _ c.requires c.if-matrix-order.false _ _ (sym c.check_system_lines.ensures ∙ c.in-Refused.is)
+pub returns-in-Err : goal.returns-in-Err
+returns-in-Err c =
+    lines_refused _ _ _ _ c.requires c.if-matrix-order.false _ _ (sym c.check_system_lines.ensures ∙ c.in-Err.is)
 
-pub returns-in-Accepted : goal.returns-in-Accepted
-returns-in-Accepted c =
-    system_read _ _ _ _ c.requires c.if-matrix-order.false _ (sym c.check_system_lines.ensures ∙ c.in-Accepted.is) c.load_tiles.ensures
+pub returns-in-Ok : goal.returns-in-Ok
+returns-in-Ok c =
+    system_read _ _ _ _ c.requires c.if-matrix-order.false _ (sym c.check_system_lines.ensures ∙ c.in-Ok.is) c.load_tiles.ensures

@@ -7,7 +7,7 @@ use Rattle.system_written.proofs.write_system.Goals as goal
 
 pub returns-then-bad_shape : goal.returns-then-bad_shape
 returns-then-bad_shape c =
-    system_shape _ _ _ _ (sym c.bad_shape.ensures ∙ c.if-bad_shape.true)
+    rw c.at.ensures (system_shape _ _ _ _ (sym c.bad_shape.ensures ∙ c.if-bad_shape.true))
 
 pub overflow_mul-n : goal.overflow_mul-n
 overflow_mul-n c =
@@ -23,7 +23,7 @@ overflow_mul-n-3 c =
 
 pub returns-then-matrix-n : goal.returns-then-matrix-n
 returns-then-matrix-n c =
-    system_matrix _ _ _ _ (sym c.bad_shape.ensures ∙ c.if-bad_shape.false) c.if-matrix-n.true
+    rw c.at-then-matrix-n.ensures (system_matrix _ _ _ _ (sym c.bad_shape.ensures ∙ c.if-bad_shape.false) c.if-matrix-n.true)
 
 pub system_length-length-requires : goal.system_length-length-requires
 system_length-length-requires c =
@@ -31,7 +31,7 @@ system_length-length-requires c =
 
 pub returns-then-text-length : goal.returns-then-text-length
 returns-then-text-length c =
-    system_short _ _ _ _ (sym c.bad_shape.ensures ∙ c.if-bad_shape.false) c.if-matrix-n.false (rw c.system_length-length.ensures at c.if-text-length.true)
+    rw c.at-then-text-length.ensures (system_short _ _ _ _ (sym c.bad_shape.ensures ∙ c.if-bad_shape.false) c.if-matrix-n.false (rw c.system_length-length.ensures at c.if-text-length.true))
 
 pub put_system-requires : goal.put_system-requires
 put_system-requires c =

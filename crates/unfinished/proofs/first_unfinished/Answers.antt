@@ -16,14 +16,6 @@ returns-then-not-is_finished c =
     first_stops _ _ _ _ c.loop-p.invariant c.loop-p-test.true
     (ap (λ (x : ℕ). not (finished x)) (sym c.mark_of.ensures) ∙ ap not (sym c.is_finished.ensures ∙ c.if-not-is_finished.true))
 
-pub overflow_add-p : goal.overflow_add-p
-overflow_add-p c =
-    omega arith
-
-pub loop-p-smaller : goal.loop-p-smaller
-loop-p-smaller c =
-    omega arith
-
 pub loop-p-preserved : goal.loop-p-preserved
 loop-p-preserved c =
     first_goes_on _ _ _ _ c.loop-p.invariant c.loop-p-test.true
