@@ -13,20 +13,8 @@ fn load_entries(line: &[u8], list: &mut [u8])
     requires { ListLine (length list.old) line.now }
     ensures { list.new ≡ entries_in (length list.old) line.now }
 {
-    let mut x = 0;
-    while x < list.len() {
-        list[x] = field_at(line, 6 + 2 * x, 2) as u8;
-        x += 1;
-    }
-}
-
-fn clear_list(list: &mut [u8])
-    ensures { list.new ≡ replicate (length list.old) 0 }
-{
-    let mut x = 0;
-    while x < list.len() {
-        list[x] = 0;
-        x += 1;
+    for (x, entry) in list.iter_mut().enumerate() {
+        *entry = field_at(line, 6 + 2 * x, 2) as u8;
     }
 }
 
@@ -37,7 +25,7 @@ fn load_list(text: &[u8], at: usize, i: usize, j: usize, list: &mut [u8])
     ensures { list.new ≡ list_from (length list.old) at text.now i j }
 {
     if i < j {
-        clear_list(list);
+        list.fill(0);
         return;
     }
     let size = 7 + 2 * list.len();
@@ -53,12 +41,10 @@ fn load_row(text: &[u8], at: usize, tiles: usize, t: usize, i: usize, row: &mut 
     requires tiles_le_most_tiles { (tiles ≤ most_tiles) × (t ≤ most_side) × (i < most_tiles) }
     ensures { row.new ≡ row_from tiles t at text.now i }
 {
-    let mut j = 0;
-    while j < tiles {
+    for j in 0..tiles {
         let b = j * t;
         let d = b + t;
         load_list(text, at, i, j, &mut row[b..d]);
-        j += 1;
     }
 }
 
@@ -72,12 +58,10 @@ pub fn load_lists(text: &[u8], at: usize, tiles: usize, t: usize, lists: &mut [u
     let size = 7 + 2 * t;
     let width = tiles * t;
     let mut a = at;
-    let mut i = 0;
-    while i < tiles {
+    for i in 0..tiles {
         let b = i * width;
         let d = b + width;
         load_row(text, a, tiles, t, i, &mut lists[b..d]);
-        a = a + (i + 1) * size;
-        i += 1;
+        a += (i + 1) * size;
     }
 }

@@ -7,6 +7,7 @@ use native.Mathlib.Omega.{arith}
 use lib.Dec.{eqb, ltb}
 use lib.ListN.{length, get_or, take}
 use lib.Seq.{get_or-take, length-take-le}
+use denote.Enum.Bare.{sameb}
 use borrow.Author.Tests.{eq-eqb, ne_eqb, lt-ltb, le-ltb, le-leb, lt-leb, not-false}
 use Rattle.laws.proofs.Tests.{and_left}
 use Rattle.laws.proofs.Every.{every_at}
@@ -16,7 +17,10 @@ use Rattle.model.specs.Tile.{all_finite}
 use Rattle.model.specs.Refusal.{inside, refuse}
 use Rattle.model.specs.Read.{Frame, is_digit, field, kind_in, line_length, entries_in, numbers_in, not_digits, bad_content, bad_line, wrong_frame, not_finite_in, line_answer}
 use Rattle.digits_read.specs.Digits.{FieldOfDigits}
-use Rattle.lines_read.specs.Line.{LineOfDigits, malformed, bad_entries, bad_outcome}
+use Rattle.lines_read.specs.declared.Kind.{Kind}
+use Rattle.lines_read.specs.declared.Kind.TheVariants.{Header, Tile, List as ListKind, Outcome, Refusal}
+use Rattle.lines_read.specs.contracts.Kind.{the_type}
+use Rattle.lines_read.specs.Line.{LineOfDigits, kind_number, malformed, bad_entries, bad_outcome}
 
 -- ---- digits ended by 0A
 
@@ -120,6 +124,22 @@ module _ (l : List ℕ) where
     pub outcome_good : field 2 2 l ≡ 0 → not (eqb (field 4 4 l) 0) ≡ bad_outcome l
     unfolding bad_outcome
     outcome_good e = rw (eq-eqb (length l) 9 h, e)
+
+-- ---- tests of a kind, by its number
+
+pub is_tile : (k : Kind) → sameb the_type k Tile ≡ eqb (kind_number k) 2
+is_tile Header = refl
+is_tile Tile = refl
+is_tile ListKind = refl
+is_tile Outcome = refl
+is_tile Refusal = refl
+
+pub is_outcome : (k : Kind) → sameb the_type k Outcome ≡ eqb (kind_number k) 4
+is_outcome Header = refl
+is_outcome Tile = refl
+is_outcome ListKind = refl
+is_outcome Outcome = refl
+is_outcome Refusal = refl
 
 -- ---- 13
 

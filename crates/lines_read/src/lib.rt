@@ -5,15 +5,40 @@ ghost use Rattle.std.specs.Prelude.{◌≡◌, ◌+◌, ◌*◌, ◌≤◌, leng
 ghost use Rattle.model.specs.declared.Answer.TheVariants.{Accepted};
 ghost use Rattle.model.specs.Limits.{most_side};
 ghost use Rattle.model.specs.Read.{not_digits, wrong_frame, not_finite_in, line_length, line_answer};
-ghost use Rattle.lines_read.specs.Line.{LineOfDigits, frame_of, malformed, bad_entries, bad_outcome};
+ghost use Rattle.lines_read.specs.Line.{LineOfDigits, kind_number, frame_of, malformed, bad_entries, bad_outcome};
 
 use digits_read::{all_digits, field_at, finite_at};
 use model::Answer;
 
+// The kinds of frames.
+#[derive(Clone, Copy, PartialEq, Eq, Debug)]
+pub enum Kind {
+    Header,
+    Tile,
+    List,
+    Outcome,
+    Refusal,
+}
+
+impl Kind {
+    // The number that a line of this kind begins with.
+    fn number(self) -> usize
+        ensures { result ≡ kind_number self }
+    {
+        match self {
+            Kind::Header => 1,
+            Kind::Tile => 2,
+            Kind::List => 3,
+            Kind::Outcome => 4,
+            Kind::Refusal => 5,
+        }
+    }
+}
+
 // The frame that is due on a line: its kind, and its I and J where it has them.
 #[derive(Clone, Copy)]
 pub struct Due {
-    pub kind: usize,
+    pub kind: Kind,
     pub i: usize,
     pub j: usize,
 }
@@ -39,14 +64,7 @@ fn bad_entries(line: &[u8], t: usize) -> bool
     if line.len() != 7 + 2 * t {
         return false;
     }
-    let mut x = 0;
-    while x < t {
-        if t < field_at(line, 6 + 2 * x, 2) {
-            return true;
-        }
-        x += 1;
-    }
-    false
+    (0..t).any(|x| t < field_at(line, 6 + 2 * x, 2))
 }
 
 // An outcome exceeds 02, or good has a place other than 0.
@@ -76,20 +94,12 @@ pub fn is_malformed(line: &[u8], t: usize) -> bool
     if not_digits(line) {
         return true;
     }
-    let kind = field_at(line, 0, 2);
-    if kind < 1 {
-        return true;
+    match field_at(line, 0, 2) {
+        1 | 2 | 5 => false,
+        3 => bad_entries(line, t),
+        4 => bad_outcome(line),
+        _ => true,
     }
-    if 5 < kind {
-        return true;
-    }
-    if kind == 3 {
-        return bad_entries(line, t);
-    }
-    if kind == 4 {
-        return bad_outcome(line);
-    }
-    false
 }
 
 // 13: the frame isn't the one due.
@@ -97,10 +107,10 @@ fn wrong_frame(line: &[u8], due: Due) -> bool
     requires { LineOfDigits line.now }
     ensures { result ≡ wrong_frame (frame_of due) line.now }
 {
-    if field_at(line, 0, 2) != due.kind {
+    if field_at(line, 0, 2) != due.kind.number() {
         return true;
     }
-    if due.kind == 4 {
+    if due.kind == Kind::Outcome {
         return false;
     }
     if field_at(line, 2, 2) != due.i {
@@ -112,27 +122,19 @@ fn wrong_frame(line: &[u8], due: Due) -> bool
 // 3: the frame due is a tile, and one of its numbers isn't finite.
 fn not_finite(line: &[u8], t: usize, due: Due) -> bool
     requires line_of_digits { LineOfDigits line.now }
-    requires line_len { length line.now ≡ line_length t due.kind }
+    requires line_len { length line.now ≡ line_length t (kind_number due.kind) }
     requires t_le_most_side { t ≤ most_side }
     ensures { result ≡ not_finite_in t (frame_of due) line.now }
 {
-    if due.kind != 2 {
+    if due.kind != Kind::Tile {
         return false;
     }
-    let count = t * t;
-    let mut x = 0;
-    while x < count {
-        if !finite_at(line, 6 + 16 * x) {
-            return true;
-        }
-        x += 1;
-    }
-    false
+    (0..t * t).any(|x| !finite_at(line, 6 + 16 * x))
 }
 
 // What line x answers by itself, where the frame is due.
 pub fn line_answer(line: &[u8], x: usize, t: usize, due: Due) -> Answer
-    requires line_len { length line.now ≡ line_length t due.kind }
+    requires line_len { length line.now ≡ line_length t (kind_number due.kind) }
     requires t_le_most_side { t ≤ most_side }
     ensures { result ≡ line_answer t x (frame_of due) line.now Accepted }
 {

@@ -16,11 +16,9 @@ fn put_list_row(text: &mut [u8], at: usize, l: &[u8], n: usize, t: usize, i: usi
     ensures { text.new ≡ with_part at ((i + 1) * (7 + t * 2)) (list_row n t l.now i) text.old }
 {
     let mut place = at;
-    let mut j = 0;
-    while j <= i {
+    for j in 0..i + 1 {
         put_list(text, place, l, (i * n + j) * t, t, i, j);
         place += 7 + t * 2;
-        j += 1;
     }
 }
 
@@ -32,10 +30,8 @@ pub fn put_lists(text: &mut [u8], at: usize, l: &[u8], n: usize, t: usize)
     ensures { text.new ≡ with_part at (triangle n * (7 + t * 2)) (list_rows n t l.now) text.old }
 {
     let mut place = at;
-    let mut i = 0;
-    while i < n {
+    for i in 0..n {
         put_list_row(text, place, l, n, t, i);
         place += (i + 1) * (7 + t * 2);
-        i += 1;
     }
 }

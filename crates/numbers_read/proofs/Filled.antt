@@ -5,11 +5,10 @@ use mathlib.Core.List.{List, [], ◌∷◌, ◌++◌, map, append-nil, append_as
 use native.Mathlib.Nat.{suc-mul, zero-mul, add-sub_cancel_left}
 use native.Mathlib.Numerals.{add-one}
 use native.Mathlib.Omega.{arith}
-use lib.ListN.{length, get_or, set, take, drop, length-append, length-drop, drop_of_length-le}
+use lib.ListN.{length, get_or, set, take, drop, length-drop, drop_of_length-le}
 use lib.Seq.{drop-cons, drop-drop, set_at, take_at, drop_at, length-take-le}
 use Rattle.model.specs.Lists.{run, below, joined, with_part}
 use Rattle.laws.proofs.Runs.{length_map_below, table_last, joined_last, length_joined_below}
-use Rattle.laws.proofs.Blocks.{row_end}
 
 -- ---- one element at a time
 
@@ -33,10 +32,6 @@ module _ {A : Type 0} (g : ℕ → A) where
   written_all d x h = ap (λ (l : List A). map g (below x) ++ l) (drop_of_length-le d h) ∙ append-nil (map g (below x))
 
 -- ---- one part at a time, all of length s
-
--- one part more is in what holds them all
-pub place_fits : (a n q s z : ℕ) → a + n * s ≤ z → q < n → a + q * s + s ≤ z
-place_fits a n q s z r h = omega (arith, row_end q n s h)
 
 -- a part that is lent has the length asked for
 pub length_lent : {A : Type 0} (a s : ℕ) (m : List A) → a + s ≤ length m → length (take (a + s - a) (drop a m)) ≡ s
@@ -63,19 +58,9 @@ module _ {A : Type 0} (s : ℕ) (g : ℕ → List A) (each : (q : ℕ) → lengt
       ∙ ap (λ (z : List A). z ++ drop (q * s + s) d) (sym (joined_last g q))
       ∙ rw (e, add-one q)
 
-  length_parted : (d : List A) (q : ℕ) → q * s ≤ length d → length (parted s g d q) ≡ length d
-  length_parted d q h = length-append (joined (map g (below q))) (drop (q * s) d) ∙ omega (arith, length_joined_below g s q (λ i h. each i), length-drop (q * s) d)
-
   -- a part that was lent, and came back as the next one
-  part_back : (d m ys : List A) (q : ℕ) → m ≡ parted s g d q → ys ≡ g q → take (q * s) m ++ (ys ++ drop (q * s + s - q * s) (drop (q * s) m)) ≡ parted s g d (q + 1)
-  part_back d m ys q e h = rw (e, h, add-sub_cancel_left (q * s) s) (parted_next d q)
-
-  pub turn : (n : ℕ) (d m ys : List A) (q : ℕ) → length d ≡ n * s → q < n → m ≡ parted s g d q → ys ≡ g q
-      → (length (take (q * s) m ++ (ys ++ drop (q * s + s - q * s) (drop (q * s) m))) ≡ n * s)
-      × (take (q * s) m ++ (ys ++ drop (q * s + s - q * s) (drop (q * s) m)) ≡ parted s g d (q + 1))
-  turn n d m ys q size h e y =
-      let b = part_back d m ys q e y in
-      (ap length b ∙ length_parted d (q + 1) (omega (arith, row_end q n s h)) ∙ size, b)
+  pub turn : (d m ys : List A) (q : ℕ) → m ≡ parted s g d q → ys ≡ g q → take (q * s) m ++ (ys ++ drop (q * s + s - q * s) (drop (q * s) m)) ≡ parted s g d (q + 1)
+  turn d m ys q e h = rw (e, h, add-sub_cancel_left (q * s) s) (parted_next d q)
 
   pub parted_all : (d : List A) (n : ℕ) → length d ≡ n * s → parted s g d n ≡ joined (map g (below n))
   parted_all d n h = ap (λ (l : List A). joined (map g (below n)) ++ l) (drop_of_length-le d {i = n * s} (omega arith)) ∙ append-nil (joined (map g (below n)))

@@ -26,10 +26,8 @@ fn bits_at(line: &[u8], p: usize, values: &[u8]) -> usize
     ensures { result ≡ field p 16 line.now }
 {
     let mut v = 0;
-    let mut k = 0;
-    while k < 16 {
+    for k in 0..16 {
         v = v * 16 + value_of(line[p + k], values);
-        k += 1;
     }
     v
 }
@@ -52,10 +50,8 @@ fn load_tile(line: &[u8], tile: &mut [f64])
     let values = [
         0, 1, 2, 3, 4, 5, 6, 7, 8, 9, 3, 4, 5, 6, 7, 8, 9, 10, 11, 12, 13, 14, 15,
     ];
-    let mut x = 0;
-    while x < tile.len() {
-        tile[x] = number_at(line, 6 + 16 * x, &values);
-        x += 1;
+    for (x, number) in tile.iter_mut().enumerate() {
+        *number = number_at(line, 6 + 16 * x, &values);
     }
 }
 
@@ -67,13 +63,11 @@ pub fn load_tiles(text: &[u8], at: usize, s: usize, count: usize, matrix: &mut [
     ensures { matrix.new ≡ tiles_from s count at text.now }
 {
     let size = 7 + 16 * s;
-    let mut q = 0;
-    while q < count {
+    for q in 0..count {
         let a = at + q * size;
         let e = a + size;
         let b = q * s;
         let d = b + s;
         load_tile(&text[a..e], &mut matrix[b..d]);
-        q += 1;
     }
 }

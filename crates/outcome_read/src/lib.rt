@@ -14,13 +14,10 @@ pub fn outcome_at(line: &[u8]) -> Outcome
     requires line_len { length line.now ≡ 9 }
     ensures { result ≡ outcome_in line.now }
 {
-    let outcome = field_at(line, 2, 2);
-    if outcome == 0 {
-        return Outcome::Good;
-    }
     let place = field_at(line, 4, 4) as u16;
-    if outcome == 1 {
-        return Outcome::Overflow(place);
+    match field_at(line, 2, 2) {
+        0 => Outcome::Good,
+        1 => Outcome::Overflow(place),
+        _ => Outcome::Singular(place),
     }
-    Outcome::Singular(place)
 }

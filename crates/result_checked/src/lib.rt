@@ -9,7 +9,7 @@ ghost use Rattle.system_checked.specs.Files.{start};
 
 use cursors::{Cursor, Step, check_line};
 use frames_read::{check_lists, check_tiles};
-use lines_read::Due;
+use lines_read::{Due, Kind};
 
 // The lines of a result after an accepted header: tiles, lists and the outcome.
 pub fn check_result_lines(text: &[u8], tiles: usize, side: usize) -> Step
@@ -23,7 +23,7 @@ pub fn check_result_lines(text: &[u8], tiles: usize, side: usize) -> Step
                 d,
                 side,
                 Due {
-                    kind: 4,
+                    kind: Kind::Outcome,
                     i: 0,
                     j: 0,
                 },

@@ -18,11 +18,9 @@ fn put_tile_row(text: &mut [u8], at: usize, m: &[f64], n: usize, s: usize, i: us
     ensures { text.new ≡ with_part at (n * (7 + s * 16)) (tile_row n s m.now i) text.old }
 {
     let mut place = at;
-    let mut j = 0;
-    while j < n {
+    for j in 0..n {
         put_tile(text, place, m, (i * n + j) * s, s, i, j);
         place += 7 + s * 16;
-        j += 1;
     }
 }
 
@@ -34,10 +32,8 @@ pub fn put_tiles(text: &mut [u8], at: usize, m: &[f64], n: usize, s: usize)
     ensures { text.new ≡ with_part at (n * (n * (7 + s * 16))) (tile_rows n s m.now) text.old }
 {
     let mut place = at;
-    let mut i = 0;
-    while i < n {
+    for i in 0..n {
         put_tile_row(text, place, m, n, s, i);
         place += n * (7 + s * 16);
-        i += 1;
     }
 }

@@ -4,10 +4,11 @@ use mathlib.Core.Path.{◌≡◌, sym, ap, ◌∙◌}
 use mathlib.Core.List.{List, map}
 use native.Mathlib.Omega.{arith}
 use Rattle.model.specs.Lists.{below, run}
+use Rattle.lines_read.specs.Line.{kind_number}
 use Rattle.lines_read.proofs.Runs.{up_to}
 use Rattle.cursors.specs.declared.Cursor.{Cursor}
-use Rattle.frames_read.specs.Follow.{follow, row_frames}
 use Rattle.cursors.proofs.Steps.{step_placed}
+use Rattle.frames_read.specs.Follow.{follow, row_frames}
 use Rattle.frames_read.proofs.Rows.{row_none, row_stops, row_goes_on}
 use Rattle.frames_read.proofs.check_row.Invariants.{frame}
 use Rattle.frames_read.proofs.check_row.Goals as goal
@@ -18,34 +19,21 @@ whole t text kind i n c = ap (λ (m : ℕ). follow t text (map (frame kind i) (r
 
 pub loop-j-init : goal.loop-j-init
 loop-j-init c =
-    (omega arith, c.requires.cursor_fits, whole _ _ _ _ _ _)
-
-pub check_line-requires : goal.check_line-requires
-check_line-requires c =
-    record { cursor_fits = c.loop-j.invariant.1; t_le_most_side = c.requires.t_le_most_side }
+    (c.requires.cursor_fits, whole _ _ _ _ _ _)
 
 pub returns-in-Stopped : goal.returns-in-Stopped
 returns-in-Stopped c =
     let l = c.loop-j in
-    row_stops _ _ c.args.count l.j l.here c.loop-j-test.true (frame c.args.kind c.args.i) l.invariant.2 c.check_line.ensures c.in-Stopped.is
-
-pub overflow_add-j : goal.overflow_add-j
-overflow_add-j c =
-    omega arith
-
-pub loop-j-smaller : goal.loop-j-smaller
-loop-j-smaller c =
-    omega arith
+    row_stops _ _ c.args.count l.j l.here c.loop-j-test.true (frame (kind_number c.args.kind) c.args.i) l.invariant.1 c.check_line.ensures c.in-Stopped.is
 
 pub loop-j-preserved : goal.loop-j-preserved
 loop-j-preserved c =
     let l = c.loop-j in (
-      omega arith,
-      step_placed _ _ _ _ _ l.invariant.1 (sym c.check_line.ensures ∙ c.in-Next.is),
-      row_goes_on _ _ c.args.count l.j l.here c.loop-j-test.true (frame c.args.kind c.args.i) l.invariant.2 c.check_line.ensures c.in-Next.is,
+      step_placed _ _ _ _ _ l.invariant.0 (sym c.check_line.ensures ∙ c.in-Next.is),
+      row_goes_on _ _ c.args.count l.j l.here c.loop-j-test.true (frame (kind_number c.args.kind) c.args.i) l.invariant.1 c.check_line.ensures c.in-Next.is,
     )
 
 pub returns : goal.returns
 returns c =
     let l = c.loop-j in
-    sym (row_none _ _ (frame c.args.kind c.args.i) l.j c.args.count l.here c.loop-j-test.false) ∙ l.invariant.2
+    sym (row_none _ _ (frame (kind_number c.args.kind) c.args.i) l.j c.args.count l.here c.loop-j-test.false) ∙ l.invariant.1

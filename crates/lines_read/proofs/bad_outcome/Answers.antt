@@ -2,18 +2,13 @@
 use mathlib.Core.Path.{sym, ap, ◌∙◌}
 use mathlib.Core.Bool.{not}
 use Prim.Native.Nat.{ℕ}
-use native.Mathlib.Omega.{arith}
 use lib.Dec.{eqb}
-use Rattle.lines_read.proofs.Tested.{field_in, no_outcome, outcome_above, outcome_placed, outcome_good}
+use Rattle.lines_read.proofs.Tested.{no_outcome, outcome_above, outcome_placed, outcome_good}
 use Rattle.lines_read.proofs.bad_outcome.Goals as goal
 
 pub returns-then-line-ne9 : goal.returns-then-line-ne9
 returns-then-line-ne9 c =
     no_outcome _ c.if-line-ne9.true
-
-pub field_at-outcome-requires : goal.field_at-outcome-requires
-field_at-outcome-requires c =
-    field_in _ _ _ c.requires (omega arith) (omega arith)
 
 pub returns-then-outcome-gt2 : goal.returns-then-outcome-gt2
 returns-then-outcome-gt2 c =
@@ -22,10 +17,6 @@ returns-then-outcome-gt2 c =
 pub returns-then-outcome-ne0 : goal.returns-then-outcome-ne0
 returns-then-outcome-ne0 c =
     outcome_placed _ c.if-line-ne9.false (rw (← c.field_at-outcome.ensures) c.if-outcome-gt2.false) (λ e. c.if-outcome-ne0.true (c.field_at-outcome.ensures ∙ e))
-
-pub field_at-requires : goal.field_at-requires
-field_at-requires c =
-    field_in _ _ _ c.requires (omega (arith, c.if-line-ne9.false)) (omega arith)
 
 pub returns : goal.returns
 returns c =

@@ -1,11 +1,7 @@
 -- `numbers_read::bits_at` meets its contract. The loop's invariant: v is the field of the digits passed. Assumes nothing.
-use Prim.Native.Nat.{◌≤◌, ◌-◌}
 use mathlib.Core.Path.{◌≡◌}
 use Rattle.model.specs.Read.{field}
 use Rattle.numbers_read.proofs.bits_at.Given as goal
 
 abbrev pub invariant-loop-k : goal.invariant-loop-k
-invariant-loop-k l = (l.k ≤ 16) × (l.v ≡ field l.p l.k l.line)
-
-abbrev pub decreases-loop-k : goal.decreases-loop-k
-decreases-loop-k l = 16 - l.k
+invariant-loop-k l = l.v ≡ field l.p l.k l.line

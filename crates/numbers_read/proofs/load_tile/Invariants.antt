@@ -1,8 +1,7 @@
 -- `numbers_read::load_tile` meets its contract: after x turns the first x numbers are written. Assumes nothing.
-use Prim.Native.Nat.{ℕ, ◌≤◌, ◌-◌, ◌+◌, ◌*◌}
+use Prim.Native.Nat.{ℕ, ◌+◌, ◌*◌}
 use mathlib.Core.Path.{◌≡◌}
 use mathlib.Core.List.{List}
-use lib.ListN.{length}
 use lib.Ieee.{Float, binary64, of_bits}
 use Rattle.model.specs.Read.{field}
 use Rattle.numbers_read.specs.Decoded.{digit_values}
@@ -13,7 +12,4 @@ abbrev pub number : List ℕ → ℕ → Float
 number l x = of_bits binary64 (field (6 + 16 * x) 16 l)
 
 abbrev pub invariant-loop-x : goal.invariant-loop-x
-invariant-loop-x l = (l.x ≤ length l.initial.tile) × (length l.tile ≡ length l.initial.tile) × (l.tile ≡ written (number l.line) l.initial.tile l.x) × (l.values ≡ digit_values)
-
-abbrev pub decreases-loop-x : goal.decreases-loop-x
-decreases-loop-x l = length l.initial.tile - l.x
+invariant-loop-x l = (l.tile ≡ written (number l.line) l.initial.tile l.x) × (l.values ≡ digit_values)

@@ -1,8 +1,7 @@
 -- `numbers_read::load_tiles` meets its contract: after q turns the first q tiles are written. Assumes nothing.
-use Prim.Native.Nat.{ℕ, ◌≤◌, ◌-◌, ◌+◌, ◌*◌}
+use Prim.Native.Nat.{ℕ, ◌+◌, ◌*◌}
 use mathlib.Core.Path.{◌≡◌}
 use mathlib.Core.List.{List}
-use lib.ListN.{length}
 use lib.Ieee.{Float}
 use Rattle.numbers_read.specs.Decoded.{line_at, tile_size, numbers_of}
 use Rattle.numbers_read.proofs.Filled.{parted}
@@ -13,7 +12,4 @@ abbrev pub held : List ℕ → ℕ → ℕ → ℕ → List Float
 held text at s q = numbers_of s (line_at (at + q * tile_size s) (tile_size s) text)
 
 abbrev pub invariant-loop-q : goal.invariant-loop-q
-invariant-loop-q l = (l.q ≤ l.count) × (length l.matrix ≡ l.count * l.s) × (l.matrix ≡ parted l.s (held l.text l.at l.s) l.initial.matrix l.q)
-
-abbrev pub decreases-loop-q : goal.decreases-loop-q
-decreases-loop-q l = l.count - l.q
+invariant-loop-q l = l.matrix ≡ parted l.s (held l.text l.at l.s) l.initial.matrix l.q

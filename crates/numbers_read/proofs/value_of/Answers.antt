@@ -8,7 +8,7 @@ use native.Mathlib.Omega.{arith}
 use lib.ListN.{length, get_or}
 use Rattle.model.specs.Read.{is_digit, digit_value}
 use Rattle.laws.proofs.Blocks.{length_table, get_or_table}
-use Rattle.laws.proofs.Texts.{digit_cases, value_lt}
+use Rattle.laws.proofs.Texts.{digit_cases}
 use Rattle.numbers_read.specs.Decoded.{digit_values}
 use Rattle.numbers_read.proofs.value_of.Goals as goal
 
@@ -37,10 +37,6 @@ overflow_sub-result c =
 pub bounds-values-b : goal.bounds-values-b
 bounds-values-b c =
     omega (arith, between _ c.requires.b_value, long _ c.requires.values_value)
-
-pub overflow_cast-result-2 : goal.overflow_cast-result-2
-overflow_cast-result-2 c =
-    omega (arith, looked_up _ _ c.requires.values_value c.requires.b_value, value_lt _ c.requires.b_value)
 
 pub returns : goal.returns
 returns c =

@@ -4,30 +4,6 @@ use Rattle.rows_written.specs.Rows.{system_length, result_length}
 use Rattle.rows_written.proofs.Shapes.{bounds, half}
 use Rattle.rows_written.proofs.sizes.result_length.Goals as goal
 
-pub system_length-requires : goal.system_length-requires
-system_length-requires c =
-    c.requires
-
-pub overflow_add-result : goal.overflow_add-result
-overflow_add-result c =
-    omega arith
-
-pub overflow_mul-result : goal.overflow_mul-result
-overflow_mul-result c =
-    omega (arith, bounds c.args.n c.args.t c.requires.0 c.requires.1)
-
-pub overflow_mul-result-2 : goal.overflow_mul-result-2
-overflow_mul-result-2 c =
-    omega arith
-
-pub overflow_add-result-2 : goal.overflow_add-result-2
-overflow_add-result-2 c =
-    omega arith
-
-pub overflow_mul-result-3 : goal.overflow_mul-result-3
-overflow_mul-result-3 c =
-    omega (arith, bounds c.args.n c.args.t c.requires.0 c.requires.1)
-
 pub overflow_add-result-3 : goal.overflow_add-result-3
 unfolding system_length
 overflow_add-result-3 c =
