@@ -9,8 +9,7 @@ use lib.ListN.{length}
 use borrow.Author.Tests.{eqb-true, not-false}
 use Rattle.model.specs.declared.Sizes.{Sizes}
 use Rattle.worker.specs.declared.Worker.{Worker}
-use Rattle.std.specs.Prelude.{Result, Ok, Err, IsErrAnd}
-use Rattle.std.proofs.lemmas.Result.{err_from_is_err_and}
+use Rattle.std.specs.Prelude.{Ok, Err}
 use Rattle.model.specs.declared.Refusal.{Refusal}
 use Rattle.model.specs.Answer.{Answer, accepted, refused_by}
 use Rattle.model.specs.declared.Rule.{Rule}
@@ -48,10 +47,7 @@ unfolding accepts replied
 not_accepted (Ok _) b old new e q = never refl (sym e ∙ q)
 not_accepted (Err why) b old new e q = refl
 
--- ---- an answer that `?` passes on, and one that it lets through
-
-pub passed_on : {A B : Type 0} (r : Result A Refusal) (a : Result B Refusal) (why : Refusal) → IsErrAnd r (λ d. d ≡ why) → a ≡ Err why → r ≡ Err why
-passed_on r a why h e = let p = err_from_is_err_and r h in p.1 ∙ ap Err p.2
+-- ---- an answer that `?` lets through, and one that it passes on
 
 pub accepts_ok : (a : Answer) (u : Unit {0}) → a ≡ Ok u → accepts a ≡ true
 unfolding accepts

@@ -8,7 +8,7 @@ ghost use Rattle.lines_read.specs.Line.{kind_number, frame_of};
 ghost use Rattle.cursors.specs.Steps.{CursorFits, step_of};
 
 use lines_read::{Due, Kind, line_answer};
-use model::Answer;
+use model::{Refusal, Rule};
 
 // A place in a text that a line starts at, and the line's number from 1.
 #[derive(Clone, Copy)]
@@ -17,12 +17,8 @@ pub struct Cursor {
     pub line: usize,
 }
 
-// The cursor after what was read, or a refusal's number and place.
-#[derive(Clone, Copy)]
-pub enum Step {
-    Next(Cursor),
-    Stopped(u8, usize),
-}
+// The cursor after what was read, or the refusal that stops it.
+pub type Step = Result<Cursor, Refusal>;
 
 // How long a line of a kind is, its 0A with it.
 #[tactic(auto, unfolding(model::specs::Read::line_length))]
@@ -47,18 +43,16 @@ pub fn check_line(text: &[u8], c: Cursor, t: usize, due: Due) -> Step
     let at = c.at;
     let line = c.line;
     if text.len() == at {
-        return Step::Stopped(14, line);
+        return Err(Rule::WrongEnd.at(line));
     }
     let size = line_length(t, due.kind);
     if text.len() - at < size {
-        return Step::Stopped(12, line);
+        return Err(Rule::Malformed.at(line));
     }
     let end = at + size;
-    match line_answer(&text[at..end], line, t, due) {
-        Answer::Accepted => Step::Next(Cursor {
-            at: end,
-            line: line + 1,
-        }),
-        Answer::Refused(n, x) => Step::Stopped(n, x),
-    }
+    line_answer(&text[at..end], line, t, due)?;
+    Ok(Cursor {
+        at: end,
+        line: line + 1,
+    })
 }

@@ -11,8 +11,9 @@ use lib.ListN.{length, take, drop, length-drop}
 use lib.Seq.{drop-drop}
 use borrow.Author.Tests.{ne_eqb, lt-ltb, le-ltb, ltb-true, ltb-false}
 use Rattle.laws.proofs.Tests.{true_or_false, or_left}
-use Rattle.model.specs.declared.Answer.{Answer}
-use Rattle.model.specs.declared.Answer.TheVariants.{Accepted, Refused}
+use Rattle.std.specs.Prelude.{Ok, Err}
+use Rattle.model.specs.Answer.{Answer, accepted, refused_by}
+use Rattle.model.specs.declared.Rule.TheVariants.{NotFinite, Malformed, WrongFrame, WrongEnd}
 use Rattle.model.specs.Refusal.{refuse, inside}
 use Rattle.model.specs.Read.{Frame, kind_in, line_length, lines_from, last_line, not_digits, bad_content, bad_line, wrong_frame, not_finite_in, line_answer, lines_answer}
 use Rattle.lines_read.proofs.Tested.{length_above}
@@ -23,8 +24,8 @@ use Rattle.frames_read.proofs.Lines.{First, none, bad, good, first}
 
 -- what is accepted goes on with r
 abbrev pub passed : Answer → Answer → Answer
-passed Accepted r = r
-passed (Refused n x) r = Refused n x
+passed (Ok _) r = r
+passed (Err why) r = Err why
 
 -- ---- one line
 
@@ -39,7 +40,7 @@ bad_line_lem t due l e = go (not_digits l) (not (inside 5 (kind_in l))) (not (eq
     go false false false true e = refl
     go false false false false e = e
 
-refused : (t x : ℕ) (f : Frame) (l : List ℕ) (r : Answer) → bad_line t f.kind l ≡ true → line_answer t x f l r ≡ Refused 12 x
+refused : (t x : ℕ) (f : Frame) (l : List ℕ) (r : Answer) → bad_line t f.kind l ≡ true → line_answer t x f l r ≡ refused_by Malformed x
 unfolding line_answer refuse
 refused t x f l r e = rw e
 
@@ -48,30 +49,30 @@ unfolding refuse
 refuse_passed n x true a r = refl
 refuse_passed n x false a r = refl
 
-accepts : (t x : ℕ) (f : Frame) (l : List ℕ) (r : Answer) → line_answer t x f l r ≡ passed (line_answer t x f l Accepted) r
+accepts : (t x : ℕ) (f : Frame) (l : List ℕ) (r : Answer) → line_answer t x f l r ≡ passed (line_answer t x f l accepted) r
 unfolding line_answer
 accepts t x f l r =
-    let c = refuse_passed 3 x (not_finite_in t f l) Accepted r in
-    let b = refuse_passed 13 x (wrong_frame f l) (refuse 3 x (not_finite_in t f l) Accepted) r in
-    let a = refuse_passed 12 x (bad_line t f.kind l) (refuse 13 x (wrong_frame f l) (refuse 3 x (not_finite_in t f l) Accepted)) r in
-    ap (λ (z : Answer). refuse 12 x (bad_line t f.kind l) (refuse 13 x (wrong_frame f l) z)) c ∙ ap (refuse 12 x (bad_line t f.kind l)) b ∙ a
+    let c = refuse_passed 3 x (not_finite_in t f l) accepted r in
+    let b = refuse_passed 13 x (wrong_frame f l) (refuse NotFinite x (not_finite_in t f l) accepted) r in
+    let a = refuse_passed 12 x (bad_line t f.kind l) (refuse WrongFrame x (wrong_frame f l) (refuse NotFinite x (not_finite_in t f l) accepted)) r in
+    ap (λ (z : Answer). refuse Malformed x (bad_line t f.kind l) (refuse WrongFrame x (wrong_frame f l) z)) c ∙ ap (refuse Malformed x (bad_line t f.kind l)) b ∙ a
 
 -- a line that is bad as the text has it is bad as it is looked at
 due_bad : (t x : ℕ) (f : Frame) (xs : List ℕ) → 0 < length xs → (line_length t f.kind ≤ length xs → not_digits (take (line_length t f.kind) xs) ≡ true)
-    → line_due t x f xs ≡ Refused 12 x
+    → line_due t x f xs ≡ refused_by Malformed x
 unfolding line_due refuse
 due_bad t x f xs h n = rw (ne_eqb (length xs) 0 (λ e. omega arith)) (go (true_or_false (ltb (length xs) L)))
   where
     L : ℕ
     L = line_length t f.kind
 
-    go : (ltb (length xs) L ≡ true) ⊎ (ltb (length xs) L ≡ false) → refuse 12 x (ltb (length xs) L) (line_answer t x f (take L xs) Accepted) ≡ Refused 12 x
+    go : (ltb (length xs) L ≡ true) ⊎ (ltb (length xs) L ≡ false) → refuse Malformed x (ltb (length xs) L) (line_answer t x f (take L xs) accepted) ≡ refused_by Malformed x
     go (inl e) = rw e
     go (inr e) =
         rw e
-        (refused t x f (take L xs) Accepted (bad_line_lem t f.kind (take L xs) (or_left (not_digits (take L xs)) (not (eqb (length (take L xs)) L)) (n (ltb-false (length xs) L e)))))
+        (refused t x f (take L xs) accepted (bad_line_lem t f.kind (take L xs) (or_left (not_digits (take L xs)) (not (eqb (length (take L xs)) L)) (n (ltb-false (length xs) L e)))))
 
-pub due_good : (t x : ℕ) (f : Frame) (xs : List ℕ) → line_length t f.kind ≤ length xs → line_due t x f xs ≡ line_answer t x f (take (line_length t f.kind) xs) Accepted
+pub due_good : (t x : ℕ) (f : Frame) (xs : List ℕ) → line_length t f.kind ≤ length xs → line_due t x f xs ≡ line_answer t x f (take (line_length t f.kind) xs) accepted
 unfolding line_due refuse
 due_good t x f xs h =
     rw (ne_eqb (length xs) 0 (λ e. omega (arith, length_above t f.kind)), le-ltb (length xs) (line_length t f.kind) h)
@@ -102,22 +103,22 @@ module _ (t x : ℕ) (f : Frame) (fs : List Frame) where
 
 -- ---- all lines
 
-extra : (t x : ℕ) (l : List ℕ) (ls : List (List ℕ)) → lines_answer t x [] (l ∷ ls) ≡ refuse 14 x true Accepted
+extra : (t x : ℕ) (l : List ℕ) (ls : List (List ℕ)) → lines_answer t x [] (l ∷ ls) ≡ refuse WrongEnd x true accepted
 unfolding lines_answer refuse
 extra t x l ls = refl
 
-ends : (t x : ℕ) → lines_answer t x [] (lines_from [] []) ≡ refuse 14 x (ltb 0 0) Accepted
+ends : (t x : ℕ) → lines_answer t x [] (lines_from [] []) ≡ refuse WrongEnd x (ltb 0 0) accepted
 unfolding lines_answer lines_from last_line refuse
 ends t x = refl
 
-behind : (t x : ℕ) (xs : List ℕ) → lines_answer t x [] (lines_from [] xs) ≡ refuse 14 x (ltb 0 (length xs)) Accepted
+behind : (t x : ℕ) (xs : List ℕ) → lines_answer t x [] (lines_from [] xs) ≡ refuse WrongEnd x (ltb 0 (length xs)) accepted
 behind t x xs = go (first 1 xs (omega arith))
   where
-    more : (l : List ℕ) (ls : List (List ℕ)) → lines_from [] xs ≡ l ∷ ls → 0 < length xs → lines_answer t x [] (lines_from [] xs) ≡ refuse 14 x (ltb 0 (length xs)) Accepted
-    more l ls e h = ap (lines_answer t x []) e ∙ extra t x l ls ∙ ap (λ (b : Bool). refuse 14 x b Accepted) (sym (lt-ltb 0 (length xs) h))
+    more : (l : List ℕ) (ls : List (List ℕ)) → lines_from [] xs ≡ l ∷ ls → 0 < length xs → lines_answer t x [] (lines_from [] xs) ≡ refuse WrongEnd x (ltb 0 (length xs)) accepted
+    more l ls e h = ap (lines_answer t x []) e ∙ extra t x l ls ∙ ap (λ (b : Bool). refuse WrongEnd x b accepted) (sym (lt-ltb 0 (length xs) h))
 
-    go : First 1 xs → lines_answer t x [] (lines_from [] xs) ≡ refuse 14 x (ltb 0 (length xs)) Accepted
-    go (none e) = subst (λ (ys : List ℕ). lines_answer t x [] (lines_from [] ys) ≡ refuse 14 x (ltb 0 (length ys)) Accepted) (sym e) (ends t x)
+    go : First 1 xs → lines_answer t x [] (lines_from [] xs) ≡ refuse WrongEnd x (ltb 0 (length xs)) accepted
+    go (none e) = subst (λ (ys : List ℕ). lines_answer t x [] (lines_from [] ys) ≡ refuse WrongEnd x (ltb 0 (length ys)) accepted) (sym e) (ends t x)
     go (bad l ls h e b n) = more l ls e h
     go (good h q e) = more (take 1 xs) (lines_from [] (drop 1 xs)) e h
 
@@ -131,7 +132,7 @@ module _ (t : ℕ) (text : List ℕ) where
 
   pub lines_followed : (fs : List Frame) (c : Cursor) → lines_answer t c.line fs (lines_from [] (drop c.at text)) ≡ text_end text (follow t text fs c)
   unfolding follow text_end step_of
-  lines_followed [] c = behind t c.line (drop c.at text) ∙ ap (λ (b : Bool). refuse 14 c.line b Accepted) (at_last c)
+  lines_followed [] c = behind t c.line (drop c.at text) ∙ ap (λ (b : Bool). refuse WrongEnd c.line b accepted) (at_last c)
   lines_followed (f ∷ fs) c = due_line t c.line f fs (drop c.at text) ∙ go (lines_followed fs) (line_due t c.line f (drop c.at text))
     where
       c' : Cursor
@@ -139,5 +140,5 @@ module _ (t : ℕ) (text : List ℕ) where
 
       go : ((c : Cursor) → lines_answer t c.line fs (lines_from [] (drop c.at text)) ≡ text_end text (follow t text fs c)) → (a : Answer)
           → passed a (lines_answer t (suc c.line) fs (lines_from [] (drop (line_length t f.kind) (drop c.at text)))) ≡ text_end text (onward (follow t text fs) (landed a c'))
-      go ih Accepted = rw (drop-drop (line_length t f.kind) c.at text, ← add-one) (ih c')
-      go ih (Refused n x) = refl
+      go ih (Ok _) = rw (drop-drop (line_length t f.kind) c.at text, ← add-one) (ih c')
+      go ih (Err why) = refl

@@ -20,16 +20,9 @@ fn check_row(text: &[u8], c: Cursor, t: usize, kind: Kind, i: usize, count: usiz
 {
     let mut here = c;
     for j in 0..count {
-        match check_line(text, here, t, Due { kind, i, j }) {
-            Step::Next(next) => {
-                here = next;
-            }
-            Step::Stopped(n, x) => {
-                return Step::Stopped(n, x);
-            }
-        }
+        here = check_line(text, here, t, Due { kind, i, j })?;
     }
-    Step::Next(here)
+    Ok(here)
 }
 
 // The lines of all rows of frames of one kind, where row i has width(i) of them.
@@ -50,16 +43,9 @@ fn check_rows<W: Fn(usize) -> usize>(
 {
     let mut here = c;
     for i in 0..tiles {
-        match check_row(text, here, t, kind, i, width(i)) {
-            Step::Next(next) => {
-                here = next;
-            }
-            Step::Stopped(n, x) => {
-                return Step::Stopped(n, x);
-            }
-        }
+        here = check_row(text, here, t, kind, i, width(i))?;
     }
-    Step::Next(here)
+    Ok(here)
 }
 
 // The lines of all tiles, in tile order.

@@ -1,15 +1,21 @@
 -- What the header answers, by the seven bytes that it has. Assumes nothing.
-use Rattle.std.specs.Prelude.{Ok, Err, ℕ, ◌*◌, ◌≡◌, Bool, false, not, ◌||◌, List, [], eqb, ltb, length, take, drop}
-use Rattle.model.specs.Answer.{Answer, ReadAnswer, accepted, refused_by}
-use Rattle.model.specs.declared.Rule.{Rule}
-use Rattle.header_read.specs.Heads.{shape}
+use Rattle.std.specs.Prelude.{Result, Ok, Err, ℕ, ◌*◌, ◌≡◌, Bool, false, not, ◌||◌, List, [], eqb, ltb, length, take, drop}
+use Rattle.model.specs.Answer.{Answer, ReadAnswer, accepted}
+use Rattle.model.specs.declared.Refusal.{Refusal}
 use Rattle.model.specs.declared.Rule.TheVariants.{BadSizes, BadLengths, Malformed, WrongFrame, WrongEnd}
 use Rattle.model.specs.declared.FileRead.TheVariants.{SystemRead}
 use Rattle.model.specs.Refusal.{refuse, ◌otherwise◌}
 use Rattle.model.specs.Text.{bad_shape}
 use Rattle.model.specs.Read.{Frame, kind_in, tiles_in, side_in, lines_from, lines_answer, file_answer, system_reading, no_limit}
 use Rattle.lines_read.specs.Line.{malformed}
-use Rattle.header_read.specs.Heads.{Header}
+use Rattle.header_read.specs.declared.Shape.{Shape}
+
+-- N and t of an accepted header, or its refusal
+abbrev pub Header : Type 0
+Header = Result Shape Refusal
+
+abbrev pub shape : ℕ → ℕ → Shape
+shape N t = record { tiles = N; side = t }
 
 -- the first line of a text, as far as it is looked at
 abbrev pub header_line : List ℕ → List ℕ
@@ -41,12 +47,12 @@ sizes_in text = let ls = take 1 (lines_from [] text) in (system_reading (file_an
 
 -- the same answer as a header has it
 abbrev pub sizes_told : Header → ReadAnswer
-sizes_told (Ok (shape N t)) = Ok (SystemRead N t)
+sizes_told (Ok h) = Ok (SystemRead h.tiles h.side)
 sizes_told (Err why) = Err why
 
 -- What line 1 told as r says of every reading of the text, whatever frames are due and lengths are lent: where it is refused, the reading is
 -- refused alike; else lengths are judged by the N and t told, and then the lines after it
 pub record Foretells (text : List ℕ) (r : ReadAnswer) : Type 0 where
-  pub refused : (n : Rule) (x : ℕ) → r ≡ refused_by n x → (frames : ℕ → List Frame) (lengths : ℕ → ℕ → Bool) → file_answer no_limit frames lengths (lines_from [] text) ≡ refused_by n x
+  pub refused : (why : Refusal) → r ≡ Err why → (frames : ℕ → List Frame) (lengths : ℕ → ℕ → Bool) → file_answer no_limit frames lengths (lines_from [] text) ≡ Err why
   pub sized : (N t : ℕ) → r ≡ Ok (SystemRead N t) → (frames : ℕ → List Frame) (lengths : ℕ → ℕ → Bool)
       → file_answer no_limit frames lengths (lines_from [] text) ≡ refuse BadLengths 0 (lengths N t) (lines_answer t 2 (frames N) (lines_from [] (drop 7 text)))

@@ -7,15 +7,18 @@ ghost use Rattle.header_read.specs.Heads.{header_of, sizes_in, Foretells};
 
 use digits_read::field_at;
 use lines_read::is_malformed;
-use model::{MOST_ORDER, ReadAnswer};
+use model::{FileRead, MOST_ORDER, ReadAnswer, Refusal, Rule};
 use shapes::bad_shape;
 
-// N and t of an accepted header, or a refusal's number and place.
-#[derive(Clone, Copy)]
-pub enum Header {
-    Shape(usize, usize),
-    Unread(u8, usize),
+// N and t.
+#[derive(Clone, Copy, Debug, PartialEq, Eq)]
+pub struct Shape {
+    pub tiles: usize,
+    pub side: usize,
 }
+
+// N and t of an accepted header, or its refusal.
+pub type Header = Result<Shape, Refusal>;
 
 // 1: N or t outside its range, or n above the limit.
 fn refused_shape(tiles: usize, side: usize, limit: usize) -> bool
@@ -31,7 +34,7 @@ fn refused_shape(tiles: usize, side: usize, limit: usize) -> bool
 pub fn check_header(text: &[u8], limit: usize) -> Header
     ensures { result ≡ header_of limit text.now }
 {
-    if text.len() == 0 {
+    if text.is_empty() {
         return Err(Rule::WrongEnd.at(1));
     }
     if text.len() < 7 {
@@ -57,8 +60,6 @@ pub fn read_sizes(text: &[u8]) -> ReadAnswer
     ensures value { result ≡ sizes_in text.now }
     ensures foretells { Foretells text.now result }
 {
-    match check_header(text, MOST_ORDER) {
-        Ok(Shape { tiles, side }) => Ok(FileRead::SystemRead(tiles, side)),
-        Err(why) => Err(why),
-    }
+    let shape = check_header(text, MOST_ORDER)?;
+    Ok(FileRead::SystemRead(shape.tiles, shape.side))
 }

@@ -5,7 +5,7 @@ ghost use Rattle.std.specs.Prelude.{◌≡◌, List, ℕ, ◌≤◌, take};
 ghost use Rattle.model.specs.Read.{program};
 ghost use Rattle.input_due.specs.Due.{bytes_due};
 
-use header_read::{Header, check_header};
+use header_read::{Shape, check_header};
 use model::PROGRAM_ORDER;
 
 // How many bytes decide what the program prints, told from the first 7, or from all where there are fewer: what comes after them plays no

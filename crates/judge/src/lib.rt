@@ -3,7 +3,7 @@
 
 ghost use Rattle.std.specs.Prelude.{◌≤◌, length};
 
-use header_read::{Header, check_header};
+use header_read::{Shape, check_header};
 use host_answers::{ReadTold, tell_read};
 use model::MOST_ORDER;
 use result_file::read_result;

@@ -12,7 +12,8 @@ use borrow.Author.Tests.{eq-eqb, ne_eqb, lt-ltb, le-ltb, le-leb, lt-leb, not-fal
 use Rattle.laws.proofs.Tests.{and_left}
 use Rattle.laws.proofs.Every.{every_at}
 use Rattle.model.specs.Lists.{every, some}
-use Rattle.model.specs.declared.Answer.TheVariants.{Accepted, Refused}
+use Rattle.model.specs.Answer.{accepted, refused_by}
+use Rattle.model.specs.declared.Rule.TheVariants.{NotFinite, Malformed, WrongFrame}
 use Rattle.model.specs.Tile.{all_finite}
 use Rattle.model.specs.Refusal.{inside, refuse}
 use Rattle.model.specs.Read.{Frame, is_digit, field, kind_in, line_length, entries_in, numbers_in, not_digits, bad_content, bad_line, wrong_frame, not_finite_in, line_answer}
@@ -179,21 +180,21 @@ tile_finite t f l b e h = rw (eq-eqb f.kind 2 e) (ap not h)
 -- ---- the three in turn
 
 module _ (t x : ℕ) (f : Frame) (l : List ℕ) (size : length l ≡ line_length t f.kind) where
-  pub answer_12 : malformed t l ≡ true → Refused 12 x ≡ line_answer t x f l Accepted
+  pub answer_12 : malformed t l ≡ true → refused_by Malformed x ≡ line_answer t x f l accepted
   unfolding line_answer refuse
   answer_12 a = rw (as_malformed t f.kind l size, a)
 
   module _ (a : malformed t l ≡ false) where
-    pub answer_13 : wrong_frame f l ≡ true → Refused 13 x ≡ line_answer t x f l Accepted
+    pub answer_13 : wrong_frame f l ≡ true → refused_by WrongFrame x ≡ line_answer t x f l accepted
     unfolding line_answer refuse
     answer_13 b = rw (as_malformed t f.kind l size, a, b)
 
     module _ (b : wrong_frame f l ≡ false) where
-      pub answer_3 : not_finite_in t f l ≡ true → Refused 3 x ≡ line_answer t x f l Accepted
+      pub answer_3 : not_finite_in t f l ≡ true → refused_by NotFinite x ≡ line_answer t x f l accepted
       unfolding line_answer refuse
       answer_3 d = rw (as_malformed t f.kind l size, a, b, d)
 
-      pub answer_accepted : not_finite_in t f l ≡ false → Accepted ≡ line_answer t x f l Accepted
+      pub answer_accepted : not_finite_in t f l ≡ false → accepted ≡ line_answer t x f l accepted
       unfolding line_answer refuse
       answer_accepted d = rw (as_malformed t f.kind l size, a, b, d)
 

@@ -2,13 +2,14 @@
 #![tactic(auto)]
 
 ghost use Rattle.std.specs.Prelude.{◌≡◌, ◌+◌, ◌*◌, ◌≤◌, length};
-ghost use Rattle.model.specs.declared.Answer.TheVariants.{Accepted};
+ghost use Rattle.model.specs.declared.Refusal.{Refusal};
+ghost use Rattle.model.specs.Answer.{accepted};
 ghost use Rattle.model.specs.Limits.{most_side};
 ghost use Rattle.model.specs.Read.{not_digits, wrong_frame, not_finite_in, line_length, line_answer};
 ghost use Rattle.lines_read.specs.Line.{LineOfDigits, kind_number, frame_of, malformed, bad_entries, bad_outcome};
 
 use digits_read::{all_digits, field_at, finite_at};
-use model::Answer;
+use model::{Answer, Rule};
 
 // The kinds of frames.
 #[derive(Clone, Copy, PartialEq, Eq, Debug)]
@@ -136,16 +137,16 @@ fn not_finite(line: &[u8], t: usize, due: Due) -> bool
 pub fn line_answer(line: &[u8], x: usize, t: usize, due: Due) -> Answer
     requires line_len { length line.now ≡ line_length t (kind_number due.kind) }
     requires t_le_most_side { t ≤ most_side }
-    ensures { result ≡ line_answer t x (frame_of due) line.now Accepted }
+    ensures { result ≡ line_answer t x (frame_of due) line.now accepted }
 {
     if is_malformed(line, t) {
-        return Answer::Refused(12, x);
+        return Err(Rule::Malformed.at(x));
     }
     if wrong_frame(line, due) {
-        return Answer::Refused(13, x);
+        return Err(Rule::WrongFrame.at(x));
     }
     if not_finite(line, t, due) {
-        return Answer::Refused(3, x);
+        return Err(Rule::NotFinite.at(x));
     }
-    Answer::Accepted
+    Ok(())
 }

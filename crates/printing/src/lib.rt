@@ -5,7 +5,7 @@ ghost use Rattle.std.specs.Prelude.{◌≡◌, ◌≤◌, length};
 ghost use Rattle.model.specs.Read.{program};
 ghost use Rattle.system_printed.specs.Print.{print_result};
 
-use model::{PROGRAM_ORDER, ReadAnswer, WriteAnswer};
+use model::{FileRead, PROGRAM_ORDER, WriteAnswer};
 use refusal_written::write_refusal;
 use system_checked::check_system;
 use system_printed::print_system;
@@ -18,8 +18,8 @@ pub fn print_result(text: &[u8], out: &mut [u8]) -> WriteAnswer
 {
     match check_system(text, PROGRAM_ORDER) {
         Ok(FileRead::SystemRead(tiles, side)) => print_system(text, tiles, side, out),
-        ReadAnswer::ReadRefused(n, x) => write_refusal(n, x, out),
         // A system's check never answers this.
-        Ok(FileRead::ResultRead(tiles, side, _)) => write_refusal(12, 1, out),
+        Ok(FileRead::ResultRead(_, _, _)) => write_refusal(12, 1, out),
+        Err(why) => write_refusal(why.rule.number(), why.place, out),
     }
 }

@@ -16,20 +16,12 @@ pub fn check_result_lines(text: &[u8], tiles: usize, side: usize) -> Step
     requires { (7 ≤ length text.now) × (side ≤ most_side) }
     ensures { result ≡ follow side text.now (result_frames tiles) start }
 {
-    match check_tiles(text, Cursor { at: 7, line: 2 }, tiles, side) {
-        Step::Next(c) => match check_lists(text, c, tiles, side) {
-            Step::Next(d) => check_line(
-                text,
-                d,
-                side,
-                Due {
-                    kind: Kind::Outcome,
-                    i: 0,
-                    j: 0,
-                },
-            ),
-            Err(why) => Err(why),
-        },
-        Err(why) => Err(why),
-    }
+    let tiles_end = check_tiles(text, Cursor { at: 7, line: 2 }, tiles, side)?;
+    let lists_end = check_lists(text, tiles_end, tiles, side)?;
+    let due = Due {
+        kind: Kind::Outcome,
+        i: 0,
+        j: 0,
+    };
+    check_line(text, lists_end, side, due)
 }

@@ -5,8 +5,8 @@ ghost use Rattle.std.specs.Prelude.{◌≡◌};
 ghost use Rattle.model.specs.Read.{no_limit, read_result};
 ghost use Rattle.system_checked.specs.Files.{Headed};
 
-use header_read::{Header, check_header};
-use model::{Answer, MOST_ORDER, ReadAnswer};
+use header_read::check_header;
+use model::{MOST_ORDER, ReadAnswer, Rule};
 use result_checked::check_result_lines;
 use result_loaded::load_result;
 use system_checked::text_end;
@@ -29,18 +29,14 @@ fn read_result_lines(
     if lists.len() != tiles * order {
         return Err(Rule::BadLengths.at(0));
     }
-    match text_end(text, check_result_lines(text, tiles, side)) {
-        Err(why) => Err(why),
-        Ok(()) => load_result(text, tiles, side, matrix, lists),
-    }
+    text_end(text, check_result_lines(text, tiles, side))?;
+    load_result(text, tiles, side, matrix, lists)
 }
 
 // Reads a result file into the lent matrix and lists, and tells N, t and the outcome. A refusal changes nothing.
 pub fn read_result(text: &[u8], matrix: &mut [f64], lists: &mut [u8]) -> ReadAnswer
     ensures { record { answer = result; matrix = matrix.new; lists = lists.new } ≡ read_result text.now matrix.old lists.old }
 {
-    match check_header(text, MOST_ORDER) {
-        Ok(Shape { tiles, side }) => read_result_lines(text, tiles, side, matrix, lists),
-        Err(why) => Err(why),
-    }
+    let shape = check_header(text, MOST_ORDER)?;
+    read_result_lines(text, shape.tiles, shape.side, matrix, lists)
 }

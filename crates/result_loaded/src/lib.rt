@@ -5,7 +5,7 @@ ghost use Rattle.std.specs.Prelude.{◌≡◌, ◌*◌, length};
 ghost use Rattle.result_loaded.specs.Results.{ResultLines, loaded_result};
 
 use entries_read::load_lists;
-use model::ReadAnswer;
+use model::{FileRead, ReadAnswer};
 use numbers_read::load_tiles;
 use outcome_read::outcome_at;
 

@@ -9,23 +9,18 @@ ghost use Rattle.system_checked.specs.Files.{start, checked_system};
 
 use cursors::{Cursor, Step};
 use frames_read::check_tiles;
-use header_read::{Header, check_header};
-use model::{Answer, ReadAnswer};
+use header_read::check_header;
+use model::{Answer, FileRead, ReadAnswer, Rule};
 
 // 14 where text comes after the last frame, and else what the frames answered.
 pub fn text_end(text: &[u8], step: Step) -> Answer
     ensures { result ≡ text_end text.now step }
 {
-    match step {
-        Step::Next(c) => {
-            let at = c.at;
-            if at < text.len() {
-                return Err(Rule::WrongEnd.at(c.line));
-            }
-            Ok(())
-        }
-        Err(why) => Err(why),
+    let end = step?;
+    if end.at < text.len() {
+        return Err(Rule::WrongEnd.at(end.line));
     }
+    Ok(())
 }
 
 // The lines of a system after an accepted header.
@@ -43,11 +38,7 @@ pub fn check_system_lines(text: &[u8], tiles: usize, side: usize) -> Answer
 pub fn check_system(text: &[u8], limit: usize) -> ReadAnswer
     ensures { result ≡ checked_system limit text.now }
 {
-    match check_header(text, limit) {
-        Ok(Shape { tiles, side }) => match check_system_lines(text, tiles, side) {
-            Ok(()) => Ok(FileRead::SystemRead(tiles, side)),
-            Err(why) => Err(why),
-        },
-        Err(why) => Err(why),
-    }
+    let shape = check_header(text, limit)?;
+    check_system_lines(text, shape.tiles, shape.side)?;
+    Ok(FileRead::SystemRead(shape.tiles, shape.side))
 }

@@ -5,8 +5,8 @@ ghost use Rattle.std.specs.Prelude.{◌≡◌};
 ghost use Rattle.model.specs.Read.{no_limit, read_system};
 ghost use Rattle.system_checked.specs.Files.{Headed};
 
-use header_read::{Header, check_header};
-use model::{Answer, MOST_ORDER, ReadAnswer};
+use header_read::check_header;
+use model::{FileRead, MOST_ORDER, ReadAnswer, Rule};
 use numbers_read::load_tiles;
 use system_checked::check_system_lines;
 
@@ -19,21 +19,15 @@ fn read_system_lines(text: &[u8], tiles: usize, side: usize, matrix: &mut [f64])
     if matrix.len() != order * order {
         return Err(Rule::BadLengths.at(0));
     }
-    match check_system_lines(text, tiles, side) {
-        Err(why) => Err(why),
-        Ok(()) => {
-            load_tiles(text, 7, side * side, tiles * tiles, matrix);
-            Ok(FileRead::SystemRead(tiles, side))
-        }
-    }
+    check_system_lines(text, tiles, side)?;
+    load_tiles(text, 7, side * side, tiles * tiles, matrix);
+    Ok(FileRead::SystemRead(tiles, side))
 }
 
 // Reads a system file into the lent matrix, and tells N and t. A refusal changes nothing.
 pub fn read_system(text: &[u8], matrix: &mut [f64]) -> ReadAnswer
     ensures { record { answer = result; matrix = matrix.new } ≡ read_system text.now matrix.old }
 {
-    match check_header(text, MOST_ORDER) {
-        Ok(Shape { tiles, side }) => read_system_lines(text, tiles, side, matrix),
-        Err(why) => Err(why),
-    }
+    let shape = check_header(text, MOST_ORDER)?;
+    read_system_lines(text, shape.tiles, shape.side, matrix)
 }

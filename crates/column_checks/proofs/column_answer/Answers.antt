@@ -1,5 +1,6 @@
 -- The shared refusals, then the worker, then the tiles of its task. Assumes nothing.
-use Rattle.answers.proofs.Refusals.{passed_on, accepts_ok, accepts_err}
+use Rattle.laws.proofs.Refusals.{passed_on}
+use Rattle.answers.proofs.Refusals.{accepts_ok, accepts_err}
 use Rattle.std.specs.Prelude.{Err}
 use mathlib.Core.Path.{sym, ap, ◌∙◌, subst, refl}
 use mathlib.Core.Bool.{not}

@@ -1,5 +1,6 @@
 -- The answer is the first refusal that holds. Assumes nothing.
-use Rattle.answers.proofs.Refusals.{passed_on, accepts_ok, accepts_err}
+use Rattle.laws.proofs.Refusals.{passed_on}
+use Rattle.answers.proofs.Refusals.{accepts_ok, accepts_err}
 use Rattle.std.specs.Prelude.{Err}
 use mathlib.Core.Path.{refl, sym, ap, ◌∙◌}
 use Rattle.run_checks.proofs.Laws.{state_stops, element_stops, all_pass}

@@ -4,7 +4,7 @@ use borrow.Author.Rules.{rules}
 use Rattle.model.specs.Answer.{Answer}
 use Rattle.model.specs.Solve.{Answers}
 use Rattle.records.specs.Records.{lent}
-use Rattle.answers.proofs.Refusals.{passed_on}
+use Rattle.laws.proofs.Refusals.{passed_on}
 use Rattle.solving.proofs.Laws.{checked, refused, accepted_lem}
 use Rattle.solving.proofs.solve.Goals as goal
 

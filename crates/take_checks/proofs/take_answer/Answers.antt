@@ -2,7 +2,8 @@
 use mathlib.Core.Path.{refl, sym, ap, ◌∙◌}
 use native.Mathlib.Omega.{arith}
 use Rattle.std.specs.Prelude.{Err}
-use Rattle.answers.proofs.Refusals.{passed_on, accepts_ok, accepts_err}
+use Rattle.laws.proofs.Refusals.{passed_on}
+use Rattle.answers.proofs.Refusals.{accepts_ok, accepts_err}
 use Rattle.call_laws.proofs.Undamaged.{recorded}
 use Rattle.take_checks.proofs.Laws.{state_stops, is_sound, no_worker_lem, busy_worker, no_task, not_ready, is_ready}
 use Rattle.take_checks.proofs.take_answer.Goals as goal
