@@ -10,7 +10,7 @@ ghost use Rattle.column_laws.specs.Workable.{Workable};
 use apply_blocks::apply_rows;
 use block_starts::start_block;
 use column_ends::column_end;
-use fills::fill_numbers;
+use fills::fill_part;
 use model::{ColumnEnd, Sizes};
 use places::{list_start, tile_start};
 
@@ -36,6 +36,6 @@ pub fn apply_column(
     if apply_rows(matrix, t, f, a, c) {
         return column_end(t, c, 0);
     }
-    fill_numbers(matrix, a, t * t);
+    fill_part(matrix, a, t * t, 0.0);
     ColumnEnd::Failed
 }

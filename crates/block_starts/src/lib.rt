@@ -8,7 +8,6 @@ ghost use Rattle.model.specs.Column.{permuted, apply_start};
 ghost use Rattle.column_laws.specs.Room.{Block};
 
 use exchanges::exchange;
-use places::wide;
 
 // Makes all exchanges of the list that starts at p, in order, in the block at a.
 fn permute(m: &mut [f64], lists: &[u8], t: usize, w: usize, a: usize, p: usize)
@@ -16,11 +15,9 @@ fn permute(m: &mut [f64], lists: &[u8], t: usize, w: usize, a: usize, p: usize)
     requires t_in_bounds { (p + t ≤ length lists.now) × (length lists.now ≤ 65536) × ((x : ℕ) → x < t → get_or lists.now (p + x) 0 < t) }
     ensures { m.new ≡ with_part a (t * w) (permuted t w (part p t lists.now) (part a (t * w) m.old)) m.old }
 {
-    let mut c = 0;
-    while c < t {
-        let y = wide(lists[p + c]);
+    for c in 0..t {
+        let y = usize::from(lists[p + c]);
         exchange(m, a + c * w, a + y * w, w);
-        c += 1;
     }
 }
 

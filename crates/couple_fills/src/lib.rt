@@ -6,7 +6,7 @@ ghost use Rattle.model.specs.Limits.{most_side};
 ghost use Rattle.model.specs.Lists.{part, with_part};
 ghost use Rattle.model.specs.Tile.{zeros, upper_filled};
 
-use fills::{fill_entries, fill_numbers};
+use fills::fill_part;
 use upper_fills::fill_upper;
 
 // Fills the lower tile at d, the upper part of the tile at u, and the list at p.
@@ -16,7 +16,7 @@ pub fn fill_coupled(matrix: &mut [f64], lists: &mut [u8], t: usize, u: usize, d:
         (with_part d (t * t) (zeros (t * t)) matrix.old) }
     ensures lists_after { lists.new ≡ with_part p t (replicate t 0) lists.old }
 {
-    fill_numbers(matrix, d, t * t);
+    fill_part(matrix, d, t * t, 0.0);
     fill_upper(matrix, u, t);
-    fill_entries(lists, p, t);
+    fill_part(lists, p, t, 0);
 }

@@ -1,14 +1,15 @@
 -- What the loop of an exchange has done, and that this is the exchange of the two parts. Assumes nothing.
-use mathlib.Core.Path.{◌≡◌, refl, sym, ap, ◌∙◌, subst}
+use mathlib.Core.Path.{◌≡◌, refl, sym, ◌∙◌, subst}
 use mathlib.Core.Logic.{◌⊎◌, inl, inr, ⊎_elim, ◌≢◌}
 use mathlib.Core.List.{List}
 use Prim.Native.Nat.{ℕ, ◌+◌, ◌-◌, ◌≤◌, ◌<◌}
 use native.Mathlib.Omega.{arith}
-use lib.ListN.{length, get_or, set, length-set}
-use lib.Seq.{get_or-set_same, get_or-set_other}
+use lib.ListN.{length, get_or}
 use lib.Ieee.{Float, nan}
+use Rattle.std.specs.List.{swap}
+use Rattle.std.proofs.lemmas.List.Edits.{Swapped as Exchanged, length-swap, swapped_from_swap}
 use Rattle.model.specs.Lists.{part, with_part}
-use Rattle.laws.proofs.Tests.{same_or_not, lt_or_le}
+use Rattle.laws.proofs.Tests.{lt_or_le}
 use Rattle.laws.specs.Apart.{Apart}
 use Rattle.laws.proofs.Parts.{Fits, length_put, get_in, get_before, get_after, length_part, get_part}
 use Rattle.exchanges.specs.Exchanged.{exchanged_parts}
@@ -20,9 +21,6 @@ pub record Swapped (a b k : ℕ) (before after : List Float) : Type 0 where
   pub in_a : (j : ℕ) → j < k → get_or after (a + j) nan ≡ get_or before (b + j) nan
   pub in_b : (j : ℕ) → j < k → get_or after (b + j) nan ≡ get_or before (a + j) nan
   pub other : (x : ℕ) → Outside a k x → Outside b k x → get_or after x nan ≡ get_or before x nan
-
-pub swapped_none : (a b : ℕ) (m : List Float) → Swapped a b 0 m m
-swapped_none a b m = record { long = refl; in_a = λ j h. absurd (omega arith); in_b = λ j h. absurd (omega arith); other = λ x p q. refl }
 
 module _ (n a b : ℕ) (apart : (a ≡ b) ⊎ Apart n a b) where
   -- places that differ in their parts
@@ -38,7 +36,7 @@ module _ (n a b : ℕ) (apart : (a ≡ b) ⊎ Apart n a b) where
 
   module _ (k : ℕ) (before after : List Float) (s : Swapped a b k before after) (h : k < n) (room-a : a + n ≤ length before) (room-b : b + n ≤ length before) where
     abbrev turned : List Float
-    turned = set (set after (a + k) (get_or after (b + k) nan)) (b + k) (get_or after (a + k) nan)
+    turned = swap after (a + k) (b + k)
 
     old_a : get_or after (a + k) nan ≡ get_or before (a + k) nan
     old_a = s.other (a + k) (inr (omega arith)) (beside k h)
@@ -46,29 +44,17 @@ module _ (n a b : ℕ) (apart : (a ≡ b) ⊎ Apart n a b) where
     old_b : get_or after (b + k) nan ≡ get_or before (b + k) nan
     old_b = s.other (b + k) (beside' k h) (inr (omega arith))
 
-    in_first : a + k < length after
-    in_first = omega (arith, s.long)
-
-    in_second : b + k < length (set after (a + k) (get_or after (b + k) nan))
-    in_second = rw length-set (omega (arith, s.long))
+    exchanged : Exchanged (λ i. get_or after i nan) (λ i. get_or turned i nan) (a + k) (b + k)
+    exchanged = swapped_from_swap after turned (a + k) (b + k) nan (omega (arith, s.long)) (omega (arith, s.long)) refl
 
     elsewhere : (x : ℕ) → x ≢ a + k → x ≢ b + k → get_or turned x nan ≡ get_or after x nan
-    elsewhere x p q =
-        get_or-set_other (set after (a + k) (get_or after (b + k) nan)) (b + k) x (get_or after (a + k) nan) nan q
-        ∙ get_or-set_other after (a + k) x (get_or after (b + k) nan) nan p
+    elsewhere = exchanged.2
 
     here_b : get_or turned (b + k) nan ≡ get_or before (a + k) nan
-    here_b = get_or-set_same (set after (a + k) (get_or after (b + k) nan)) (b + k) (get_or after (a + k) nan) nan in_second ∙ old_a
+    here_b = exchanged.1 ∙ old_a
 
     here_a : get_or turned (a + k) nan ≡ get_or before (b + k) nan
-    here_a =
-        ⊎_elim
-        (λ q. let e : a + k ≡ b + k = omega arith in ap (λ (z : ℕ). get_or turned z nan) e ∙ here_b ∙ ap (λ (z : ℕ). get_or before z nan) e)
-        (λ q.
-        get_or-set_other (set after (a + k) (get_or after (b + k) nan)) (b + k) (a + k) (get_or after (a + k) nan) nan q
-        ∙ get_or-set_same after (a + k) (get_or after (b + k) nan) nan in_first
-        ∙ old_b)
-        (same_or_not (a + k) (b + k))
+    here_a = exchanged.0 ∙ old_b
 
     up_to : (P : ℕ → Type 0) → P k → ((j : ℕ) → j < k → P j) → (j : ℕ) → j < k + 1 → P j
     up_to P here all j l = ⊎_elim (λ g. all j g) (λ g. subst P (omega arith) here) (lt_or_le j k)
@@ -76,7 +62,7 @@ module _ (n a b : ℕ) (apart : (a ≡ b) ⊎ Apart n a b) where
     -- one pair more
     pub swapped_more : Swapped a b (k + 1) before turned
     swapped_more = record {
-      long = simp length-set s.long;
+      long = simp length-swap s.long;
       in_a = up_to (λ (j : ℕ). get_or turned (a + j) nan ≡ get_or before (b + j) nan) here_a
           (λ j l. elsewhere (a + j) (λ e. absurd (omega arith)) (differ j k (omega arith) h (λ e. absurd (omega arith))) ∙ s.in_a j l);
       in_b = up_to (λ (j : ℕ). get_or turned (b + j) nan ≡ get_or before (a + j) nan) here_b

@@ -10,13 +10,9 @@ pub fn exchange(m: &mut [f64], a: usize, b: usize, n: usize)
     requires { (a + n ≤ length m.old) × (b + n ≤ length m.old) × ((a ≡ b) ⊎ Apart n a b) }
     ensures { m.new ≡ exchanged_parts a b n m.old }
 {
-    let mut i = 0;
-    while i < n {
+    for i in 0..n {
         let p = a + i;
         let q = b + i;
-        let x = m[p];
-        m[p] = m[q];
-        m[q] = x;
-        i += 1;
+        m.swap(p, q);
     }
 }

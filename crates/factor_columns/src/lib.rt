@@ -9,7 +9,7 @@ ghost use Rattle.column_laws.specs.Workable.{Workable};
 
 use column_ends::column_end;
 use factor_tiles::factor_rows;
-use fills::{fill_entries, fill_numbers};
+use fills::fill_part;
 use model::{ColumnEnd, Sizes};
 use pivots::factor_pivot;
 use places::{list_start, tile_start};
@@ -40,7 +40,7 @@ pub fn factor_column(
     if factor_rows(matrix, t, a, c, y) {
         return column_end(t, c, found.ties);
     }
-    fill_numbers(matrix, a, t * t);
-    fill_entries(lists, p, t);
+    fill_part(matrix, a, t * t, 0.0);
+    fill_part(lists, p, t, 0);
     ColumnEnd::Failed
 }

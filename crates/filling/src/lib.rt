@@ -8,7 +8,7 @@ ghost use Rattle.model.specs.Plan.{plan_of};
 ghost use Rattle.model.specs.Buffer.{tile, put_tile, put_rows, filled};
 ghost use Rattle.checks.specs.Checks.{Sized, Inside, task_from};
 
-use fills::{fill_entries, fill_numbers};
+use fills::fill_part;
 use model::{Sizes, TaskRecord};
 use places::{list_start, tile_start};
 use upper_fills::fill_upper;
@@ -20,7 +20,7 @@ fn fill_tile(z: Sizes, matrix: &mut [f64], i: usize, j: usize)
 {
     let t = z.side;
     let start = tile_start(z.tiles, t, i, j);
-    fill_numbers(matrix, start, t * t);
+    fill_part(matrix, start, t * t, 0.0);
 }
 
 // Fills the diagonal of tile (k,k), and all above it.
@@ -40,7 +40,7 @@ fn fill_list(z: Sizes, lists: &mut [u8], i: usize, j: usize)
 {
     let t = z.side;
     let start = list_start(z.tiles, t, i, j);
-    fill_entries(lists, start, t);
+    fill_part(lists, start, t, 0);
 }
 
 // Fills what the task writes.
@@ -49,24 +49,23 @@ pub fn fill_task(z: Sizes, matrix: &mut [f64], lists: &mut [u8], task: TaskRecor
     ensures { record { matrix = matrix.new; lists = lists.new }
         ≡ filled (plan_of z) (task_from task) (record { matrix = matrix.old; lists = lists.old }) }
 {
-    let k = task.k as usize;
-    let i = task.i as usize;
-    let j = task.j as usize;
-    if task.kind == 1 {
-        fill_tile(z, matrix, k, k);
-        fill_list(z, lists, k, k);
-        return;
+    let k = usize::from(task.k);
+    let i = usize::from(task.i);
+    let j = usize::from(task.j);
+    match task.kind {
+        1 => {
+            fill_tile(z, matrix, k, k);
+            fill_list(z, lists, k, k);
+        }
+        2 => fill_tile(z, matrix, k, j),
+        3 => {
+            fill_tile(z, matrix, i, k);
+            fill_upper_part(z, matrix, k);
+            fill_list(z, lists, i, k);
+        }
+        _ => {
+            fill_tile(z, matrix, i, j);
+            fill_tile(z, matrix, k, j);
+        }
     }
-    if task.kind == 2 {
-        fill_tile(z, matrix, k, j);
-        return;
-    }
-    if task.kind == 3 {
-        fill_tile(z, matrix, i, k);
-        fill_upper_part(z, matrix, k);
-        fill_list(z, lists, i, k);
-        return;
-    }
-    fill_tile(z, matrix, i, j);
-    fill_tile(z, matrix, k, j);
 }

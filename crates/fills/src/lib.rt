@@ -1,30 +1,14 @@
-// Filling parts of the lent slices with +0 and 0.
+// Filling parts of the lent slices with one value.
 #![tactic(auto)]
 
 ghost use Rattle.std.specs.Prelude.{◌≡◌, ◌+◌, ◌≤◌, length, replicate};
 ghost use Rattle.model.specs.Lists.{with_part};
-ghost use Rattle.model.specs.Tile.{zeros};
 
-// Sets the n numbers from start on to +0.
-pub fn fill_numbers(m: &mut [f64], start: usize, n: usize)
-    requires { start + n ≤ length m.old }
-    ensures { m.new ≡ with_part start n (zeros n) m.old }
+// Sets the n elements from start on to x. A copy of x is x, as of every number.
+pub fn fill_part<T: Copy>(slice: &mut [T], start: usize, n: usize, x: T)
+    requires part_in_bounds { start + n ≤ length slice.old }
+    requires copy_is_x { T.is_infallible x × ((y : T) → T.is_clone x y → y ≡ x) }
+    ensures { slice.new ≡ with_part start n (replicate n x) slice.old }
 {
-    let mut i = 0;
-    while i < n {
-        m[start + i] = 0.0;
-        i += 1;
-    }
-}
-
-// Sets the n entries from start on to 0.
-pub fn fill_entries(lists: &mut [u8], start: usize, n: usize)
-    requires { start + n ≤ length lists.old }
-    ensures { lists.new ≡ with_part start n (replicate n 0) lists.old }
-{
-    let mut i = 0;
-    while i < n {
-        lists[start + i] = 0;
-        i += 1;
-    }
+    slice[start..start + n].fill(x);
 }

@@ -2,16 +2,14 @@
 use Prim.Native.Nat.{ℕ, ◌*◌}
 use mathlib.Core.Bool.{Bool, true, false}
 use mathlib.Core.Path.{◌≡◌, sym, ap, ◌∙◌}
-use mathlib.Core.List.{List, ◌++◌, map, append-nil}
+use mathlib.Core.List.{List, map}
 use lib.Ieee.{Float}
 use lib.ListN.{length, replicate}
-use lib.Seq.{drop-length}
 use Rattle.model.specs.declared.Sizes.{Sizes}
 use Rattle.worker.specs.declared.Worker.{Worker}
 use Rattle.model.specs.Answer.{Answer, accepted}
 use Rattle.model.specs.declared.Rule.TheVariants.{BadSizes, BadLengths}
 use Rattle.model.specs.Lengths.{LentFits}
-use Rattle.model.specs.Lists.{with_part}
 use Rattle.model.specs.Task.{tasks}
 use Rattle.model.specs.Plan.{plan, plan_of}
 use Rattle.model.specs.Loops.{start}
@@ -50,14 +48,13 @@ module _ (z : Sizes) (m : List Float) (l : List ℕ) (r : List (List ℕ)) (ws :
       pub checked_then : Checked
       checked_then = checked (sym e ∙ is_accepted a b f q)
 
-      filled_whole : (n : ℕ) (new : List ℕ) → n ≡ length l → new ≡ with_part 0 n (replicate n 0) l → new ≡ replicate (z.tiles * z.tiles * z.side) 0
-      filled_whole n new h g =
-          g ∙ rw h (ap (λ k. replicate (length l) 0 ++ k) (drop-length l) ∙ append-nil (replicate (length l) 0) ∙ ap (λ k. replicate k 0) checked_then.fit.buffers.lists_fit)
+      filled_whole : (new : List ℕ) → new ≡ replicate (length l) 0 → new ≡ replicate (z.tiles * z.tiles * z.side) 0
+      filled_whole new g = g ∙ ap (λ k. replicate k 0) checked_then.fit.buffers.lists_fit
 
-      pub accepted_lem : (n : ℕ) (l' : List ℕ) (r' : List (List ℕ)) (ws' : List Worker) (count' number' : ℕ) → n ≡ length l → l' ≡ with_part 0 n (replicate n 0) l
+      pub accepted_lem : (l' : List ℕ) (r' : List (List ℕ)) (ws' : List Worker) (count' number' : ℕ) → l' ≡ replicate (length l) 0
           → records_from r' ≡ map record_of (tasks z.tiles) → crew ws' count' ≡ replicate count idle → number' ≡ 0
           → ◌≡◌ {A = Reply} (record { answer = a; left = lent m l' r' ws' count' number' }) (open_call z old)
       unfolding open_call open_answer replied lent opened start plan
-      accepted_lem n l' r' ws' count' number' h g i j o =
-          (λ t. record { answer = is_accepted a b f q t; left = record { buffers = record { matrix = m; lists = filled_whole n l' h g t }; records = i t; workers = (j ∙ ap (λ (k : ℕ). replicate k idle) checked_then.counted) t; number = o t } })
+      accepted_lem l' r' ws' count' number' g i j o =
+          (λ t. record { answer = is_accepted a b f q t; left = record { buffers = record { matrix = m; lists = filled_whole l' g t }; records = i t; workers = (j ∙ ap (λ (k : ℕ). replicate k idle) checked_then.counted) t; number = o t } })
           ∙ ap (λ k. replied k old (opened (plan_of z) z.workers m)) (sym (is_accepted a b f q) ∙ e)

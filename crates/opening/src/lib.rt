@@ -6,7 +6,6 @@ ghost use Rattle.model.specs.Refusal.{open_call};
 ghost use Rattle.records.specs.Records.{all_lent, OthersKept};
 
 use answers::accepted;
-use fills::fill_entries;
 use model::{CallReply, Sizes};
 use open_checks::open_answer;
 use opened::{idle_workers, number_records};
@@ -31,8 +30,7 @@ pub fn open(
     if !accepted(answer) {
         return CallReply { answer, workers };
     }
-    let n = lists.len();
-    fill_entries(lists, 0, n);
+    lists.fill(0);
     number_records(z, records);
     let left = idle_workers(workers);
     CallReply {

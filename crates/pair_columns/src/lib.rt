@@ -8,10 +8,10 @@ ghost use Rattle.model.specs.Buffer.{ended_with, column_ends};
 ghost use Rattle.column_laws.specs.Workable.{Workable};
 
 use column_ends::column_end;
-use fills::fill_numbers;
+use fills::fill_part;
 use model::{ColumnEnd, Sizes};
 use pair_blocks::pair_rows;
-use places::{list_start, tile_start, wide};
+use places::{list_start, tile_start};
 
 // Works column c of T-4(k,i,j).
 pub fn pair_column(
@@ -34,11 +34,11 @@ pub fn pair_column(
     let d = tile_start(n, t, i, j);
     let f = tile_start(n, t, i, k);
     let p = list_start(n, t, i, k);
-    let e = wide(lists[p + c]);
+    let e = usize::from(lists[p + c]);
     if pair_rows(matrix, t, f, u, d, c, e) {
         return column_end(t, c, 0);
     }
-    fill_numbers(matrix, d, s);
-    fill_numbers(matrix, u, s);
+    fill_part(matrix, d, s, 0.0);
+    fill_part(matrix, u, s, 0.0);
     ColumnEnd::Failed
 }

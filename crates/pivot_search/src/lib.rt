@@ -31,9 +31,8 @@ pub fn keep_best(best: Pivot, place: usize, x: f64) -> Pivot
     let tie = (magnitude == most) & (most != 0.0);
     if tie {
         return Pivot {
-            place: best.place,
-            magnitude: most,
             ties: best.ties + 1,
+            ..best
         };
     }
     best
@@ -50,10 +49,8 @@ pub fn search_pivot(m: &[f64], first: usize, rest: usize, stride: usize, count: 
         magnitude: magnitude_of(m[first]),
         ties: 0,
     };
-    let mut i = 0;
-    while i < count {
+    for i in 0..count {
         best = keep_best(best, i + 1, m[rest + i * stride]);
-        i += 1;
     }
     best
 }

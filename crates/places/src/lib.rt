@@ -1,4 +1,4 @@
-// Where tiles and row lists stand in the lent slices, and a list entry as an index.
+// Where tiles and row lists stand in the lent slices.
 #![tactic(auto)]
 
 ghost use Rattle.std.specs.Prelude.{◌≡◌, ◌<◌, ◌≤◌};
@@ -19,11 +19,4 @@ pub fn list_start(n: usize, t: usize, i: usize, j: usize) -> usize
     ensures { result ≡ list_start n t i j }
 {
     (i * n + j) * t
-}
-
-// A list entry as an index.
-pub fn wide(x: u8) -> usize
-    ensures { result ≡ x }
-{
-    x as usize
 }

@@ -8,7 +8,7 @@ ghost use Rattle.progress.specs.Right.{Solvable, RightSide, ColumnPassed, Passin
 
 use model::Sizes;
 use pair_blocks::pair_right;
-use places::{list_start, tile_start, wide};
+use places::{list_start, tile_start};
 use progress::Progress;
 
 // Column c of T-4(k,i) on the right side y. False where a computed number isn't finite.
@@ -31,7 +31,7 @@ fn pair_right_column(
     let t = z.side;
     let f = tile_start(n, t, i, k);
     let p = list_start(n, t, i, k);
-    let e = wide(lists[p + c]);
+    let e = usize::from(lists[p + c]);
     pair_right(y, matrix, t, f, k * t, i * t, c, e)
 }
 

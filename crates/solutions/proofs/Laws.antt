@@ -1,12 +1,8 @@
--- Copying, and how a solve ends. Assumes nothing.
-use Prim.Native.Nat.{ℕ, ◌+◌, ◌*◌, ◌<◌}
+-- How a solve ends. Assumes nothing.
+use Prim.Native.Nat.{ℕ, ◌*◌}
 use mathlib.Core.Path.{◌≡◌, refl, sym, ap, ◌∙◌}
 use mathlib.Core.List.{List}
-use mathlib.Core.Logic.{◌⊎◌, inl, inr, ◌≢◌}
-use native.Mathlib.Omega.{arith}
-use lib.Ieee.{Float, nan}
-use lib.ListN.{length, get_or, set}
-use lib.Seq.{get_or-set_same, get_or-set_other}
+use lib.Ieee.{Float}
 use Rattle.model.specs.declared.Sizes.{Sizes}
 use Rattle.model.specs.Answer.{accepted, refused_by}
 use Rattle.model.specs.declared.Rule.TheVariants.{NotSolved}
@@ -15,23 +11,12 @@ use Rattle.model.specs.Task.{tasks}
 use Rattle.model.specs.Plan.{plan, plan_of, order}
 use Rattle.model.specs.Buffer.{Buffers}
 use Rattle.model.specs.Solve.{Passed, Answers, going, pass, solved, answered}
-use Rattle.laws.proofs.Tests.{same_or_not}
 use Rattle.progress.specs.declared.Progress.{Progress}
 use Rattle.progress.specs.declared.Progress.TheVariants.{Going, Stopped}
 use Rattle.progress.specs.Right.{passed_of}
 use Rattle.progress.proofs.Turns.{went, halted}
 use Rattle.backward.specs.Rows.{back_below}
 use Rattle.backward.proofs.Backs.{back_stopped}
-
--- ---- copying
-
-pub copy_more : (from to : List Float) (i : ℕ) → i < length to → ((j : ℕ) → j < i → get_or to j nan ≡ get_or from j nan)
-    → (j : ℕ) → j < i + 1 → get_or (set to i (get_or from i nan)) j nan ≡ get_or from j nan
-copy_more from to i h f j k = go (same_or_not j i)
-  where
-    go : (j ≡ i) ⊎ (j ≢ i) → get_or (set to i (get_or from i nan)) j nan ≡ get_or from j nan
-    go (inl e) = rw e (get_or-set_same to i (get_or from i nan) nan h)
-    go (inr d) = get_or-set_other to i j (get_or from i nan) nan d ∙ f j (omega arith)
 
 -- ---- how it ends
 

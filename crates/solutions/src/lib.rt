@@ -13,19 +13,6 @@ use model::{Answer, Rule, Sizes};
 use progress::Progress;
 use right_sides::pass;
 
-// Copies all numbers of one slice to another as long.
-fn copy(from: &[f64], to: &mut [f64])
-    requires { length to.old ≡ length from.now }
-    ensures { to.new ≡ from.now }
-{
-    let n = from.len();
-    let mut i = 0;
-    while i < n {
-        to[i] = from[i];
-        i += 1;
-    }
-}
-
 // Solves in y, which is as long as the right side, and where what is left is free. The answers are written where all of them are computed.
 pub fn solve_in(
     z: Sizes,
@@ -41,7 +28,7 @@ pub fn solve_in(
     ensures { record { answer = result; left = answers.new }
         ≡ answered accepted answers.old (solved (plan_of z) (record { matrix = matrix.now; lists = lists.now }) right.now) }
 {
-    copy(right, y);
+    y.copy_from_slice(right);
     let forward = pass(z, matrix, lists, y);
     if let Progress::Stopped(place) = forward {
         return Err(Rule::NotSolved.at(place));
@@ -50,6 +37,6 @@ pub fn solve_in(
     if let Progress::Stopped(row) = back {
         return Err(Rule::NotSolved.at(row));
     }
-    copy(y, answers);
+    answers.copy_from_slice(y);
     Ok(())
 }

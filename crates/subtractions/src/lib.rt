@@ -28,10 +28,8 @@ pub fn subtract(matrix: &[f64], y: &[f64], a: usize, b: usize, count: usize, d: 
     ensures { result ≡ subtracted (λ j. get_or matrix.now (a + j) nan) (λ j. get_or y.now (b + j) nan) 0 count d }
 {
     let mut left = d;
-    let mut j = 0;
-    while j < count {
+    for j in 0..count {
         left = subtract_one(left, matrix[a + j], y, b + j);
-        j += 1;
     }
     left
 }
@@ -46,10 +44,8 @@ pub fn subtract_tiles(z: Sizes, matrix: &[f64], y: &[f64], i: usize, r: usize, d
     let n = z.tiles;
     let t = z.side;
     let mut left = d;
-    let mut j = i + 1;
-    while j < n {
+    for j in i + 1..n {
         left = subtract(matrix, y, tile_start(n, t, i, j) + r * t, j * t, t, left);
-        j += 1;
     }
     left
 }

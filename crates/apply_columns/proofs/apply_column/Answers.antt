@@ -1,5 +1,7 @@
 -- `apply_column` meets its contract: the two ways by whether every number computed is finite. Assumes nothing.
 use native.Mathlib.Omega.{arith}
+use lib.Ieee.{of_bits}
+use Rattle.model.specs.Tile.{zeros}
 use Rattle.column_laws.proofs.Permutes.{started_long, started_finite}
 use Rattle.column_laws.proofs.Ends.{apply_ends, apply_fails}
 use Rattle.column_laws.proofs.Ready.{apply_ready}
@@ -38,20 +40,17 @@ returns-then-apply_rows c =
     apply_ends a.z.tiles a.z.side a.k a.j a.c _ _ a.matrix.now a.lists.now e c.list_start-p.ensures (rw e r.room) _ f (rw (e, f) r.mult_left) _ _ _
     c.start_block.ensures c.apply_rows.ensures _ c.if-apply_rows.true c.column_end.ensures
 
-pub overflow_mul-t : goal.overflow_mul-t
-overflow_mul-t c =
-    omega (arith, (apply_ready c.requires).square)
-
-pub fill_numbers-requires : goal.fill_numbers-requires
-fill_numbers-requires c =
+pub fill_part-requires-clause-part_in_bounds : goal.fill_part-requires-clause-part_in_bounds
+fill_part-requires-clause-part_in_bounds c =
     let r = apply_ready c.requires in
     omega (arith, r.room, c.tile_start-a.ensures, c.apply_rows.auto.m, c.start_block.auto.m)
 
 pub returns : goal.returns
+unfolding zeros of_bits
 returns c =
     let a = c.args in
     let r = apply_ready c.requires in
     let e = c.tile_start-a.ensures in
     let f = c.tile_start-f.ensures in
     apply_fails a.z.tiles a.z.side a.k a.j a.c _ _ a.matrix.now a.lists.now e c.list_start-p.ensures (rw e r.room) _ f (rw (e, f) r.mult_left) _ _ _
-    c.start_block.ensures c.apply_rows.ensures _ c.apply_rows.auto.m c.if-apply_rows.false c.fill_numbers.ensures
+    c.start_block.ensures c.apply_rows.ensures _ c.apply_rows.auto.m c.if-apply_rows.false c.fill_part.ensures

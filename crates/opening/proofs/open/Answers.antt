@@ -25,6 +25,6 @@ returns c =
     record {
       workers_after = accepted_lem _ _ _ _ c.args.workers.slots c.args.workers.count c.args.workers.number _ (c.open_answer-answer.ensures c.args.workers.slots c.args.workers.number)
           _ c.accepted.ensures c.if-not-accepted.false
-          _ _ _ _ _ _ refl c.fill_entries.ensures c.number_records.ensures c.idle_workers-left.ensures.count_value.0 c.idle_workers-left.ensures.count_value.1;
+          _ _ _ _ _ (c.fill.ensures.after (λ y e. e)) c.number_records.ensures c.idle_workers-left.ensures.count_value.0 c.idle_workers-left.ensures.count_value.1;
       others_kept = c.idle_workers-left.ensures.others_kept;
     }

@@ -3,7 +3,6 @@ use mathlib.Core.Path.{◌≡◌, sym, ◌∙◌}
 use mathlib.Core.Bool.{Bool, true, false, cond, not, ◌&&◌}
 use Prim.Native.Nat.{ℕ, ◌+◌}
 use native.Mathlib.Numerals.{add-one}
-use native.Mathlib.Omega.{arith}
 use lib.Ieee.{Float, lt, eq, ne, of_bits}
 use Rattle.model.specs.declared.Pivot.{Pivot}
 use Rattle.model.specs.Num.{is_zero, magnitude, exceeds, same_magnitude}
@@ -42,10 +41,6 @@ returns-then-most-magnitude c =
     let a = c.args in
     let e = took a.best a.place a.x _ c.magnitude_of-magnitude.ensures c.requires.0 c.if-most-magnitude.true in
     record { value = e; best_so_far = best_so_far a.best _ a.place a.x e }
-
-pub overflow_add-result : goal.overflow_add-result
-overflow_add-result c =
-    omega (arith, c.requires.1)
 
 pub returns-then-tie : goal.returns-then-tie
 unfolding is_zero of_bits eq ne

@@ -13,7 +13,7 @@ use Rattle.model.specs.Lists.{run, below, table}
 use Rattle.model.specs.Num.{magnitude}
 use Rattle.model.specs.Tile.{all_finite}
 use Rattle.model.specs.Best.{Best}
-use Rattle.laws.proofs.Blocks.{row_end, length_table, get_or_table}
+use Rattle.laws.proofs.Blocks.{length_table, get_or_table}
 use Rattle.laws.proofs.Runs.{table_last}
 use Rattle.laws.proofs.Finite.{finite_get, finite_all}
 use Rattle.float_laws.proofs.Finite.{magnitude_twice}
@@ -62,65 +62,29 @@ module _ (m : List Float) (first rest stride : ℕ) where
 plain : (xs : List Float) (p : Pivot) → Best xs p → magnitude p.magnitude ≡ p.magnitude
 plain xs p b = ap magnitude b.own ∙ magnitude_twice (get_or xs p.place nan) ∙ sym b.own
 
-pub offset_bounds-m-first : goal.offset_bounds-m-first
-offset_bounds-m-first c =
-    omega arith
-
-pub bounds-m-first : goal.bounds-m-first
-bounds-m-first c =
-    omega arith
-
 pub loop-i-init : goal.loop-i-init
 loop-i-init c =
-    let a = c.args in (omega arith, begun a.m.now a.first a.rest a.stride _ c.magnitude_of.ensures)
-
-pub overflow_add-i : goal.overflow_add-i
-overflow_add-i c =
-    omega arith
-
-pub overflow_mul-i : goal.overflow_mul-i
-overflow_mul-i c =
-    let room : c.loop-i.i * c.args.stride + c.args.stride ≤ c.args.count * c.args.stride = row_end c.loop-i.i c.args.count c.args.stride c.loop-i-test.true in omega (arith, room)
-
-pub overflow_add-rest : goal.overflow_add-rest
-overflow_add-rest c =
-    let room : c.loop-i.i * c.args.stride + c.args.stride ≤ c.args.count * c.args.stride = row_end c.loop-i.i c.args.count c.args.stride c.loop-i-test.true in omega (arith, room)
-
-pub offset_bounds-m-rest : goal.offset_bounds-m-rest
-offset_bounds-m-rest c =
-    let room : c.loop-i.i * c.args.stride + c.args.stride ≤ c.args.count * c.args.stride = row_end c.loop-i.i c.args.count c.args.stride c.loop-i-test.true in omega (arith, room)
-
-pub bounds-m-rest : goal.bounds-m-rest
-bounds-m-rest c =
-    let room : c.loop-i.i * c.args.stride + c.args.stride ≤ c.args.count * c.args.stride = row_end c.loop-i.i c.args.count c.args.stride c.loop-i-test.true in omega (arith, room)
+    let a = c.args in begun a.m.now a.first a.rest a.stride _ c.magnitude_of.ensures
 
 pub keep_best-best-requires : goal.keep_best-best-requires
 keep_best-best-requires c =
     let a = c.args in
     let l = c.loop-i in
-    let few = ties_fewer (candidates a.m.now a.first a.rest a.stride l.i) l.best l.invariant.1 in
-    (plain _ l.best l.invariant.1, omega (arith, few, how_many a.m.now a.first a.rest a.stride l.i, l.invariant.0, c.requires.first_in_bounds))
-
-pub overflow_add-i-in-loop-i : goal.overflow_add-i-in-loop-i
-overflow_add-i-in-loop-i c =
-    omega arith
-
-pub loop-i-smaller : goal.loop-i-smaller
-loop-i-smaller c =
-    omega arith
+    let few = ties_fewer (candidates a.m.now a.first a.rest a.stride l.i) l.best l.invariant in
+    (plain _ l.best l.invariant, omega (arith, few, how_many a.m.now a.first a.rest a.stride l.i, c.requires.first_in_bounds))
 
 pub loop-i-preserved : goal.loop-i-preserved
 loop-i-preserved c =
     let a = c.args in
     let l = c.loop-i in
     let xs = candidates a.m.now a.first a.rest a.stride l.i in
-    let before = fine a.m.now a.first a.rest a.stride a.count l.i l.invariant.0 c.requires.count_value in
-    (omega arith, rw (one_more a.m.now a.first a.rest a.stride l.i) (c.keep_best-best.ensures.best_so_far xs (how_many a.m.now a.first a.rest a.stride l.i) before l.invariant.1))
+    let before = fine a.m.now a.first a.rest a.stride a.count l.i (omega arith) c.requires.count_value in
+    rw (one_more a.m.now a.first a.rest a.stride l.i) (c.keep_best-best.ensures.best_so_far xs (how_many a.m.now a.first a.rest a.stride l.i) before l.invariant)
 
 pub returns : goal.returns
 returns c =
     let a = c.args in
     let l = c.loop-i in
-    let e : l.i ≡ a.count = omega (arith, c.loop-i-test.false, l.invariant.0) in
-    searched (candidates a.m.now a.first a.rest a.stride a.count) l.best (rw (← e) l.invariant.1) c.requires.count_value
+    let e : l.i ≡ a.count = omega arith in
+    searched (candidates a.m.now a.first a.rest a.stride a.count) l.best (rw (← e) l.invariant) c.requires.count_value
     (held a.m.now a.first a.rest a.stride a.count c.type_inv.m)

@@ -28,7 +28,7 @@ overflow_mul-i c =
 
 pub pair_right-requires : goal.pair_right-requires
 pair_right-requires c =
-    let upper_row : c.args.k < c.args.z.tiles = omega (arith, c.requires.k_lt_i.0, c.requires.k_lt_i.1) in let here : Ready c.args.z c.args.i c.args.k c.args.matrix.now c.args.lists.now = ready c.requires.solvable c.args.i c.args.k c.requires.k_lt_i.1 (upper_row) in let upper_room : c.args.k * c.args.z.side + c.args.z.side ≤ length c.args.y.now = right_room c.args.z c.args.y.now c.requires.right_side.long c.args.k (upper_row) in let lower_room : c.args.i * c.args.z.side + c.args.z.side ≤ length c.args.y.now = right_room c.args.z c.args.y.now c.requires.right_side.long c.args.i c.requires.k_lt_i.1 in let few : length c.args.y.now ≤ 256 = right_few c.args.z c.args.y.now c.requires.right_side.long c.requires.solvable.tiles_most c.requires.solvable.side_most in let apart : Apart c.args.z.side (c.args.k * c.args.z.side) (c.args.i * c.args.z.side) = slots_apart c.args.z.side c.args.k c.args.i c.requires.k_lt_i.0 in let entry : c.wide-e.result ≤ c.args.z.side = rw (c.wide-e.ensures, c.list_start-p.ensures) (c.requires.solvable.lower_entries c.args.i c.args.k c.args.c c.requires.k_lt_i.0 c.requires.k_lt_i.1 c.requires.k_lt_i.2) in let a = c.args in
+    let upper_row : c.args.k < c.args.z.tiles = omega (arith, c.requires.k_lt_i.0, c.requires.k_lt_i.1) in let here : Ready c.args.z c.args.i c.args.k c.args.matrix.now c.args.lists.now = ready c.requires.solvable c.args.i c.args.k c.requires.k_lt_i.1 (upper_row) in let upper_room : c.args.k * c.args.z.side + c.args.z.side ≤ length c.args.y.now = right_room c.args.z c.args.y.now c.requires.right_side.long c.args.k (upper_row) in let lower_room : c.args.i * c.args.z.side + c.args.z.side ≤ length c.args.y.now = right_room c.args.z c.args.y.now c.requires.right_side.long c.args.i c.requires.k_lt_i.1 in let few : length c.args.y.now ≤ 256 = right_few c.args.z c.args.y.now c.requires.right_side.long c.requires.solvable.tiles_most c.requires.solvable.side_most in let apart : Apart c.args.z.side (c.args.k * c.args.z.side) (c.args.i * c.args.z.side) = slots_apart c.args.z.side c.args.k c.args.i c.requires.k_lt_i.0 in let entry : c.from-e.result ≤ c.args.z.side = rw (c.from-e.ensures, c.list_start-p.ensures) (c.requires.solvable.lower_entries c.args.i c.args.k c.args.c c.requires.k_lt_i.0 c.requires.k_lt_i.1 c.requires.k_lt_i.2) in let a = c.args in
     let t = a.z.side in
     let r = here in
     let one : t * 1 ≡ t = omega arith in
@@ -37,9 +37,9 @@ pair_right-requires c =
 
 pub returns : goal.returns
 returns c =
-    let upper_row : c.args.k < c.args.z.tiles = omega (arith, c.requires.k_lt_i.0, c.requires.k_lt_i.1) in let here : Ready c.args.z c.args.i c.args.k c.args.matrix.now c.args.lists.now = ready c.requires.solvable c.args.i c.args.k c.requires.k_lt_i.1 (upper_row) in let upper_room : c.args.k * c.args.z.side + c.args.z.side ≤ length c.args.y.now = right_room c.args.z c.args.y.now c.requires.right_side.long c.args.k (upper_row) in let lower_room : c.args.i * c.args.z.side + c.args.z.side ≤ length c.args.y.now = right_room c.args.z c.args.y.now c.requires.right_side.long c.args.i c.requires.k_lt_i.1 in let apart : Apart c.args.z.side (c.args.k * c.args.z.side) (c.args.i * c.args.z.side) = slots_apart c.args.z.side c.args.k c.args.i c.requires.k_lt_i.0 in let entry : c.wide-e.result ≤ c.args.z.side = rw (c.wide-e.ensures, c.list_start-p.ensures) (c.requires.solvable.lower_entries c.args.i c.args.k c.args.c c.requires.k_lt_i.0 c.requires.k_lt_i.1 c.requires.k_lt_i.2) in let a = c.args in
+    let upper_row : c.args.k < c.args.z.tiles = omega (arith, c.requires.k_lt_i.0, c.requires.k_lt_i.1) in let here : Ready c.args.z c.args.i c.args.k c.args.matrix.now c.args.lists.now = ready c.requires.solvable c.args.i c.args.k c.requires.k_lt_i.1 (upper_row) in let upper_room : c.args.k * c.args.z.side + c.args.z.side ≤ length c.args.y.now = right_room c.args.z c.args.y.now c.requires.right_side.long c.args.k (upper_row) in let lower_room : c.args.i * c.args.z.side + c.args.z.side ≤ length c.args.y.now = right_room c.args.z c.args.y.now c.requires.right_side.long c.args.i c.requires.k_lt_i.1 in let apart : Apart c.args.z.side (c.args.k * c.args.z.side) (c.args.i * c.args.z.side) = slots_apart c.args.z.side c.args.k c.args.i c.requires.k_lt_i.0 in let entry : c.from-e.result ≤ c.args.z.side = rw (c.from-e.ensures, c.list_start-p.ensures) (c.requires.solvable.lower_entries c.args.i c.args.k c.args.c c.requires.k_lt_i.0 c.requires.k_lt_i.1 c.requires.k_lt_i.2) in let a = c.args in
     let r = here in
     column_paired a.z a.matrix.now a.lists.now a.k a.i a.c a.y.now c.requires.k_lt_i.2 r.list_room _
-    (c.wide-e.ensures ∙ ap (λ x. get_or a.lists.now (x + a.c) 0) c.list_start-p.ensures)
+    (c.from-e.ensures ∙ ap (λ x. get_or a.lists.now (x + a.c) 0) c.list_start-p.ensures)
     (upper_room) (lower_room) (apart) _ c.tile_start-f.ensures _ _
     c.pair_right.ensures (entry) c.requires.right_side.all_finite_lem

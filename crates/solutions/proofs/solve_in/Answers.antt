@@ -1,19 +1,15 @@
 -- Forward, then backward; each may stop. Assumes nothing.
-use mathlib.Core.Path.{sym, ◌∙◌}
+use mathlib.Core.Path.{◌∙◌}
 use Rattle.solutions.proofs.Laws.{stops_forward, stops_back, all_answered, answered_as}
 use Rattle.solutions.proofs.solve_in.Goals as goal
 
-pub copy-requires : goal.copy-requires
-copy-requires c =
-    c.requires.matrix_value.2 ∙ sym c.requires.right_side.long
-
 pub pass-forward-requires : goal.pass-forward-requires
 pass-forward-requires c =
-    record { solvable = c.requires.solvable; right_side = rw c.copy.ensures c.requires.right_side }
+    record { solvable = c.requires.solvable; right_side = rw c.copy_from_slice.ensures.after c.requires.right_side }
 
 pub returns-in-Stopped : goal.returns-in-Stopped
 returns-in-Stopped c =
-    stops_forward c.args.z _ _ _ _ _ (rw c.copy.ensures at c.pass-forward.ensures.passing.is) _ c.in-Stopped.is
+    stops_forward c.args.z _ _ _ _ _ (rw c.copy_from_slice.ensures.after at c.pass-forward.ensures.passing.is) _ c.in-Stopped.is
 
 pub back_rows-back-requires : goal.back_rows-back-requires
 back_rows-back-requires c =
@@ -23,16 +19,16 @@ back_rows-back-requires c =
       side_most = s.side_most;
       matrix_fits = s.lengths.matrix_fits;
       all_finite_lem = c.requires.matrix_value.0;
-      long = c.pass-forward.auto.y ∙ c.copy.auto.to ∙ c.requires.matrix_value.2;
+      long = c.pass-forward.auto.y ∙ c.copy_from_slice.ensures.len ∙ c.requires.matrix_value.2;
     }
 
 pub returns-in-Stopped-back : goal.returns-in-Stopped-back
 returns-in-Stopped-back c =
-    stops_back c.args.z _ _ _ _ _ (rw c.copy.ensures at c.pass-forward.ensures.passing.is) c.in_default.is
+    stops_back c.args.z _ _ _ _ _ (rw c.copy_from_slice.ensures.after at c.pass-forward.ensures.passing.is) c.in_default.is
     _ _ (c.back_rows-back.ensures.by_index c.args.lists.now) _ c.in-Stopped-back.is
 
 pub returns : goal.returns
 returns c =
-    answered_as _ _ _ c.copy-2.ensures
-    (all_answered c.args.z _ _ _ _ _ (rw c.copy.ensures at c.pass-forward.ensures.passing.is) c.in_default.is
+    answered_as _ _ _ c.copy_from_slice-2.ensures.after
+    (all_answered c.args.z _ _ _ _ _ (rw c.copy_from_slice.ensures.after at c.pass-forward.ensures.passing.is) c.in_default.is
     _ _ (c.back_rows-back.ensures.by_index c.args.lists.now) c.in_default-back.is)

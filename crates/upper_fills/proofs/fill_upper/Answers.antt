@@ -4,12 +4,12 @@ use mathlib.Core.Logic.{inr, ⊎_elim}
 use mathlib.Core.Bool.{cond}
 use mathlib.Core.List.{List}
 use Prim.Native.Nat.{ℕ, ◌+◌, ◌*◌, ◌-◌, ◌/◌, ◌%◌, ◌≤◌, ◌<◌}
-use native.Mathlib.Nat.{add_assoc, suc-mul, zero-mul}
+use native.Mathlib.Nat.{add_assoc, suc-mul}
 use native.Mathlib.Numerals.{add-one}
 use native.Mathlib.Omega.{arith}
 use lib.Dec.{leb}
 use lib.ListN.{length, get_or, length-replicate, get_or-replicate}
-use lib.Ieee.{Float, nan}
+use lib.Ieee.{Float, nan, of_bits}
 use borrow.Author.Tests.{le-leb, lt-leb}
 use Rattle.model.specs.Lists.{part, with_part}
 use Rattle.model.specs.Num.{plus_zero}
@@ -17,12 +17,9 @@ use Rattle.model.specs.Tile.{at, block, zeros, upper_filled}
 use Rattle.laws.proofs.Tests.{lt_or_le}
 use Rattle.laws.proofs.Blocks.{get_or_table, length_block, row_of, column_of_lem, in_block, row_below, column_below, row_end}
 use Rattle.laws.proofs.Parts.{Fits, length_put, get_in, get_before, get_after, get_part}
-use Rattle.fills.proofs.Stores.{Stored, stored_none, stored_join, stored_is}
+use Rattle.fills.proofs.Stores.{Stored, stored_join, stored_is}
 use Rattle.upper_fills.proofs.fill_upper.Invariants.{cell, upper}
 use Rattle.upper_fills.proofs.fill_upper.Goals as goal
-
-upper_none : (t start : ℕ) (m : List Float) → Stored nan start (0 * t) (upper t start m) m m
-upper_none t start m = rw (zero-mul t) (stored_none nan start (upper t start m) m)
 
 -- one row more
 
@@ -90,47 +87,11 @@ upper_all t start r before after e s room =
     (record { whole = length_upper t (part start (t * t) before); room = room })
     (upper_at_lem t start before)
 
-pub loop-r-init : goal.loop-r-init
-loop-r-init c =
-    (omega arith, upper_none _ _ _)
-
-pub overflow_mul-r : goal.overflow_mul-r
-overflow_mul-r c =
-    omega (arith, row_end _ _ c.args.t c.loop-r-test.true)
-
-pub overflow_add-start : goal.overflow_add-start
-overflow_add-start c =
-    omega (arith, row_end _ _ c.args.t c.loop-r-test.true)
-
-pub overflow_add-start-in-loop-r : goal.overflow_add-start-in-loop-r
-overflow_add-start-in-loop-r c =
-    omega (arith, row_end _ _ c.args.t c.loop-r-test.true)
-
-pub overflow_sub-t : goal.overflow_sub-t
-overflow_sub-t c =
-    omega arith
-
-pub fill_numbers-requires : goal.fill_numbers-requires
-fill_numbers-requires c =
-    omega (arith, row_end _ _ c.args.t c.loop-r-test.true)
-
-pub overflow_add-r : goal.overflow_add-r
-overflow_add-r c =
-    omega arith
-
-pub loop-r-smaller : goal.loop-r-smaller
-loop-r-smaller c =
-    omega arith
-
 pub loop-r-preserved : goal.loop-r-preserved
+unfolding zeros of_bits
 loop-r-preserved c =
-    let l = c.loop-r in
-    (omega arith, upper_more _ _ _ _ _ _ c.loop-r-test.true c.requires.1 l.invariant.1 c.fill_numbers.ensures)
-
-pub shape_of-m : goal.shape_of-m
-shape_of-m c =
-    c.loop-r.invariant.1.long
+    upper_more _ _ _ _ _ _ c.loop-r-test.true c.requires.1 c.loop-r.invariant c.fill_part.ensures
 
 pub returns : goal.returns
 returns c =
-    upper_all _ _ _ _ _ (omega arith) c.loop-r.invariant.1 c.requires.1
+    upper_all _ _ _ _ _ (omega arith) c.loop-r.invariant c.requires.1

@@ -1,7 +1,7 @@
 -- `fill_upper` meets its contract: after r turns the first r rows are done. Assumes nothing.
 use mathlib.Core.Bool.{cond}
 use mathlib.Core.List.{List}
-use Prim.Native.Nat.{ℕ, ◌+◌, ◌*◌, ◌-◌, ◌/◌, ◌%◌, ◌≤◌}
+use Prim.Native.Nat.{ℕ, ◌+◌, ◌*◌, ◌/◌, ◌%◌}
 use lib.Dec.{leb}
 use lib.ListN.{get_or}
 use lib.Ieee.{Float, nan}
@@ -18,7 +18,4 @@ unfoldable pub upper : ℕ → ℕ → List Float → ℕ → Float
 upper t start m j = cell t start m (j / t) (j % t)
 
 abbrev pub invariant-loop-r : goal.invariant-loop-r
-invariant-loop-r l = (l.r ≤ l.t) × Stored nan l.start (l.r * l.t) (upper l.t l.start l.initial.m) l.initial.m l.m
-
-abbrev pub decreases-loop-r : goal.decreases-loop-r
-decreases-loop-r l = l.t - l.r
+invariant-loop-r l = Stored nan l.start (l.r * l.t) (upper l.t l.start l.initial.m) l.initial.m l.m
