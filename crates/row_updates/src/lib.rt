@@ -55,33 +55,24 @@ pub fn update_rows(
     ensures { RowsUpdated rows w f start (λ i. get_or m.old (first + i * w) nan) (λ q. get_or m.old (top + q) nan) m.old m.new result }
 {
     let fours = w - (w - f) / 4 * 4;
-    let mut ok = true;
-    let mut r = 0;
-    'rows: while r < rows {
+    for r in 0..rows {
         let by = m[first + r * w];
         if by == 0.0 {
-            r += 1;
             continue;
         }
         let at = start + r * w;
-        let mut q = f;
-        while q < fours {
+        for q in f..fours {
             if !row_one(m, at + q, top + q, by) {
-                ok = false;
-                break 'rows;
+                return false;
             }
-            q += 1;
         }
-        while q < w {
-            ok = row_four(m, at + q, top + q, by);
-            if !ok {
-                break 'rows;
+        for q in (fours..w).step_by(4) {
+            if !row_four(m, at + q, top + q, by) {
+                return false;
             }
-            q += 4;
         }
-        r += 1;
     }
-    ok
+    true
 }
 
 // One number of a column, at p, updated by the multiplier at q in l and the number `upper`.
@@ -129,18 +120,15 @@ pub fn update_column(
 {
     let upper = y[top];
     let ones = if rows < 8 { rows } else { rows % 4 };
-    let mut r = 0;
-    while r < ones {
+    for r in 0..ones {
         if !column_one(y, start + r, l, first + r * stride, upper) {
             return false;
         }
-        r += 1;
     }
-    while r < rows {
+    for r in (ones..rows).step_by(4) {
         if !column_four(y, start + r, l, first + r * stride, stride, upper) {
             return false;
         }
-        r += 4;
     }
     true
 }
