@@ -21,32 +21,23 @@ pub fn eliminate(m: &mut [f64], t: usize, start: usize, top: usize, rows: usize,
 {
     let pivot = m[top + c];
     let fours = t - (t - (c + 1)) / 4 * 4;
-    let mut ok = true;
-    let mut r = 0;
-    'rows: while r < rows {
+    for r in 0..rows {
         let at = start + r * t;
         let by = m[at + c] / pivot;
         m[at + c] = by;
         if by == 0.0 {
-            r += 1;
             continue;
         }
-        let mut q = c + 1;
-        while q < fours {
+        for q in c + 1..fours {
             if !row_one(m, at + q, top + q, by) {
-                ok = false;
-                break 'rows;
+                return false;
             }
-            q += 1;
         }
-        while q < t {
+        for q in (fours..t).step_by(4) {
             if !row_four(m, at + q, top + q, by) {
-                ok = false;
-                break 'rows;
+                return false;
             }
-            q += 4;
         }
-        r += 1;
     }
-    ok
+    true
 }

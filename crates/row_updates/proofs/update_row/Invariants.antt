@@ -1,0 +1,13 @@
+-- `update_row` meets its contract: what its loops have done is `RowDone`. Assumes nothing.
+use Prim.Native.Nat.{◌+◌, ◌*◌, ◌-◌, ◌≤◌}
+use Rattle.row_updates.proofs.Updated.{RowDone}
+use Rattle.row_updates.proofs.update_row.Given as goal
+
+abbrev pub invariant-loop-q : goal.invariant-loop-q
+invariant-loop-q l = (l.f ≤ l.q) × (l.q ≤ l.fours) × RowDone l.f l.at l.top l.by l.q l.initial.m l.m
+
+abbrev pub decreases-loop-q : goal.decreases-loop-q
+decreases-loop-q l = l.fours - l.q
+
+abbrev pub invariant-loop-g : goal.invariant-loop-g
+invariant-loop-g l = RowDone l.q l.at l.top l.by (l.q + l.g * 4) l.initial.m l.m
