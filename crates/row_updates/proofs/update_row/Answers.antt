@@ -1,6 +1,6 @@
 -- `update_row` meets its contract: what its loops have done is `RowDone`. Assumes nothing.
 use native.Mathlib.Omega.{arith}
-use Rattle.row_updates.proofs.Done.{done_none, done_at}
+use Rattle.row_updates.proofs.Done.{done_none}
 use Rattle.row_updates.proofs.Updated.{row_more, row_join, row_all, row_stop, top_clear}
 use Rattle.row_updates.proofs.update_row.Goals as goal
 
@@ -18,20 +18,25 @@ loop-q-preserved c = (
   row_more _ _ _ _ _ _ _ c.loop-q.invariant.2 _ _ _ c.row_one.ensures c.loop-q.invariant.0 (λ k h. top_clear _ _ _ c.requires.apart _ (omega arith) _ (omega arith)) c.if-not-row_one.false,
 )
 
-pub loop-g-init : goal.loop-g-init
-loop-g-init c = done_at _ _ _ _ _ _ _ (omega arith) (done_none _ _ _ _)
+pub loop-q-2-init : goal.loop-q-2-init
+loop-q-2-init c = (omega arith, omega arith, omega arith, done_none _ _ _ _)
 
 pub returns-then-not-row_four : goal.returns-then-not-row_four
 returns-then-not-row_four c =
-    row_stop _ _ _ _ _ _ c.requires.f_le_w.0 _ _ _ _ _ (row_join _ _ _ _ _ _ _ c.loop-q.invariant.2 _ _ c.loop-q.invariant.0 (omega arith) (λ k g h. top_clear _ _ _ c.requires.apart _ (omega arith) _ (omega arith)) c.loop-g.invariant)
+    let four = c.loop-q-2 in
+    row_stop _ _ _ _ _ _ c.requires.f_le_w.0 _ _ _ _ _ (row_join _ _ _ _ _ _ _ c.loop-q.invariant.2 _ _ c.loop-q.invariant.0 four.invariant.0 (λ k g h. top_clear _ _ _ c.requires.apart _ (omega arith) _ (omega arith)) four.invariant.3)
     c.row_four.ensures (λ k h. top_clear _ _ _ c.requires.apart _ (omega arith) _ (omega arith)) (omega arith) (omega arith) c.if-not-row_four.true
 
-pub loop-g-preserved : goal.loop-g-preserved
-loop-g-preserved c =
-    done_at _ _ _ _ _ _ _ (omega arith)
-    (row_more _ _ _ _ _ _ _ c.loop-g.invariant _ _ _ c.row_four.ensures (omega arith) (λ k h. top_clear _ _ _ c.requires.apart _ (omega arith) _ (omega arith)) c.if-not-row_four.false)
+pub loop-q-2-preserved : goal.loop-q-2-preserved
+loop-q-2-preserved c = (
+  omega arith,
+  omega arith,
+  omega arith,
+  row_more _ _ _ _ _ _ _ c.loop-q-2.invariant.3 _ _ _ c.row_four.ensures c.loop-q-2.invariant.0 (λ k h. top_clear _ _ _ c.requires.apart _ (omega arith) _ (omega arith)) c.if-not-row_four.false,
+)
 
 pub returns : goal.returns
 returns c =
+    let four = c.loop-q-2 in
     row_all _ _ _ _ _ _ c.requires.f_le_w.0 _ _ (omega arith)
-    (row_join _ _ _ _ _ _ _ c.loop-q.invariant.2 _ _ c.loop-q.invariant.0 (omega arith) (λ k g h. top_clear _ _ _ c.requires.apart _ (omega arith) _ (omega arith)) c.loop-g.invariant)
+    (row_join _ _ _ _ _ _ _ c.loop-q.invariant.2 _ _ c.loop-q.invariant.0 four.invariant.0 (λ k g h. top_clear _ _ _ c.requires.apart _ (omega arith) _ (omega arith)) four.invariant.3)
