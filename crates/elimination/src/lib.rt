@@ -9,7 +9,7 @@ ghost use Rattle.model.specs.Tile.{at, all_finite};
 ghost use Rattle.column_laws.specs.Steps.{RowsEliminated};
 ghost use Rattle.column_laws.specs.Room.{Rows};
 
-use row_updates::{row_four, row_one};
+use row_updates::update_row;
 
 // Eliminates the pivot row at top from the rows of width t from `start` on: in each the number in column c becomes the multiplier, and those right
 // of it are updated while it is at hand. False where a computed number isn't finite.
@@ -20,7 +20,6 @@ pub fn eliminate(m: &mut [f64], t: usize, start: usize, top: usize, rows: usize,
     ensures { RowsEliminated rows t c start top m.old m.new result }
 {
     let pivot = m[top + c];
-    let fours = t - (t - (c + 1)) / 4 * 4;
     for r in 0..rows {
         let at = start + r * t;
         let by = m[at + c] / pivot;
@@ -28,15 +27,8 @@ pub fn eliminate(m: &mut [f64], t: usize, start: usize, top: usize, rows: usize,
         if by == 0.0 {
             continue;
         }
-        for q in c + 1..fours {
-            if !row_one(m, at + q, top + q, by) {
-                return false;
-            }
-        }
-        for q in (fours..t).step_by(4) {
-            if !row_four(m, at + q, top + q, by) {
-                return false;
-            }
+        if !update_row(m, at, top, t, c + 1, by) {
+            return false;
         }
     }
     true
