@@ -10,7 +10,6 @@ ghost use Rattle.progress.specs.Right.{Solvable, RightSide};
 
 use backward::back_rows;
 use model::{Answer, Rule, Sizes};
-use progress::Progress;
 use right_sides::pass;
 
 // Solves in y, which is as long as the right side, and where what is left is free. The answers are written where all of them are computed.
@@ -30,11 +29,11 @@ pub fn solve_in(
 {
     y.copy_from_slice(right);
     let forward = pass(z, matrix, lists, y);
-    if let Progress::Stopped(place) = forward {
+    if let Err(place) = forward {
         return Err(Rule::NotSolved.at(place));
     }
     let back = back_rows(z, matrix, y);
-    if let Progress::Stopped(row) = back {
+    if let Err(row) = back {
         return Err(Rule::NotSolved.at(row));
     }
     answers.copy_from_slice(y);
