@@ -7,11 +7,13 @@ use header_read::{Shape, check_header};
 use host_answers::{ReadTold, tell_read};
 use model::MOST_ORDER;
 use result_file::read_result;
-use script::{mixed_bytes, mixed_numbers, number, put, set_byte, wide};
+use script::{Fields, mixed_bytes, mixed_numbers};
+use std::io;
+use std::io::Write;
 use system_file::read_system;
 
 // How many numbers and entries are lent for a text.
-#[derive(Clone, Copy)]
+#[derive(Clone, Copy, Default)]
 pub struct Lengths {
     pub numbers: usize,
     pub entries: usize,
@@ -29,50 +31,55 @@ fn lengths_due(text: &[u8]) -> Lengths
                 entries: tiles * n,
             }
         }
-        Err(_) => Lengths {
-            numbers: 0,
-            entries: 0,
-        },
+        Err(_) => Lengths::default(),
     }
 }
 
 // The bytes whose digits are given.
 pub fn decode(digits: &[u8], text: &mut [u8]) {
-    let mut k = 0;
-    while k < text.len() {
-        text[k] = (number(digits, k % 1048576 * 2, 2) % 256) as u8;
-        k += 1;
+    let mut fields = Fields::of(digits);
+    for b in text.iter_mut() {
+        *b = fields.byte();
     }
 }
 
-// Writes what a reading tells and the digest of what it left; the length of that.
-fn put_read(out: &mut [u8], told: ReadTold, digest: u64) -> usize {
-    put(out, 0, 2, wide(told.number));
-    put(out, 2, 16, told.place as u64);
-    put(out, 18, 2, wide(told.kind));
-    put(out, 20, 4, told.at as u64);
-    put(out, 24, 16, digest);
-    set_byte(out, 40, 0, 10);
-    41
+// Writes what a reading tells and the digest of what it left.
+fn write_read(out: &mut impl Write, told: ReadTold, digest: u64) -> io::Result<()> {
+    let ReadTold {
+        number,
+        place,
+        kind,
+        at,
+        ..
+    } = told;
+    writeln!(
+        out,
+        "{number:02X}{place:016X}{kind:02X}{at:04X}{digest:016X}"
+    )
 }
 
 // The line for a text that is read as a system.
-pub fn judge_system(text: &[u8], numbers: &mut [f64], out: &mut [u8]) -> usize
+pub fn judge_system(text: &[u8], numbers: &mut [f64], out: &mut impl Write) -> io::Result<()>
     requires { 65536 ≤ length numbers.old }
 {
-    let due = lengths_due(text).numbers;
-    let told = tell_read(read_system(text, &mut numbers[..due]));
-    put_read(out, told, mixed_numbers(1, &numbers[..due]))
+    let due = lengths_due(text);
+    let numbers = &mut numbers[..due.numbers];
+    let told = tell_read(read_system(text, numbers));
+    write_read(out, told, mixed_numbers(1, numbers))
 }
 
 // The line for a text that is read as a result.
-pub fn judge_result(text: &[u8], numbers: &mut [f64], entries: &mut [u8], out: &mut [u8]) -> usize
+pub fn judge_result(
+    text: &[u8],
+    numbers: &mut [f64],
+    entries: &mut [u8],
+    out: &mut impl Write,
+) -> io::Result<()>
     requires { (65536 ≤ length numbers.old) × (4096 ≤ length entries.old) }
 {
-    let lengths = lengths_due(text);
-    let due = lengths.numbers;
-    let listed = lengths.entries;
-    let told = tell_read(read_result(text, &mut numbers[..due], &mut entries[..listed]));
-    let h = mixed_numbers(1, &numbers[..due]);
-    put_read(out, told, mixed_bytes(h, &entries[..listed]))
+    let due = lengths_due(text);
+    let numbers = &mut numbers[..due.numbers];
+    let entries = &mut entries[..due.entries];
+    let told = tell_read(read_result(text, numbers, entries));
+    write_read(out, told, mixed_bytes(mixed_numbers(1, numbers), entries))
 }

@@ -1,83 +1,118 @@
-// For test programs: plays a script of calls, one a line, and answers each with a line (reference/README.md has the format). The buffers
-// lent are the fronts of the slices given; what a line lends beyond them is dropped.
+// For test programs: plays a script of calls, one a line, and answers each with a line (reference/README.md has the format). What is lent
+// are the fronts of the rooms given; what a line lends beyond them is dropped.
 #![tactic(auto)]
 
-mod calls;
-mod solves;
+use host_answers::{tell, tell_outcome, tell_run};
+use play_answers::{write_digest, write_numbers, write_told};
+use play_fields::{Command, argument, sizes};
+use play_lends::{Lent, Rooms, lend_items};
+use script::Fields;
+use std::io;
+use std::io::Write;
+use worker::Workers;
 
-use calls::answer_line;
-use play_answers::print;
-use play_fields::{at_most, line_end};
-use play_lends::{Lent, lend};
-use records::Record;
-use worker::{SLOTS, Worker, Workers};
-
-// Plays a line on the fronts of the buffers that are lent; what it lends counts at once.
-fn play_line(
-    line: &[u8],
-    matrix: &mut [f64],
-    lists: &mut [u8],
-    records: &mut [Record],
-    before: Lent,
-    right: &mut [f64],
-    answers: &mut [f64],
-    out: &mut [u8],
-) -> Lent {
-    let lent = lend(line, matrix, lists, records, before);
-    let a = at_most(lent.matrix as u64, matrix.len());
-    let b = at_most(lent.lists as u64, lists.len());
-    let c = at_most(lent.records as u64, records.len());
-    let workers = lent.workers;
-    answer_line(
-        line,
-        &mut matrix[..a],
-        &mut lists[..b],
-        &mut records[..c],
-        workers,
+// Makes the call that a line asks for, and writes its answer. A line that asks for none changes nothing.
+fn play_call(
+    command: Option<Command>,
+    fields: &mut Fields<'_>,
+    rooms: Rooms<'_>,
+    counts: &mut Lent,
+    out: &mut impl Write,
+) -> io::Result<()> {
+    let Rooms {
+        matrix,
+        lists,
+        records,
         right,
         answers,
-        out,
-    )
+    } = rooms;
+    let matrix = front(matrix, counts.matrix);
+    let lists = front(lists, counts.lists);
+    let records = front(records, counts.records);
+    let workers = &mut counts.workers;
+    let z = sizes(fields);
+    let told = match command {
+        Some(Command::Open) => {
+            let reply = opening::open(z, matrix, lists, records, *workers);
+            *workers = reply.workers;
+            tell(reply.answer)
+        }
+        Some(Command::Take) => {
+            let w = argument(fields) as usize;
+            let p = argument(fields) as usize;
+            let reply = taking::take(z, matrix, lists, records, *workers, w, p);
+            *workers = reply.workers;
+            tell(reply.answer)
+        }
+        Some(Command::Column) => {
+            let w = argument(fields) as usize;
+            let reply = working::column(z, matrix, lists, records, *workers, w);
+            *workers = reply.workers;
+            tell(reply.answer)
+        }
+        Some(Command::Run) => {
+            let budget = argument(fields);
+            let reply = runs::run(z, matrix, lists, records, *workers, budget);
+            *workers = reply.workers;
+            tell_run(reply.answer)
+        }
+        Some(Command::Outcome) => {
+            tell_outcome(outcomes::outcome(z, matrix, lists, records, *workers))
+        }
+        Some(Command::Solve) => {
+            let right = lend_items(fields, right);
+            let answers = lend_items(fields, answers);
+            let answer = solving::solve(z, matrix, lists, records, *workers, right, answers);
+            write_told(out, tell(answer))?;
+            write_numbers(out, answers)?;
+            return write_digest(out, matrix, lists, records, *workers);
+        }
+        Some(Command::Lend) | None => tell(Ok(())),
+    };
+    write_told(out, told)?;
+    write_digest(out, matrix, lists, records, *workers)
 }
 
-// Plays every line of a text, and prints the answers.
-pub fn play(
-    rt: &impl Print,
-    text: &[u8],
-    matrix: &mut [f64],
-    lists: &mut [u8],
-    records: &mut [Record],
-    right: &mut [f64],
-    answers: &mut [f64],
-    out: &mut [u8],
-) {
-    let workers = Workers {
-        slots: [Worker::idle(); SLOTS],
-        count: 0,
-        number: 0,
-    };
-    let mut lent = Lent {
-        matrix: 0,
-        lists: 0,
-        records: 0,
-        workers,
-        answered: 0,
-    };
-    let mut at = 0;
-    while at < text.len() {
-        let e = line_end(text, at);
-        let next = e + 1;
-        lent = play_line(
-            &text[at..e],
+// The first n items that are lent, or all.
+fn front<T>(items: &mut [T], n: usize) -> &mut [T] {
+    let n = n.min(items.len());
+    &mut items[..n]
+}
+
+// Plays a line on the fronts of the rooms that are lent, and writes its answer. What it lends counts at once.
+fn play_line(
+    line: &[u8],
+    mut rooms: Rooms<'_>,
+    counts: &mut Lent,
+    out: &mut impl Write,
+) -> io::Result<()> {
+    let mut fields = Fields::of(line);
+    let command = Command::from_code(fields.byte());
+    if let Some(Command::Lend) = command {
+        *counts = Lent::read(&mut fields, &mut rooms);
+    }
+    play_call(command, &mut fields, rooms, counts, out)
+}
+
+// Plays every line of a text, and writes the answers.
+pub fn play(text: &[u8], rooms: Rooms<'_>, out: &mut impl Write) -> io::Result<()> {
+    let Rooms {
+        matrix,
+        lists,
+        records,
+        right,
+        answers,
+    } = rooms;
+    let mut counts = Lent::nothing();
+    for line in text.split_inclusive(|b| *b == b'\n') {
+        let rooms = Rooms {
             matrix,
             lists,
             records,
-            lent,
             right,
             answers,
-            out,
-        );
-        print(rt, out, lent.answered);
-        at = next;
+        };
+        play_line(line, rooms, &mut counts, out)?;
     }
+    Ok(())
 }

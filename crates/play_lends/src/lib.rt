@@ -1,87 +1,61 @@
 // For test programs: what a line of a script lends (reference/README.md has the format).
 #![tactic(auto)]
 
-ghost use Rattle.std.specs.Prelude.{◌≤◌, length};
-
-use play_fields::{at_most, read_bytes, read_numbers, read_records, read_workers, two};
+use play_fields::{Item, count, workers};
 use records::Record;
-use script::number;
-use worker::Workers;
+use script::Fields;
+use worker::{SLOTS, Worker, Workers};
 
-const LEND: u8 = 16;
-
-// How much of each buffer is lent, the workers, and the length of the last answer.
+// Room for what lines lend. The right side and the answers are lent to one solve.
 #[derive(Drop)]
+pub struct Rooms<'a> {
+    pub matrix: &'a mut [f64],
+    pub lists: &'a mut [u8],
+    pub records: &'a mut [Record],
+    pub right: &'a mut [f64],
+    pub answers: &'a mut [f64],
+}
+
+// Reads a count and that many items to the front of a room, and gives that front: no more than there is room for.
+pub fn lend_items<'a, T: Item>(fields: &mut Fields<'_>, room: &'a mut [T]) -> &'a mut [T] {
+    let n = count(fields).min(room.len());
+    let lent = &mut room[..n];
+    for item in lent.iter_mut() {
+        *item = T::read(fields);
+    }
+    lent
+}
+
+// How much of each room is lent to the calls that follow, and their workers.
+#[derive(Clone, Copy)]
 pub struct Lent {
     pub matrix: usize,
     pub lists: usize,
     pub records: usize,
     pub workers: Workers,
-    pub answered: usize,
 }
 
-// ---- a count of eight digits, and as many as it says and the buffer holds
-
-// The count at a place: at most 65,600 and the length of the buffer.
-fn count(line: &[u8], at: usize, length: usize) -> usize
-    ensures { (result ≤ 65600) × (result ≤ length) }
-{
-    if length < 65600 {
-        return at_most(number(line, at, 8), length);
+impl Lent {
+    pub fn nothing() -> Lent {
+        Lent {
+            matrix: 0,
+            lists: 0,
+            records: 0,
+            workers: Workers {
+                slots: [Worker::idle(); SLOTS],
+                count: 0,
+                number: 0,
+            },
+        }
     }
-    at_most(number(line, at, 8), 65600)
-}
 
-// Reads a count and that many numbers into m, and tells how many of m are lent.
-pub fn lend_numbers(line: &[u8], at: usize, m: &mut [f64]) -> usize
-    requires { at ≤ 8388608 }
-    ensures { (result ≤ 65600) × (result ≤ length m.new) }
-{
-    let n = count(line, at, m.len());
-    read_numbers(line, at + 8, n, m);
-    n
-}
-
-fn lend_bytes(line: &[u8], at: usize, l: &mut [u8]) -> usize
-    requires { at ≤ 8388608 }
-    ensures { (result ≤ 65600) × (result ≤ length l.new) }
-{
-    let n = count(line, at, l.len());
-    read_bytes(line, at + 8, n, l);
-    n
-}
-
-fn lend_records(line: &[u8], at: usize, records: &mut [Record]) -> usize
-    requires { at ≤ 8388608 }
-    ensures { (result ≤ 65600) × (result ≤ length records.new) }
-{
-    let n = count(line, at, records.len());
-    read_records(line, at + 8, n, records);
-    n
-}
-
-// What is lent after a line: a lend line lends anew, and any other changes nothing.
-pub fn lend(
-    line: &[u8],
-    matrix: &mut [f64],
-    lists: &mut [u8],
-    records: &mut [Record],
-    lent: Lent,
-) -> Lent {
-    if two(line, 0) != LEND {
-        return lent;
-    }
-    let a = lend_numbers(line, 2, matrix);
-    let p = 10 + a * 16;
-    let b = lend_bytes(line, p, lists);
-    let q = p + 8 + b * 2;
-    let c = lend_records(line, q, records);
-    let workers = read_workers(line, q + 8 + c * 32);
-    Lent {
-        matrix: a,
-        lists: b,
-        records: c,
-        workers,
-        answered: 0,
+    // What a line lends in place of all before.
+    pub fn read(fields: &mut Fields<'_>, rooms: &mut Rooms<'_>) -> Lent {
+        Lent {
+            matrix: lend_items(fields, rooms.matrix).len(),
+            lists: lend_items(fields, rooms.lists).len(),
+            records: lend_items(fields, rooms.records).len(),
+            workers: workers(fields),
+        }
     }
 }

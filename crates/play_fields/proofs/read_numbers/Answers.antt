@@ -1,8 +1,0 @@
--- `play_fields::read_numbers` meets its contract. Assumes nothing.
-use borrow.Author.Rules.{rules}
-use lib.ListN.{length-set}
-use Rattle.play_fields.proofs.read_numbers.Goals as goal
-
-pub loop-k-preserved : goal.loop-k-preserved
-loop-k-preserved c =
-    (search rules, simp length-set (search rules))
