@@ -1,16 +1,18 @@
 -- What the sizes and the lengths say, in the form that the code tests them, and where a tile ends. Assumes nothing.
-use Prim.Native.Nat.{ℕ, ◌+◌, ◌*◌, ◌≤◌, ◌<◌}
-use mathlib.Core.Path.{◌≡◌}
-use mathlib.Core.Bool.{true, false, not, ◌&&◌}
-use mathlib.Core.List.{List}
+use Prim.Native.Nat.{ℕ, zero, suc, ◌+◌, ◌*◌, ◌≤◌, ◌<◌}
+use mathlib.Core.Path.{◌≡◌, refl, ap}
+use mathlib.Core.Bool.{Bool, true, false, not, ◌&&◌, ◌||◌}
+use mathlib.Core.List.{List, [], ◌∷◌}
 use native.Mathlib.Nat.{mul-le-mul, mul-le-mul_right}
 use native.Mathlib.Omega.{arith}
 use lib.Dec.{eqb, leb}
 use lib.Ieee.{Float}
 use lib.ListN.{length}
 use borrow.Author.Tests.{leb-true, not-false}
+use Rattle.std.specs.List.{list_any, range_with_len}
 use Rattle.model.specs.declared.Sizes.{Sizes}
 use Rattle.worker.specs.declared.Worker.{Worker}
+use Rattle.model.specs.Lists.{run, some}
 use Rattle.model.specs.Task.{tasks}
 use Rattle.model.specs.Plan.{plan, plan_of, order}
 use Rattle.model.specs.Refusal.{inside, bad_sizes, bad_lengths}
@@ -64,3 +66,17 @@ module _ (z : Sizes) (m : List Float) (l : List ℕ) (r : List (List ℕ)) (slot
 
 pub tile_fits : (N t i j : ℕ) → i < N → j < N → (i * N + j) * (t * t) + t * t ≤ N * t * (N * t)
 tile_fits N t i j h g = omega (arith, mul-le-mul_right (t * t) (in_block N N i j h g))
+
+-- ---- searches
+
+-- a search as the library has it
+pub some_is_any : {A : Type 0} (p : A → Bool) (xs : List A) → list_any p xs ≡ some p xs
+unfolding some
+some_is_any p [] = refl
+some_is_any p (x ∷ xs) = ap (λ (b : Bool). p x || b) (some_is_any p xs)
+
+-- a run of numbers as the library has it
+pub run_is_range : (a n : ℕ) → range_with_len a n ≡ run a n
+unfolding run
+run_is_range a zero = refl
+run_is_range a (suc n) = let e : a + 1 ≡ suc a = omega arith in rw e (ap (λ (l : List ℕ). a ∷ l) (run_is_range (suc a) n))

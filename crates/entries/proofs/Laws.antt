@@ -1,7 +1,7 @@
 -- The list entries one list and one row at a time, as the code looks at them. Assumes nothing.
-use Prim.Native.Nat.{ℕ, suc, ◌+◌, ◌-◌, ◌*◌, ◌/◌, ◌%◌, ◌≤◌, ◌<◌}
-use mathlib.Core.Path.{◌≡◌, sym, ap, ◌∙◌}
-use mathlib.Core.Bool.{Bool, true, false, ◌||◌, or_assoc, or-false}
+use Prim.Native.Nat.{ℕ, zero, suc, ◌+◌, ◌-◌, ◌*◌, ◌/◌, ◌%◌, ◌≤◌, ◌<◌}
+use mathlib.Core.Path.{◌≡◌, refl, sym, ap, ◌∙◌}
+use mathlib.Core.Bool.{Bool, ◌||◌, or_assoc, or-false}
 use mathlib.Core.List.{List}
 use native.Mathlib.Nat.{zero-mul, mul_assoc}
 use native.Mathlib.Omega.{arith}
@@ -42,6 +42,17 @@ module _ (f : ℕ → Bool) (n j : ℕ) (found whole : Bool) where
   unfolding some run
   found_all h e = let z : n - j ≡ 0 = omega arith in sym (or-false found) ∙ (rw z at e)
 
+-- ---- runs of s places, one after the other
+
+module _ (f : ℕ → Bool) (s a : ℕ) (g : ℕ → Bool) (e : (j : ℕ) → g j ≡ some f (run ((a + j) * s) s)) where
+  chunks : (x m : ℕ) → some g (run x m) ≡ some f (run ((a + x) * s) (m * s))
+  unfolding some run
+  chunks x zero = rw (zero-mul s)
+  chunks x (suc m) =
+      let q : a + suc x ≡ suc (a + x) = omega arith in
+      let r : some g (run (suc x) m) ≡ some f (run (suc (a + x) * s) (m * s)) = rw q at (chunks (suc x) m) in
+      rw (e x, r) (sym (some_chunk f s (a + x) m))
+
 -- ---- lists and rows
 
 module _ (z : Sizes) (l : List ℕ) where
@@ -69,55 +80,13 @@ module _ (z : Sizes) (l : List ℕ) where
   list_exceeds i j h limit q v e =
       e ∙ some_cong (λ x. ltb limit (get_or l x 0)) bad ((i * N + j) * t) t (λ x a b. ap (λ (y : ℕ). ltb y (get_or l x 0)) q ∙ in_list i j h x a b)
 
-  -- what is left of row i from list (i,j) on
-  abbrev pub row_left : ℕ → ℕ → Bool
-  row_left i j = some bad (run ((i * N + j) * t) ((N - j) * t))
+  -- the lists of row i one after the other
+  pub lists_of_row : (i : ℕ) → some (λ j. some bad (run ((i * N + j) * t) t)) (run 0 N) ≡ some bad (run (i * (N * t)) (N * t))
+  lists_of_row i =
+      let q : i * N + 0 ≡ i * N = omega arith in
+      chunks bad t (i * N) _ (λ j. refl) 0 N ∙ rw (q, mul_assoc i N t)
 
-  pub row_begins : (i : ℕ) → row_left i 0 ≡ some bad (run (i * (N * t)) (N * t))
-  row_begins i =
-      let a : i * N + 0 ≡ i * N = omega arith in
-      let b : N - 0 ≡ N = omega arith in
-      rw (a, b, mul_assoc i N t)
-
-  row_step : (i j : ℕ) → j < N → row_left i j ≡ (some bad (run ((i * N + j) * t) t) || row_left i (j + 1))
-  row_step i j h =
-      let a : N - j ≡ suc (N - (j + 1)) = omega arith in
-      let b : i * N + (j + 1) ≡ suc (i * N + j) = omega arith in
-      rw (a, b) (some_chunk bad t (i * N + j) (N - (j + 1)))
-
-  pub row_stops : (i j : ℕ) (whole : Bool) → j < N → row_left i j ≡ whole → some bad (run ((i * N + j) * t) t) ≡ true → true ≡ whole
-  row_stops i j whole h e q = (rw q at (sym (row_step i j h))) ∙ e
-
-  pub row_goes_on : (i j : ℕ) (whole : Bool) → j < N → row_left i j ≡ whole → some bad (run ((i * N + j) * t) t) ≡ false → row_left i (j + 1) ≡ whole
-  row_goes_on i j whole h e q = (rw q at (sym (row_step i j h))) ∙ e
-
-  pub row_ends : (i j : ℕ) (whole : Bool) → N ≤ j → row_left i j ≡ whole → false ≡ whole
-  unfolding some run
-  row_ends i j whole h e = let q : N - j ≡ 0 = omega arith in rw (q, zero-mul t) at e
-
-  -- what is left of the lists from row i on
-  abbrev pub rows_left : ℕ → Bool
-  rows_left i = some bad (run (i * (N * t)) ((N - i) * (N * t)))
-
-  pub rows_begin : rows_left 0 ≡ some bad (below (N * N * t))
+  -- the rows one after the other
+  pub all_rows : some (λ i. some bad (run (i * (N * t)) (N * t))) (run 0 N) ≡ some bad (below (N * N * t))
   unfolding below
-  rows_begin =
-      let a : 0 * (N * t) ≡ 0 = omega arith in
-      let b : N - 0 ≡ N = omega arith in
-      rw (a, b, mul_assoc N N t)
-
-  rows_step : (i : ℕ) → i < N → rows_left i ≡ (some bad (run (i * (N * t)) (N * t)) || rows_left (i + 1))
-  rows_step i h =
-      let a : N - i ≡ suc (N - (i + 1)) = omega arith in
-      let b : i + 1 ≡ suc i = omega arith in
-      rw (a, b) (some_chunk bad (N * t) i (N - suc i))
-
-  pub rows_stop : (i : ℕ) (whole : Bool) → i < N → rows_left i ≡ whole → some bad (run (i * (N * t)) (N * t)) ≡ true → true ≡ whole
-  rows_stop i whole h e q = (rw q at (sym (rows_step i h))) ∙ e
-
-  pub rows_go_on : (i : ℕ) (whole : Bool) → i < N → rows_left i ≡ whole → some bad (run (i * (N * t)) (N * t)) ≡ false → rows_left (i + 1) ≡ whole
-  rows_go_on i whole h e q = (rw q at (sym (rows_step i h))) ∙ e
-
-  pub rows_end : (i : ℕ) (whole : Bool) → N ≤ i → rows_left i ≡ whole → false ≡ whole
-  unfolding some run
-  rows_end i whole h e = let q : N - i ≡ 0 = omega arith in rw (q, zero-mul (N * t)) at e
+  all_rows = chunks bad (N * t) 0 _ (λ i. let q : 0 + i ≡ i = omega arith in rw q) 0 N ∙ rw (zero-mul (N * t), mul_assoc N N t)

@@ -30,14 +30,20 @@ fn exceeded(lists: &[u8], start: usize, t: usize, limit: u8) -> bool
     requires { start + t ≤ length lists.now }
     ensures { result ≡ some (λ x. ltb limit (get_or lists.now x 0)) (run start t) }
 {
-    let end = start + t;
     let mut bad = false;
-    let mut x = start;
-    while x < end {
-        bad = bad | (limit < lists[x]);
-        x += 1;
+    for x in start..start + t {
+        bad |= limit < lists[x];
     }
     bad
+}
+
+// Whether an entry of list (i,j) exceeds its limit.
+fn bad_list(z: Sizes, lists: &[u8], i: usize, j: usize) -> bool
+    requires { Sized z × ListsFit z lists.now × (i < z.tiles) × (j < z.tiles) }
+    ensures { result ≡ some (bad_entry (plan_of z) (lists_alone lists.now)) (run ((i * z.tiles + j) * z.side) z.side) }
+{
+    let t = z.side;
+    exceeded(lists, (i * z.tiles + j) * t, t, entry_limit(z, i, j))
 }
 
 // Whether an entry of a list in row i of tiles exceeds its limit.
@@ -45,16 +51,7 @@ fn bad_row(z: Sizes, lists: &[u8], i: usize) -> bool
     requires { Sized z × ListsFit z lists.now × (i < z.tiles) }
     ensures { result ≡ some (bad_entry (plan_of z) (lists_alone lists.now)) (run (i * (z.tiles * z.side)) (z.tiles * z.side)) }
 {
-    let n = z.tiles;
-    let t = z.side;
-    let mut j = 0;
-    while j < n {
-        if exceeded(lists, (i * n + j) * t, t, entry_limit(z, i, j)) {
-            return true;
-        }
-        j += 1;
-    }
-    false
+    (0..z.tiles).any(|j| bad_list(z, lists, i, j))
 }
 
 // Whether some list has an entry above its limit.
@@ -62,13 +59,5 @@ pub fn bad_entries(z: Sizes, lists: &[u8]) -> bool
     requires { Sized z × ListsFit z lists.now }
     ensures { result ≡ some (bad_entry (plan_of z) (lists_alone lists.now)) (below (z.tiles * z.tiles * z.side)) }
 {
-    let n = z.tiles;
-    let mut i = 0;
-    while i < n {
-        if bad_row(z, lists, i) {
-            return true;
-        }
-        i += 1;
-    }
-    false
+    (0..z.tiles).any(|i| bad_row(z, lists, i))
 }

@@ -1,11 +1,14 @@
 -- What a task's mark and the workers that hold it say of its limits. Assumes nothing.
 use Prim.Native.Nat.{ℕ, suc, ◌+◌, ◌*◌, ◌≤◌}
-use mathlib.Core.Path.{◌≡◌, sym, ap, ◌∙◌}
-use mathlib.Core.Bool.{Bool, true, cond, not, ◌&&◌, ◌||◌}
+use mathlib.Core.Path.{◌≡◌, refl, sym, ap, ◌∙◌}
+use mathlib.Core.Bool.{Bool, true, false, cond, not, ◌&&◌, ◌||◌}
 use mathlib.Core.List.{List, []}
 use native.Mathlib.Omega.{arith}
 use lib.Dec.{eqb}
 use lib.ListN.{length}
+use Rattle.std.specs.Prelude.{Some}
+use Rattle.std.proofs.lemmas.Bool.Decides.{nat_tests}
+use Rattle.std.specs.Bool.{then_some}
 use borrow.Author.Tests.{ne_eqb}
 use Rattle.model.specs.declared.Sizes.{Sizes}
 use Rattle.worker.specs.declared.Worker.{Worker}
@@ -16,7 +19,8 @@ use Rattle.model.specs.Calls.{marks_of}
 use Rattle.model.specs.Refusal.{holds, next_column, bad_hold, tie_limit, call_limit}
 use Rattle.records.specs.Records.{marks_from, crew, lent}
 use Rattle.checks.specs.Checks.{held}
-use Rattle.holds.specs.Allowed.{Allowed}
+use Rattle.holds.specs.declared.Limits.{Limits}
+use Rattle.holds.specs.Allowed.{Limited, Allowed}
 
 module _ (z : Sizes) (r : List (List ℕ)) (h : List Worker) (p m : ℕ) (e : m ≡ mark (marks_from r) p) where
   abbrev W : ℕ
@@ -35,27 +39,49 @@ module _ (z : Sizes) (r : List (List ℕ)) (h : List Worker) (p m : ℕ) (e : m 
   unfolding call_limit next_column lent marks_of marks_from plan
   calls_by = ap (λ (k : ℕ). cond (finished k) (suc z.side) (cond (eqb k taken) (suc (next_column (held [] h W) p)) 0)) (sym e)
 
+  -- its limits where b tells that it is held as its mark says
+  pub allowed_where : (b : Bool) (l : Limits) → not b ≡ bad_hold (plan_of z) (held r h W) p → Limited z r h p l → Allowed z r h p (then_some b l)
+  allowed_where true l q k = record { as_marked = q; limits = k }
+  allowed_where false l q k = record { as_marked = q; limits = tt }
+
 -- a taken task, which n workers hold, with c the sum of their columns
 pub allowed_held : (z : Sizes) (r : List (List ℕ)) (h : List Worker) (p : ℕ) → taken ≡ mark (marks_from r) p
     → (n c : ℕ) → n ≡ length (keep (holds p) (crew h z.workers)) → c ≡ next_column (held [] h z.workers) p → c ≤ 8160
-    → Allowed z r h p (record { held = eqb n 1; ties = z.side * c; calls = 1 + c })
+    → Allowed z r h p (then_some (eqb n 1) (record { ties = z.side * c; calls = 1 + c }))
 unfolding finished
-allowed_held z r h p e n c f g l = record {
-  as_marked = sym (hold_by z r h p 1 e ∙ ap (λ (k : ℕ). not (eqb k 1)) (sym f));
-  ties = sym (ties_by z r h p 1 e ∙ ap (λ (k : ℕ). z.side * k) (sym g));
-  calls = sym (calls_by z r h p 1 e ∙ ap suc (sym g) ∙ omega arith);
-  few = omega arith;
-}
+allowed_held z r h p e n c f g l =
+    allowed_where z r h p 1 e (eqb n 1) _
+    (sym (hold_by z r h p 1 e ∙ ap (λ (k : ℕ). not (eqb k 1)) (sym f)))
+    (record {
+      ties = sym (ties_by z r h p 1 e ∙ ap (λ (k : ℕ). z.side * k) (sym g));
+      calls = sym (calls_by z r h p 1 e ∙ ap suc (sym g) ∙ omega arith);
+      few = omega arith;
+    })
+
+-- what the tests of a mark tell of its limits, with t the side
+module _ (m t : ℕ) where
+  pub marks_2_3 : 2 ≤ m → m ≤ 3 → (t * t ≡ cond (eqb m 2 || eqb m 3) (t * t) 0) × (t + 1 ≡ cond (finished m) (suc t) 0)
+  unfolding finished
+  marks_2_3 h g = (grind (arith, nat_tests), grind (arith, nat_tests))
+
+  pub mark_4 : m ≡ 4 → (0 ≡ cond (eqb m 2 || eqb m 3) (t * t) 0) × (t + 1 ≡ cond (finished m) (suc t) 0)
+  unfolding finished
+  mark_4 e = rw e (refl, omega arith)
+
+  pub other_marks : (m ≡ 2 → ⊥) → (m ≡ 3 → ⊥) → (m ≡ 4 → ⊥) → (0 ≡ cond (eqb m 2 || eqb m 3) (t * t) 0) × (0 ≡ cond (finished m) (suc t) 0)
+  unfolding finished
+  other_marks a b c = rw (ne_eqb m 2 a, ne_eqb m 3 b, ne_eqb m 4 c) (refl, refl)
 
 -- any other
 pub allowed_free : (z : Sizes) (r : List (List ℕ)) (h : List Worker) (p m : ℕ) → m ≡ mark (marks_from r) p → (m ≡ taken → ⊥)
     → (x y : ℕ) → x ≡ cond (eqb m 2 || eqb m 3) (z.side * z.side) 0 → y ≡ cond (finished m) (suc z.side) 0 → y ≤ 8161
-    → Allowed z r h p (record { held = true; ties = x; calls = y })
+    → Allowed z r h p (Some (record { ties = x; calls = y }))
 allowed_free z r h p m e d x y f g l =
     let n = ne_eqb m taken d in
-    record {
-      as_marked = sym (hold_by z r h p m e ∙ ap (λ (b : Bool). b && not (eqb (length (keep (holds p) (crew h z.workers))) 1)) n);
+    allowed_where z r h p m e true _
+    (sym (hold_by z r h p m e ∙ ap (λ (b : Bool). b && not (eqb (length (keep (holds p) (crew h z.workers))) 1)) n))
+    (record {
       ties = f ∙ sym (ties_by z r h p m e ∙ ap (λ (b : Bool). cond (eqb m 2 || eqb m 3) (z.side * z.side) (cond b (z.side * next_column (held [] h z.workers) p) 0)) n);
       calls = g ∙ sym (calls_by z r h p m e ∙ ap (λ (b : Bool). cond (finished m) (suc z.side) (cond b (suc (next_column (held [] h z.workers) p)) 0)) n);
       few = l;
-    }
+    })

@@ -1,7 +1,7 @@
 // Refusal 4's limits of a task, by its mark and the workers that hold it.
 #![tactic(auto)]
 
-ghost use Rattle.std.specs.Prelude.{◌≡◌, List, [], ℕ, ◌*◌, ◌≤◌, length};
+ghost use Rattle.std.specs.Prelude.{◌≡◌, List, [], ℕ, ◌*◌, ◌≤◌, length, Some};
 ghost use Rattle.worker.specs.declared.Worker.{Worker as SomeWorker};
 ghost use Rattle.model.specs.Limits.{most_workers};
 ghost use Rattle.model.specs.Lists.{keep};
@@ -11,6 +11,7 @@ ghost use Rattle.records.specs.Records.{marks_from, crew};
 ghost use Rattle.checks.specs.Checks.{Sized, held};
 ghost use Rattle.holds.specs.Allowed.{Allowed};
 
+use marks::{DONE, FAILED, SPOILED};
 use model::Sizes;
 use worker::Slots;
 
@@ -21,10 +22,9 @@ pub struct Holders {
     pub column: usize,
 }
 
-// Whether a task is held as its mark says, the most that its tie sum may be, and the most accepted calls that it can have had.
+// The most that a task's tie sum may be, and the most accepted calls that it can have had.
 #[derive(Clone, Copy)]
 pub struct Limits {
-    pub held: bool,
     pub ties: usize,
     pub calls: usize,
 }
@@ -36,48 +36,37 @@ fn held_by(workers: Slots, count: usize, p: usize) -> Holders
 {
     let mut n = 0;
     let mut column = 0;
-    let mut v = 0;
-    while v < count {
-        let h = workers[v];
+    for h in &workers[..count] {
         if h.busy & (h.task as usize == p) {
             n += 1;
             column += h.column as usize;
         }
-        v += 1;
     }
     Holders { count: n, column }
 }
 
-// The limits of task p, which is taken.
-pub fn held_limits(z: Sizes, workers: Slots, p: usize) -> Limits
+// The limits of task p, which is taken: none where it is not held by one worker.
+pub fn held_limits(z: Sizes, workers: Slots, p: usize) -> Option<Limits>
     requires { Sized z }
     ensures { (records : List (List ℕ)) → taken ≡ markAt (marks_from records) p → Allowed z records workers p result }
 {
     let h = held_by(workers, z.workers, p);
-    Limits {
-        held: h.count == 1,
+    (h.count == 1).then_some(Limits {
         ties: z.side * h.column,
         calls: 1 + h.column,
-    }
+    })
 }
 
-// The limits of a task with this mark, where that is not 1: no worker counts for them.
+// The limits of a task with this mark, where that is not TAKEN: no worker counts for them.
 pub fn free_limits(z: Sizes, mark: u8) -> Limits
     requires { Sized z }
-    ensures { (records : List (List ℕ)) (slots : List SomeWorker) (p : ℕ) → mark ≡ markAt (marks_from records) p → (mark ≡ taken → ⊥) → Allowed z records slots p result }
+    ensures { (records : List (List ℕ)) (slots : List SomeWorker) (p : ℕ) → mark ≡ markAt (marks_from records) p → (mark ≡ taken → ⊥) → Allowed z records slots p (Some result) }
 {
     let t = z.side;
-    let mut ties = 0;
-    let mut calls = 0;
-    if (mark == 2) | (mark == 3) {
-        ties = t * t;
-    }
-    if (mark == 2) | (mark == 3) | (mark == 4) {
-        calls = t + 1;
-    }
-    Limits {
-        held: true,
-        ties,
-        calls,
-    }
+    let (ties, calls) = match mark {
+        DONE | FAILED => (t * t, t + 1),
+        SPOILED => (0, t + 1),
+        _ => (0, 0),
+    };
+    Limits { ties, calls }
 }

@@ -2,12 +2,13 @@
 // is a triple: T-1(k) is (k,k,k), T-2(k,j) is (k,k,j), T-3(k,i) is (k,i,k), T-4(k,i,j) is (k,i,j).
 #![tactic(auto)]
 
-ghost use Rattle.std.specs.Prelude.{◌≡◌, max};
+ghost use Rattle.std.specs.Prelude.{◌≡◌};
 ghost use Rattle.links.specs.Closed.{key, back_mark, above_mark, left_mark};
 ghost use Rattle.records.specs.Records.{marks_from};
 ghost use Rattle.marks.specs.Marks.{Recorded};
 ghost use Rattle.neighbours.specs.Linked.{Placed, link_marks};
 
+use marks::DONE;
 use records::{Record, mark_of};
 
 // The marks of the task one stage back at the same tile, of the one above in its column, and of the first of its row.
@@ -24,7 +25,7 @@ fn back_mark(n: usize, records: &[Record], p: usize, k: usize, i: usize, j: usiz
     ensures { result ≡ back_mark n (marks_from records.now) (key k i j) }
 {
     if k == 0 {
-        return 2;
+        return DONE;
     }
     let m = n - k;
     mark_of(records, p + 1 + i - (n + m * m))
@@ -36,7 +37,7 @@ fn above_mark(n: usize, records: &[Record], p: usize, k: usize, i: usize, j: usi
     ensures { result ≡ above_mark n (marks_from records.now) (key k i j) }
 {
     if i == k {
-        return 2;
+        return DONE;
     }
     mark_of(records, p - (n - k))
 }
@@ -47,19 +48,9 @@ fn left_mark(n: usize, records: &[Record], p: usize, k: usize, i: usize, j: usiz
     ensures { result ≡ left_mark n (marks_from records.now) (key k i j) }
 {
     if j == k {
-        return 2;
+        return DONE;
     }
     mark_of(records, p - (j - k))
-}
-
-// An index of a triple from a record: one that is unused is 0 there, and k in the triple.
-fn larger(x: u8, y: u8) -> usize
-    ensures { result ≡ max x y }
-{
-    if x < y {
-        return y as usize;
-    }
-    x as usize
 }
 
 // The marks of the tasks linked to task p: done where there is none.
@@ -69,14 +60,11 @@ pub fn link_marks(n: usize, records: &[Record], p: usize) -> LinkMarks
 {
     let r = records::record_at(records, p);
     let k = r.k as usize;
-    let i = larger(r.k, r.i);
-    let j = larger(r.k, r.j);
+    // An index that is unused is 0 in the record, and k in the triple.
+    let i = r.k.max(r.i) as usize;
+    let j = r.k.max(r.j) as usize;
     let back = back_mark(n, records, p, k, i, j);
     let above = above_mark(n, records, p, k, i, j);
     let left = left_mark(n, records, p, k, i, j);
-    LinkMarks {
-        back: back,
-        above: above,
-        left: left,
-    }
+    LinkMarks { back, above, left }
 }

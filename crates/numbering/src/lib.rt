@@ -28,17 +28,13 @@ pub fn next(n: u8, a: Triple) -> Triple
     ensures fact { number n (key a.k a.i a.j) + 1 < length (tasks n) → In n (key result.k result.i result.j) }
 {
     if a.j + 1 < n {
-        return Triple {
-            k: a.k,
-            i: a.i,
-            j: a.j + 1,
-        };
+        return Triple { j: a.j + 1, ..a };
     }
     if a.i + 1 < n {
         return Triple {
-            k: a.k,
             i: a.i + 1,
             j: a.k,
+            ..a
         };
     }
     Triple {

@@ -7,16 +7,16 @@ ghost use Rattle.model.specs.Links.{ready};
 ghost use Rattle.records.specs.Records.{marks_from};
 ghost use Rattle.marks.specs.Marks.{Recorded};
 
-use marks::is_finished;
+use marks::{WAITING, is_finished};
 use neighbours::link_marks;
-use records::Record;
+use records::{Record, mark_of};
 
 // Whether task p is ready.
 pub fn is_ready(n: usize, records: &[Record], p: usize) -> bool
     requires { Recorded n records.now p }
     ensures { result ≡ ready (tasks n) (marks_from records.now) p }
 {
-    if records::mark_of(records, p) != 0 {
+    if mark_of(records, p) != WAITING {
         return false;
     }
     let m = link_marks(n, records, p);

@@ -3,26 +3,11 @@
 
 ghost use Rattle.std.specs.Prelude.{◌≡◌, ◌+◌, ◌<◌, length, get_or, set};
 ghost use Rattle.model.specs.Calls.{with_take, with_column, changed};
-ghost use Rattle.records.specs.Records.{records_from, ties_from, four_bytes};
+ghost use Rattle.records.specs.Records.{records_from, ties_from};
 
 use marks::is_finished;
 use model::TaskRecord;
 use records::{Record, record_at};
-
-// The four bytes of a number, the lowest first.
-fn bytes_of(n: u32) -> [u8; 4]
-    ensures { four_bytes (get_or result 0 0) (get_or result 1 0) (get_or result 2 0) (get_or result 3 0) ≡ n }
-{
-    let second = n / 256;
-    let third = second / 256;
-    let fourth = third / 256;
-    [
-        (n % 256) as u8,
-        (second % 256) as u8,
-        (third % 256) as u8,
-        fourth as u8,
-    ]
-}
 
 // Puts a record in the place of task p's.
 pub fn put_record(records: &mut [Record], p: usize, task: TaskRecord)
@@ -30,10 +15,9 @@ pub fn put_record(records: &mut [Record], p: usize, task: TaskRecord)
     ensures records_after { records_from records.new ≡ set (records_from records.old) p task }
     ensures records_len_unchanged { length records.new ≡ length records.old }
 {
-    let low = (task.ties % 256) as u8;
-    let high = (task.ties / 256) as u8;
-    let t = bytes_of(task.took);
-    let e = bytes_of(task.ended);
+    let [low, high] = task.ties.to_le_bytes();
+    let t = task.took.to_le_bytes();
+    let e = task.ended.to_le_bytes();
     records[p] = [
         task.kind,
         task.k,
@@ -65,15 +49,9 @@ pub fn take_record(records: &mut [Record], p: usize, number: u32)
         records,
         p,
         TaskRecord {
-            kind: task.kind,
-            k: task.k,
-            i: task.i,
-            j: task.j,
             mark: 1,
-            worker: task.worker,
-            ties: task.ties,
             took: number,
-            ended: task.ended,
+            ..task
         },
     );
 }
@@ -95,15 +73,11 @@ pub fn add_column(records: &mut [Record], p: usize, w: u8, number: u32, mark: u8
         records,
         p,
         TaskRecord {
-            kind: task.kind,
-            k: task.k,
-            i: task.i,
-            j: task.j,
             mark,
             worker,
             ties: task.ties + ties,
-            took: task.took,
             ended,
+            ..task
         },
     );
 }

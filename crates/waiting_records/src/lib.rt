@@ -12,54 +12,34 @@ use numbering::Triple;
 pub fn record_of(a: Triple) -> TaskRecord
     ensures { result ≡ record_of (task_at (key a.k a.i a.j)) }
 {
-    if a.i == a.k {
-        if a.j == a.k {
-            return TaskRecord {
-                kind: 1,
-                k: a.k,
-                i: 0,
-                j: 0,
-                mark: 0,
-                worker: 0,
-                ties: 0,
-                took: 0,
-                ended: 0,
-            };
-        }
-        return TaskRecord {
-            kind: 2,
-            k: a.k,
-            i: 0,
-            j: a.j,
-            mark: 0,
-            worker: 0,
-            ties: 0,
-            took: 0,
-            ended: 0,
-        };
-    }
-    if a.j == a.k {
-        return TaskRecord {
-            kind: 3,
-            k: a.k,
-            i: a.i,
-            j: 0,
-            mark: 0,
-            worker: 0,
-            ties: 0,
-            took: 0,
-            ended: 0,
-        };
-    }
-    TaskRecord {
-        kind: 4,
+    let waiting = TaskRecord {
+        kind: 1,
         k: a.k,
-        i: a.i,
-        j: a.j,
+        i: 0,
+        j: 0,
         mark: 0,
         worker: 0,
         ties: 0,
         took: 0,
         ended: 0,
+    };
+    match (a.i == a.k, a.j == a.k) {
+        (true, true) => waiting,
+        (true, false) => TaskRecord {
+            kind: 2,
+            j: a.j,
+            ..waiting
+        },
+        (false, true) => TaskRecord {
+            kind: 3,
+            i: a.i,
+            ..waiting
+        },
+        (false, false) => TaskRecord {
+            kind: 4,
+            i: a.i,
+            j: a.j,
+            ..waiting
+        },
     }
 }

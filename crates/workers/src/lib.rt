@@ -9,6 +9,7 @@ ghost use Rattle.model.specs.Refusal.{bad_worker as badWorkerIn};
 ghost use Rattle.records.specs.Records.{crew};
 ghost use Rattle.checks.specs.Checks.{Sized, records_alone};
 
+use marks::TAKEN;
 use model::Sizes;
 use records::{Record, mark_of};
 use task_counts::task_count;
@@ -26,7 +27,7 @@ fn bad_worker(z: Sizes, records: &[Record], h: Worker) -> bool
     if task_count(z.tiles) <= p {
         return true;
     }
-    if mark_of(records, p) != 1 {
+    if mark_of(records, p) != TAKEN {
         return true;
     }
     z.side <= h.column as usize
@@ -37,12 +38,7 @@ pub fn bad_workers(z: Sizes, records: &[Record], workers: Slots) -> bool
     requires { Sized z × RecordsFit z records.now }
     ensures { result ≡ some (badWorkerIn (plan_of z) (records_alone records.now)) (crew workers z.workers) }
 {
-    let mut w = 0;
-    while w < z.workers {
-        if bad_worker(z, records, workers[w]) {
-            return true;
-        }
-        w += 1;
-    }
-    false
+    workers[..z.workers]
+        .iter()
+        .any(|h| bad_worker(z, records, *h))
 }

@@ -1,5 +1,5 @@
 -- What is found so far, or in what is left, gives the whole search's answer. Assumes nothing.
-use Prim.Native.Nat.{ℕ, ◌+◌, ◌-◌, ◌≤◌}
+use Prim.Native.Nat.{ℕ, ◌+◌, ◌-◌}
 use mathlib.Core.Bool.{Bool, ◌||◌}
 use mathlib.Core.List.{List}
 use mathlib.Core.Path.{◌≡◌}
@@ -13,7 +13,4 @@ abbrev pub over : ℕ → List ℕ → ℕ → Bool
 over limit lists x = ltb limit (get_or lists x 0)
 
 abbrev pub invariant-loop-x : goal.invariant-loop-x
-invariant-loop-x l = (l.start ≤ l.x) × (l.x ≤ l.start + l.t) × ((l.bad || some (over l.limit l.lists) (run l.x (l.start + l.t - l.x))) ≡ some (over l.limit l.lists) (run l.start l.t))
-
-abbrev pub decreases-loop-x : goal.decreases-loop-x
-decreases-loop-x l = l.start + l.t - l.x
+invariant-loop-x l = (l.bad || some (over l.limit l.lists) (run l.x (l.start + l.t - l.x))) ≡ some (over l.limit l.lists) (run l.start l.t)

@@ -1,6 +1,11 @@
 -- Those counted and those left are all, and so with their columns. Assumes nothing.
-use mathlib.Core.Path.{sym, ◌∙◌}
+use mathlib.Core.Path.{◌≡◌, sym, ◌∙◌}
+use lib.ListN.{length, get_or, take}
+use lib.Seq.{length-take-le, get_or-take}
+use Prim.Native.Nat.{◌+◌, ◌≤◌, ◌<◌}
+use mathlib.Core.Bool.{true, false}
 use native.Mathlib.Omega.{arith}
+use Rattle.worker.specs.Holding.{idle}
 use Rattle.model.specs.Refusal.{holds, next_column}
 use Rattle.records.specs.Records.{crew, lent}
 use Rattle.records.proofs.Laws.{keep_workers}
@@ -8,56 +13,34 @@ use Rattle.laws.proofs.Searches.{keep_begins, keep_counts, keep_passes, keep_end
 use Rattle.holds.proofs.held_by.Goals as goal
 use Rattle.holds.proofs.held_by.Goals.{then-h-p, else-h-p}
 
-pub loop-v-init : goal.loop-v-init
+pub loop-h-init : goal.loop-h-init
 unfolding next_column lent crew
-loop-v-init c =
-    (omega arith, omega arith, omega arith, keep_begins _ _, sum_begins _ _ _ _)
+loop-h-init c =
+    (omega arith, omega arith, keep_begins _ _, sum_begins _ _ _ _)
 
-pub offset_bounds-workers-v : goal.offset_bounds-workers-v
-offset_bounds-workers-v c =
-    omega arith
-
-pub bounds-workers-v : goal.bounds-workers-v
-bounds-workers-v c =
-    omega arith
-
-pub overflow_cast-h : goal.overflow_cast-h
-overflow_cast-h c =
-    omega arith
-
-pub overflow_add-n : goal.overflow_add-n
-overflow_add-n c =
-    omega arith
-
-pub overflow_cast-column : goal.overflow_cast-column
-overflow_cast-column c =
-    omega arith
-
-pub overflow_add-column : goal.overflow_add-column
-overflow_add-column c =
-    omega arith
-
-pub overflow_add-v : goal.overflow_add-v
-overflow_add-v c =
-    omega arith
-
-pub loop-v-smaller : goal.loop-v-smaller
-loop-v-smaller c =
-    omega arith
-
-pub loop-v-preserved : goal.loop-v-preserved
+pub loop-h-preserved : goal.loop-h-preserved
 unfolding holds
-loop-v-preserved c =
-    let more = c.loop-v-test.true in
-    let inv = c.loop-v.invariant in
+loop-h-preserved c =
+    let a = c.args in
+    let i = c.loop-h.h-index in
+    let inv = c.loop-h.invariant in
+    let long : length (take a.count a.workers) ≡ a.count = length-take-le a.count a.workers (omega arith) in
+    let more : i < a.count = omega arith in
+    let here : get_or (take a.count a.workers) i idle ≡ get_or a.workers i idle = get_or-take a.count a.workers i idle more in
     elim c.if-h-p.branch [
-      | then-h-p w ↦ (omega arith, omega arith, omega arith, keep_counts _ _ _ _ _ _ more inv.3 w.if-h-p.true w.n-is, sum_adds _ _ _ _ _ _ _ _ more inv.4 w.if-h-p.true w.column-is)
-      | else-h-p w ↦ (omega arith, omega arith, omega arith, keep_passes _ _ _ _ _ _ more inv.3 w.if-h-p.false w.n-is, sum_passes _ _ _ _ _ _ _ _ more inv.4 w.if-h-p.false w.column-is)
+      | then-h-p w ↦
+          let yes : holds a.p (get_or (take a.count a.workers) i idle) ≡ true = w.if-h-p.true in
+          let sum : c.if-h-p.column ≡ c.loop-h.column + (get_or (take a.count a.workers) i idle).column = w.column-is in
+          (omega arith, omega arith, keep_counts _ _ _ _ _ _ more inv.2 (rw here at yes) w.n-is, sum_adds _ _ _ _ _ _ _ _ more inv.3 (rw here at yes) (rw here at sum))
+      | else-h-p w ↦
+          let no : holds a.p (get_or (take a.count a.workers) i idle) ≡ false = w.if-h-p.false in
+          (omega arith, omega arith, keep_passes _ _ _ _ _ _ more inv.2 (rw here at no) w.n-is, sum_passes _ _ _ _ _ _ _ _ more inv.3 (rw here at no) w.column-is)
     ]
 
 pub returns : goal.returns
-returns c = (
-  keep_ends _ _ _ _ _ c.loop-v-test.false c.loop-v.invariant.3 ∙ sym (keep_workers _ _ (holds c.args.p)),
-  sum_ends _ _ _ _ _ _ _ c.loop-v-test.false c.loop-v.invariant.4,
-  omega arith,
-)
+returns c =
+    let a = c.args in
+    let long : length (take a.count a.workers) ≡ a.count = length-take-le a.count a.workers (omega arith) in
+    let all : a.count ≤ c.loop-h.h-index = omega arith in
+    let inv = c.loop-h.invariant in
+    (keep_ends _ _ _ _ _ all inv.2 ∙ sym (keep_workers _ _ (holds a.p)), sum_ends _ _ _ _ _ _ _ all inv.3, omega arith)

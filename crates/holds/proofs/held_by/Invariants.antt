@@ -15,10 +15,7 @@ use Rattle.holds.proofs.held_by.Given as goal
 abbrev pub rest : List Worker → ℕ → ℕ → ℕ → ℕ
 rest workers p count v = left (λ (w : ℕ). get_or workers w idle) (holds p) (λ (h : Worker). h.column) count v
 
-abbrev pub invariant-loop-v : goal.invariant-loop-v
-invariant-loop-v l = (l.v ≤ l.count) × (l.n ≤ l.v) × (l.column ≤ l.v * 255)
-    × (l.n + length (keep (λ x. holds l.p (get_or l.workers x idle)) (run l.v (l.count - l.v))) ≡ length (keep (λ x. holds l.p (get_or l.workers x idle)) (below l.count)))
-    × (l.column + rest l.workers l.p l.count l.v ≡ next_column (held [] l.workers l.count) l.p)
-
-abbrev pub decreases-loop-v : goal.decreases-loop-v
-decreases-loop-v l = l.count - l.v
+abbrev pub invariant-loop-h : goal.invariant-loop-h
+invariant-loop-h l = (l.n ≤ l.h-index) × (l.column ≤ l.h-index * 255)
+    × (l.n + length (keep (λ x. holds l.p (get_or l.fn.workers x idle)) (run l.h-index (l.count - l.h-index))) ≡ length (keep (λ x. holds l.p (get_or l.fn.workers x idle)) (below l.count)))
+    × (l.column + rest l.fn.workers l.p l.count l.h-index ≡ next_column (held [] l.fn.workers l.count) l.p)

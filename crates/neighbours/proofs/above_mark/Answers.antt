@@ -7,10 +7,6 @@ pub returns-then-i-k : goal.returns-then-i-k
 returns-then-i-k c =
     no_above _ _ _ _ _ _ c.requires _ c.if-i-k.true
 
-pub overflow_sub-n : goal.overflow_sub-n
-overflow_sub-n c =
-    omega (arith, small _ _ _ _ _ _ c.requires)
-
 pub overflow_sub-p : goal.overflow_sub-p
 overflow_sub-p c =
     omega (arith, above_at _ _ _ _ _ _ c.requires c.if-i-k.false)

@@ -15,14 +15,6 @@ pub overflow_add-p-2 : goal.overflow_add-p-2
 overflow_add-p-2 c =
     omega (arith, small _ _ _ _ _ _ c.requires)
 
-pub overflow_mul-m : goal.overflow_mul-m
-overflow_mul-m c =
-    omega (arith, small _ _ _ _ _ _ c.requires)
-
-pub overflow_add-n : goal.overflow_add-n
-overflow_add-n c =
-    omega (arith, small _ _ _ _ _ _ c.requires)
-
 pub overflow_sub-p : goal.overflow_sub-p
 overflow_sub-p c =
     omega (arith, back_at _ _ _ _ _ _ c.requires c.if-k-eq0.false)

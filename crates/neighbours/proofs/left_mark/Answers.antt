@@ -7,10 +7,6 @@ pub returns-then-j-k : goal.returns-then-j-k
 returns-then-j-k c =
     no_left _ _ _ _ _ _ c.requires _ c.if-j-k.true
 
-pub overflow_sub-j : goal.overflow_sub-j
-overflow_sub-j c =
-    omega (arith, small _ _ _ _ _ _ c.requires)
-
 pub overflow_sub-p : goal.overflow_sub-p
 overflow_sub-p c =
     omega (arith, left_at _ _ _ _ _ _ c.requires)

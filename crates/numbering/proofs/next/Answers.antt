@@ -3,13 +3,13 @@ use native.Mathlib.Omega.{arith}
 use Rattle.numbering.proofs.Laws.{next_column_lem, next_row, next_stage, next_inside}
 use Rattle.numbering.proofs.next.Goals as goal
 
-pub returns-then-a-n : goal.returns-then-a-n
-returns-then-a-n c =
-    record { j_value = next_column_lem _ _ _ _ c.requires.1; fact = λ h. record { row = omega arith; column = omega arith; row_fits = omega arith; column_fits = omega arith } }
+pub returns-then-a-n-clause-j_value : goal.returns-then-a-n-clause-j_value
+returns-then-a-n-clause-j_value c =
+    next_column_lem _ _ _ _ c.requires.1
 
-pub returns-then-a-n-2 : goal.returns-then-a-n-2
-returns-then-a-n-2 c =
-    record { j_value = next_row _ _ _ _ c.requires.1 (omega arith); fact = λ h. record { row = omega arith; column = omega arith; row_fits = omega arith; column_fits = omega arith } }
+pub returns-then-a-n-2-clause-j_value : goal.returns-then-a-n-2-clause-j_value
+returns-then-a-n-2-clause-j_value c =
+    next_row _ _ _ _ c.requires.1 (omega arith)
 
 pub returns : goal.returns
 returns c =

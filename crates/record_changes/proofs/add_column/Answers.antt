@@ -35,17 +35,7 @@ returns c =
       | else-is_finished w ↦ w.ended-is ∙ sym (ap (λ (b : Bool). cond b a.number r.ended) (sym f ∙ w.if-is_finished.false))
     ] in record {
       records_after = c.put_record.ensures.records_after
-          ∙ (λ x. set (records_from a.records.now) a.p (record {
-            kind = r.kind;
-            k = r.k;
-            i = r.i;
-            j = r.j;
-            mark = a.mark;
-            worker = who x;
-            ties = r.ties + a.ties;
-            took = r.took;
-            ended = when x;
-          }))
+          ∙ (λ x. set (records_from a.records.now) a.p (record r { mark = a.mark; worker = who x; ties = r.ties + a.ties; ended = when x }))
           ∙ ap (λ (r : TaskRecord). set (records_from a.records.now) a.p (with_column a.w a.number a.mark a.ties r)) c.record_at-task.ensures
           ∙ changed_is (with_column a.w a.number a.mark a.ties) (records_from a.records.now) a.p;
       records_len_unchanged = c.put_record.ensures.records_len_unchanged;

@@ -5,22 +5,22 @@ use Rattle.model.specs.Task.{kind_of, k_of, i_of, j_of}
 use Rattle.links.proofs.Numbering.{at_T_1, at_T_2, at_T_3, at_T_4}
 use Rattle.waiting_records.proofs.record_of.Goals as goal
 
-pub returns-then-a-2 : goal.returns-then-a-2
+pub returns-in-true-true : goal.returns-in-true-true
 unfolding record_of kind_of k_of i_of j_of
-returns-then-a-2 c =
-    sym (ap record_of (at_T_1 _ c.if-a.true c.if-a-2.true))
+returns-in-true-true c =
+    sym (ap record_of (at_T_1 _ c.in-true-true.is-0 c.in-true-true.is-1))
 
-pub returns-then-a : goal.returns-then-a
+pub returns-in-true-false : goal.returns-in-true-false
 unfolding record_of kind_of k_of i_of j_of
-returns-then-a c =
-    sym (ap record_of (at_T_2 _ c.if-a.true c.if-a-2.false))
+returns-in-true-false c =
+    sym (ap record_of (at_T_2 _ c.in-true-false.is-0 c.in-true-false.is-1))
 
-pub returns-then-a-3 : goal.returns-then-a-3
+pub returns-in-false-true : goal.returns-in-false-true
 unfolding record_of kind_of k_of i_of j_of
-returns-then-a-3 c =
-    sym (ap record_of (at_T_3 _ c.if-a.false c.if-a-3.true))
+returns-in-false-true c =
+    sym (ap record_of (at_T_3 _ c.in-false-true.is-0 c.in-false-true.is-1))
 
-pub returns : goal.returns
+pub returns-in-false-false : goal.returns-in-false-false
 unfolding record_of kind_of k_of i_of j_of
-returns c =
-    sym (ap record_of (at_T_4 _ c.if-a.false c.if-a-3.false))
+returns-in-false-false c =
+    sym (ap record_of (at_T_4 _ c.in-false-false.is-0 c.in-false-false.is-1))

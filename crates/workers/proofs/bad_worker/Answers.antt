@@ -11,10 +11,10 @@ pub returns-then-task_count-p : goal.returns-then-task_count-p
 returns-then-task_count-p c =
     worker_lost c.args.z _ c.args.h (not-false _ c.if-not-h.false) _ c.task_count.ensures c.if-task_count-p.true
 
-pub returns-then-mark_of-ne1 : goal.returns-then-mark_of-ne1
-returns-then-mark_of-ne1 c =
-    worker_unmarked c.args.z _ c.args.h (not-false _ c.if-not-h.false) _ c.task_count.ensures c.if-task_count-p.false _ c.mark_of.ensures c.if-mark_of-ne1.true
+pub returns-then-mark_of-ne-TAKEN : goal.returns-then-mark_of-ne-TAKEN
+returns-then-mark_of-ne-TAKEN c =
+    worker_unmarked c.args.z _ c.args.h (not-false _ c.if-not-h.false) _ c.task_count.ensures c.if-task_count-p.false _ c.mark_of.ensures c.if-mark_of-ne-TAKEN.true
 
 pub returns : goal.returns
 returns c =
-    worker_column c.args.z _ c.args.h (not-false _ c.if-not-h.false) _ c.task_count.ensures c.if-task_count-p.false _ c.mark_of.ensures c.if-mark_of-ne1.false
+    worker_column c.args.z _ c.args.h (not-false _ c.if-not-h.false) _ c.task_count.ensures c.if-task_count-p.false _ c.mark_of.ensures c.if-mark_of-ne-TAKEN.false
