@@ -6,8 +6,7 @@ use native.Mathlib.Omega.{arith}
 use lib.ListN.{set}
 use lib.Ieee.{Float}
 use Rattle.std.specs.Prelude.{Result, Ok, Err}
-use Rattle.model.specs.declared.Row.{Row}
-use Rattle.model.specs.declared.Row.TheVariants.{Number, NotFinite}
+use Rattle.std.specs.Prelude.{Option, Some, None}
 use Rattle.model.specs.Lists.{run, below, in_turn}
 use Rattle.model.specs.Plan.{Plan}
 use Rattle.model.specs.Buffer.{Buffers}
@@ -51,14 +50,14 @@ module _ (z : Plan) (s : Buffers) where
   back_last k p = ap (λ (xs : List ℕ). in_turn (back z s) xs p) (reverse_below k)
 
   -- row k by what it yields
-  module _ (k : ℕ) (y : List Float) (r : Row) (e : r ≡ row z s k y) where
-    pub back_number : (v : Float) → r ≡ Number v → back_below z s (suc k) (going y) ≡ back_below z s k (going (set y k v))
+  module _ (k : ℕ) (y : List Float) (r : Option Float) (e : r ≡ row z s k y) where
+    pub back_number : (v : Float) → r ≡ Some v → back_below z s (suc k) (going y) ≡ back_below z s k (going (set y k v))
     unfolding back put
-    back_number v q = back_last k (going y) ∙ ap (λ (x : Row). back_below z s k (put z s k y x)) (sym e ∙ q)
+    back_number v q = back_last k (going y) ∙ ap (λ (x : Option Float). back_below z s k (put z s k y x)) (sym e ∙ q)
 
-    pub back_not_finite : r ≡ NotFinite → back_below z s (suc k) (going y) ≡ stopped k
+    pub back_not_finite : r ≡ None → back_below z s (suc k) (going y) ≡ stopped k
     unfolding back put
-    back_not_finite q = back_last k (going y) ∙ ap (λ (x : Row). back_below z s k (put z s k y x)) (sym e ∙ q) ∙ back_stopped k k
+    back_not_finite q = back_last k (going y) ∙ ap (λ (x : Option Float). back_below z s k (put z s k y x)) (sym e ∙ q) ∙ back_stopped k k
 
   -- the rows below k after those of a tile, by how these ended
   module _ (k : ℕ) (r : Result (Unit {0}) ℕ) (y : List Float) (whole : Passed) (e : back_below z s k (passed_of r y) ≡ whole) where
@@ -93,7 +92,7 @@ module _ (z : Plan) (s : Buffers) where
   one_row k p = let e : suc k - k ≡ 1 = omega arith in ap (λ (n : ℕ). in_turn (back z s) (reverse (run k n)) p) (sym e)
 
   -- row k yields the number v
-  pub between_row : (k n : ℕ) (y : List Float) (p : Passed) (r : Row) → r ≡ row z s k y → (v : Float) → r ≡ Number v → k < n
+  pub between_row : (k n : ℕ) (y : List Float) (p : Passed) (r : Option Float) → r ≡ row z s k y → (v : Float) → r ≡ Some v → k < n
       → going y ≡ back_between z s (suc k) n p → going (set y k v) ≡ back_between z s k n p
   unfolding back put
   between_row k n y p r e v q h g =

@@ -9,7 +9,7 @@ ghost use Rattle.subtractions.specs.Subtracted.{BackwardFits};
 ghost use Rattle.backward.specs.Rows.{back_below, back_between, lowest_done};
 
 use backward_row::back_row;
-use model::{Row, Sizes};
+use model::Sizes;
 
 // The rows of tile row i, from last to first: each row's number takes its place in y. Where one isn't finite the row is told.
 fn back_tile(z: Sizes, matrix: &[f64], y: &mut [f64], i: usize) -> Result<(), usize>
@@ -23,7 +23,7 @@ fn back_tile(z: Sizes, matrix: &[f64], y: &mut [f64], i: usize) -> Result<(), us
 {
     for r in (0..z.side).rev() {
         let x = i * z.side + r;
-        let Row::Number(v) = back_row(z, matrix, y, i, r) else {
+        let Some(v) = back_row(z, matrix, y, i, r) else {
             return Err(x);
         };
         y[x] = v;

@@ -5,9 +5,8 @@ use mathlib.Core.List.{List}
 use lib.Ieee.{Float}
 use Rattle.model.specs.declared.TaskRecord.{TaskRecord}
 use Rattle.worker.specs.declared.Workers.{Workers}
-use Rattle.model.specs.Answer.{Answer, OutcomeAnswer}
+use Rattle.model.specs.Answer.{Answer, OutcomeAnswer, RunAnswer}
 use Rattle.model.specs.declared.CallReply.{CallReply}
-use Rattle.model.specs.declared.RunReply.{RunReply}
 use Rattle.model.specs.Buffer.{Buffers}
 use Rattle.model.specs.Calls.{Lent, RunEnd}
 use Rattle.model.specs.Refusal.{Reply, answer_number}
@@ -16,7 +15,7 @@ use Rattle.copies.specs.Whole.{whole}
 use Rattle.bench_structs.specs.Bench.{calls_of, outcome_tells}
 
 module _ (m m' : List Float) (l l' : List ℕ) (r r' : List TaskRecord) (ws meant : Workers) (e : ws ≡ meant) (n : ℕ) where
-  pub replies : (call : Lent → Reply) (reply : CallReply) → ◌≡◌ {A = Reply} (record { answer = reply.answer; left = whole m' l' r' reply.workers }) (call (whole m l r ws))
+  pub replies : (call : Lent → Reply) (reply : CallReply Answer) → ◌≡◌ {A = Reply} (record { answer = reply.answer; left = whole m' l' r' reply.workers }) (call (whole m l r ws))
       → n ≡ answer_number reply.answer
       → (n ≡ answer_number (call (whole m l r meant)).answer) × (◌≡◌ {A = Buffers} (record { matrix = m'; lists = l' }) (call (whole m l r meant)).left.buffers) × (r' ≡ (call (whole m l r meant)).left.records)
   unfolding whole
@@ -24,7 +23,7 @@ module _ (m m' : List Float) (l l' : List ℕ) (r r' : List TaskRecord) (ws mean
       let f : ◌≡◌ {A = Reply} (record { answer = reply.answer; left = whole m' l' r' reply.workers }) (call (whole m l r meant)) = h ∙ ap (λ (k : Workers). call (whole m l r k)) e in
       (q ∙ ap (λ (y : Reply). answer_number y.answer) f, ap (λ (y : Reply). y.left.buffers) f, ap (λ (y : Reply). y.left.records) f)
 
-  pub ran : (call : Lent → RunEnd) (reply : RunReply) → ◌≡◌ {A = RunEnd} (record { answer = reply.answer; left = whole m' l' r' reply.workers }) (call (whole m l r ws))
+  pub ran : (call : Lent → RunEnd) (reply : CallReply RunAnswer) → ◌≡◌ {A = RunEnd} (record { answer = reply.answer; left = whole m' l' r' reply.workers }) (call (whole m l r ws))
       → n ≡ calls_of reply.answer
       → (n ≡ calls_of (call (whole m l r meant)).answer) × (◌≡◌ {A = Buffers} (record { matrix = m'; lists = l' }) (call (whole m l r meant)).left.buffers) × (r' ≡ (call (whole m l r meant)).left.records)
   unfolding whole

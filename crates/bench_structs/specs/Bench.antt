@@ -1,7 +1,7 @@
 -- The workers that the functions for bench/ make, and what a run and an outcome call tell as a number. Assumes nothing.
 use Rattle.std.specs.Prelude.{Ok, Err, ℕ, set, replicate}
 use Rattle.worker.specs.declared.Workers.{Workers}
-use Rattle.model.specs.Answer.{OutcomeAnswer, RunAnswer}
+use Rattle.model.specs.Answer.{OutcomeAnswer, RunAnswer, rule_number}
 use Rattle.model.specs.declared.RunStop.TheVariants.{Finished, Spent}
 use Rattle.model.specs.declared.Standing.TheVariants.{Known, Unfinished}
 use Rattle.model.specs.declared.Outcome.{Outcome}
@@ -32,4 +32,4 @@ known_tells (Singular x) = 130
 abbrev pub outcome_tells : OutcomeAnswer → ℕ
 outcome_tells (Ok (Known o)) = known_tells o
 outcome_tells (Ok (Unfinished p)) = 131
-outcome_tells (Err why) = why.rule
+outcome_tells (Err why) = rule_number why.rule

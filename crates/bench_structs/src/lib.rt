@@ -8,7 +8,9 @@ ghost use Rattle.model.specs.Solve.{solve_call};
 ghost use Rattle.copies.specs.Whole.{whole};
 ghost use Rattle.bench_structs.specs.Bench.{idles, one_holding, calls_of, known_tells, outcome_tells};
 
-use model::{Answer, CallReply, Outcome, OutcomeAnswer, RunAnswer, RunReply, Sizes, TaskRecord};
+use model::{
+    Answer, CallReply, Outcome, OutcomeAnswer, RunAnswer, RunStop, Sizes, Standing, TaskRecord,
+};
 use worker::{SLOTS, Worker, Workers};
 
 // The refusal's number: 0 where the call is accepted.
@@ -17,11 +19,11 @@ fn number_of(answer: Answer) -> u8
 {
     match answer {
         Ok(()) => 0,
-        Answer::Refused(number, _) => number,
+        Err(why) => why.rule.number(),
     }
 }
 
-fn number_in(reply: CallReply) -> u8
+fn number_in(reply: CallReply<Answer>) -> u8
     ensures { result ≡ answer_number reply.answer }
 {
     let answer = reply.answer;
@@ -33,13 +35,12 @@ fn calls_of(answer: RunAnswer) -> u64
     ensures { result ≡ calls_of answer }
 {
     match answer {
-        Ok(RunStop::Finished(n)) => n,
-        Ok(RunStop::Spent(n)) => n,
-        RunAnswer::RunRefused(_, _) => 0,
+        Ok(RunStop::Finished(n) | RunStop::Spent(n)) => n,
+        Err(_) => 0,
     }
 }
 
-fn calls_in(reply: RunReply) -> u64
+fn calls_in(reply: CallReply<RunAnswer>) -> u64
     ensures { result ≡ calls_of reply.answer }
 {
     let answer = reply.answer;
@@ -61,9 +62,9 @@ fn outcome_number(answer: OutcomeAnswer) -> u8
     ensures { result ≡ outcome_tells answer }
 {
     match answer {
-        Standing::Known(o) => known_number(o),
-        Standing::Unfinished(_) => 131,
-        OutcomeAnswer::OutcomeRefused(number, _) => number,
+        Ok(Standing::Known(o)) => known_number(o),
+        Ok(Standing::Unfinished(_)) => 131,
+        Err(why) => why.rule.number(),
     }
 }
 

@@ -10,7 +10,7 @@ ghost use Rattle.copies.specs.Whole.{whole};
 
 use column_part::column_part;
 use loading::load;
-use model::{CallReply, Sizes, TaskRecord};
+use model::{Answer, CallReply, Sizes, TaskRecord};
 use records::RECORD;
 use storing::store;
 use task_records::{COPIES, looked_at, past};
@@ -36,7 +36,7 @@ pub fn column(
     records: &mut [TaskRecord],
     workers: Workers,
     w: usize,
-) -> CallReply
+) -> CallReply<Answer>
     ensures { (record {
       answer = result.answer;
       left = whole matrix.new lists.new records.new result.workers;

@@ -12,7 +12,6 @@ use Rattle.std.specs.Prelude.{Ok}
 use Rattle.model.specs.Answer.{Answer, RunAnswer}
 use Rattle.model.specs.declared.Standing.TheVariants.{Unfinished}
 use Rattle.model.specs.declared.CallReply.{CallReply}
-use Rattle.model.specs.declared.RunReply.{RunReply}
 use Rattle.model.specs.Calls.{Lent, RunEnd}
 use Rattle.model.specs.Refusal.{Reply, open_call, run_call, outcome_call}
 use Rattle.model.specs.Solve.{Answers, solve_call}
@@ -26,7 +25,7 @@ module _ (z : Sizes) (ms : List Float) (ls : List ℕ) (ys : List TaskRecord) (w
   abbrev n : ℕ
   n = looked (length ys)
 
-  pub open_whole : (X₀ X : List (List ℕ)) (ms' : List Float) (ls' : List ℕ) (X' : List (List ℕ)) (r : CallReply) (zs : List TaskRecord) → length X ≡ 1497 → length X' ≡ 1497 → records_from X ≡ copied n 0 ys (records_from X₀)
+  pub open_whole : (X₀ X : List (List ℕ)) (ms' : List Float) (ls' : List ℕ) (X' : List (List ℕ)) (r : CallReply Answer) (zs : List TaskRecord) → length X ≡ 1497 → length X' ≡ 1497 → records_from X ≡ copied n 0 ys (records_from X₀)
       → ◌≡◌ {A = Reply} (record { answer = r.answer; left = all_lent ms' ls' (take n X') r.workers }) (open_call z (all_lent ms ls (take n X) ws))
       → zs ≡ copied (n - 0) 0 (records_from X') ys
       → ◌≡◌ {A = Reply} (record { answer = r.answer; left = whole ms' ls' zs r.workers }) (open_call z (whole ms ls ys ws))
@@ -39,7 +38,7 @@ module _ (z : Sizes) (ms : List Float) (ls : List ℕ) (ys : List TaskRecord) (w
             (λ s h. ap (λ (k : Reply). k.left) (open_long z s h)) ms' ls' X' r.workers long' (ap (λ (k : Reply). k.left) e) zs (stored ∙ ap (λ k. copied k 0 (records_from X') ys) (sub-zero n)) t;
       }
 
-  pub run_whole : (budget : ℕ) (X₀ X : List (List ℕ)) (ms' : List Float) (ls' : List ℕ) (X' : List (List ℕ)) (r : RunReply) (zs : List TaskRecord) → length X ≡ 1497 → length X' ≡ 1497 → records_from X ≡ copied n 0 ys (records_from X₀)
+  pub run_whole : (budget : ℕ) (X₀ X : List (List ℕ)) (ms' : List Float) (ls' : List ℕ) (X' : List (List ℕ)) (r : CallReply RunAnswer) (zs : List TaskRecord) → length X ≡ 1497 → length X' ≡ 1497 → records_from X ≡ copied n 0 ys (records_from X₀)
       → ◌≡◌ {A = RunEnd} (record { answer = r.answer; left = all_lent ms' ls' (take n X') r.workers }) (run_call z budget (all_lent ms ls (take n X) ws))
       → zs ≡ copied (n - 0) 0 (records_from X') ys
       → ◌≡◌ {A = RunEnd} (record { answer = r.answer; left = whole ms' ls' zs r.workers }) (run_call z budget (whole ms ls ys ws))

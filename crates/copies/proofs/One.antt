@@ -102,7 +102,7 @@ module _ (z : Sizes) (ms : List Float) (ls : List ℕ) (ys : List TaskRecord) (w
   unfolding lent
   workers_lent X = refl
 
-  pub take_whole : (w p : ℕ) (X₀ X : List (List ℕ)) (ms' : List Float) (ls' : List ℕ) (X' : List (List ℕ)) (r : CallReply) (zs : List TaskRecord) → length X ≡ 1497 → length X' ≡ 1497 → records_from X ≡ copied n 0 ys (records_from X₀)
+  pub take_whole : (w p : ℕ) (X₀ X : List (List ℕ)) (ms' : List Float) (ls' : List ℕ) (X' : List (List ℕ)) (r : CallReply Answer) (zs : List TaskRecord) → length X ≡ 1497 → length X' ≡ 1497 → records_from X ≡ copied n 0 ys (records_from X₀)
       → ◌≡◌ {A = Reply} (record { answer = r.answer; left = all_lent ms' ls' (take n X') r.workers }) (take_call z w p (all_lent ms ls (take n X) ws))
       → zs ≡ copied (cond (ltb p n) (p + 1) 0 - p) p (records_from X') ys
       → ◌≡◌ {A = Reply} (record { answer = r.answer; left = whole ms' ls' zs r.workers }) (take_call z w p (whole ms ls ys ws))
@@ -116,7 +116,7 @@ module _ (z : Sizes) (ms : List Float) (ls : List ℕ) (ys : List TaskRecord) (w
             (λ s h. ap (λ (k : Reply). k.left) (take_long z s h w p)) ms' ls' X' r.workers long' (ap (λ (k : Reply). k.left) e) zs all t;
       }
 
-  pub column_whole : (w : ℕ) (X₀ X : List (List ℕ)) (ms' : List Float) (ls' : List ℕ) (X' : List (List ℕ)) (r : CallReply) (zs : List TaskRecord) → length X ≡ 1497 → length X' ≡ 1497 → records_from X ≡ copied n 0 ys (records_from X₀)
+  pub column_whole : (w : ℕ) (X₀ X : List (List ℕ)) (ms' : List Float) (ls' : List ℕ) (X' : List (List ℕ)) (r : CallReply Answer) (zs : List TaskRecord) → length X ≡ 1497 → length X' ≡ 1497 → records_from X ≡ copied n 0 ys (records_from X₀)
       → ◌≡◌ {A = Reply} (record { answer = r.answer; left = all_lent ms' ls' (take n X') r.workers }) (column_call z w (all_lent ms ls (take n X) ws))
       → zs ≡ copied (cond (ltb (get_or ws.slots w idle).task n) ((get_or ws.slots w idle).task + 1) 0 - (get_or ws.slots w idle).task) (get_or ws.slots w idle).task (records_from X') ys
       → ◌≡◌ {A = Reply} (record { answer = r.answer; left = whole ms' ls' zs r.workers }) (column_call z w (whole ms ls ys ws))

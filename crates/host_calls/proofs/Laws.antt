@@ -4,11 +4,10 @@ use mathlib.Core.Path.{◌≡◌, refl, sym, ap, subst, ◌∙◌}
 use mathlib.Core.List.{List}
 use lib.Ieee.{Float}
 use lib.ListN.{get_or, drop}
-use Rattle.model.specs.Answer.{Answer}
+use Rattle.model.specs.Answer.{Answer, RunAnswer}
 use Rattle.worker.specs.declared.Worker.{Worker}
 use Rattle.worker.specs.declared.Workers.{Workers}
 use Rattle.model.specs.declared.CallReply.{CallReply}
-use Rattle.model.specs.declared.RunReply.{RunReply}
 use Rattle.model.specs.Calls.{Lent, RunEnd}
 use Rattle.model.specs.Refusal.{Reply}
 use Rattle.model.specs.Solve.{Answers}
@@ -44,7 +43,7 @@ module _ (m m' : List Float) (l l' : List ℕ) (r r' : List (List ℕ)) (b b' t 
       own = λ v h e. ap (λ (x : List ℕ). get_or x v 0) (q ∙ ap (bytes_left b) (sym s)) ∙ own_left b t c left v h e;
     }
 
-  pub call_said : (call : Lent → Reply) (reply : CallReply) → ◌≡◌ {A = Reply} (record { answer = reply.answer; left = all_lent m' l' r' reply.workers }) (call (all_lent m l r gathered))
+  pub call_said : (call : Lent → Reply) (reply : CallReply Answer) → ◌≡◌ {A = Reply} (record { answer = reply.answer; left = all_lent m' l' r' reply.workers }) (call (all_lent m l r gathered))
       → OthersKept gathered reply.workers → left ≡ reply.workers.slots → b' ≡ bytes_left b reply.workers.slots → number' ≡ reply.workers.number → said ≡ told reply.answer → Called call before after said
   call_said call reply e k s q n a = record {
     tells = a ∙ ap (λ (x : Reply). told x.answer) e ∙ ap (λ x. told (call (all_lent m l r x)).answer) g;
@@ -52,7 +51,7 @@ module _ (m m' : List Float) (l l' : List ℕ) (r r' : List (List ℕ)) (b b' t 
     keeps = kept reply.workers k s q n;
   }
 
-  pub run_said : (call : Lent → RunEnd) (reply : RunReply) → ◌≡◌ {A = RunEnd} (record { answer = reply.answer; left = all_lent m' l' r' reply.workers }) (call (all_lent m l r gathered))
+  pub run_said : (call : Lent → RunEnd) (reply : CallReply RunAnswer) → ◌≡◌ {A = RunEnd} (record { answer = reply.answer; left = all_lent m' l' r' reply.workers }) (call (all_lent m l r gathered))
       → OthersKept gathered reply.workers → left ≡ reply.workers.slots → b' ≡ bytes_left b reply.workers.slots → number' ≡ reply.workers.number → said ≡ run_told reply.answer → Ran call before after said
   run_said call reply e k s q n a = record {
     tells = a ∙ ap (λ (x : RunEnd). run_told x.answer) e ∙ ap (λ x. run_told (call (all_lent m l r x)).answer) g;

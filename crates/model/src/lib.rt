@@ -164,13 +164,7 @@ pub type ReadAnswer = Result<FileRead, Refusal>;
 
 // What a call hands back that may change the workers: its answer, and the workers.
 #[derive(Clone, Copy)]
-pub struct Reply<A> {
+pub struct CallReply<A> {
     pub answer: A,
     pub workers: Workers,
 }
-
-// Of an opening, a take or a column.
-pub type CallReply = Reply<Answer>;
-
-// Of a whole run.
-pub type RunReply = Reply<RunAnswer>;

@@ -8,7 +8,7 @@ ghost use Rattle.records.specs.Records.{OthersKept};
 ghost use Rattle.copies.specs.Whole.{whole};
 
 use loading::load;
-use model::{CallReply, Sizes, TaskRecord};
+use model::{Answer, CallReply, Sizes, TaskRecord};
 use open_part::open_part;
 use records::RECORD;
 use storing::store;
@@ -22,7 +22,7 @@ pub fn open(
     lists: &mut [u8],
     records: &mut [TaskRecord],
     workers: Workers,
-) -> CallReply
+) -> CallReply<Answer>
     ensures { (record {
       answer = result.answer;
       left = whole matrix.now lists.new records.new result.workers;

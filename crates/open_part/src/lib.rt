@@ -5,7 +5,7 @@ ghost use Rattle.std.specs.Prelude.{◌≡◌, ◌≤◌, length, take as up_to}
 ghost use Rattle.model.specs.Refusal.{open_call};
 ghost use Rattle.records.specs.Records.{all_lent, OthersKept};
 
-use model::{CallReply, Sizes};
+use model::{Answer, CallReply, Sizes};
 use records::Record;
 use worker::Workers;
 
@@ -17,7 +17,7 @@ pub fn open_part(
     records: &mut [Record],
     n: usize,
     workers: Workers,
-) -> CallReply
+) -> CallReply<Answer>
     requires { n ≤ length records.old }
     ensures { (record {
       answer = result.answer;

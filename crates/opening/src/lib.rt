@@ -6,7 +6,7 @@ ghost use Rattle.model.specs.Refusal.{open_call};
 ghost use Rattle.records.specs.Records.{all_lent, OthersKept};
 
 use answers::accepted;
-use model::{CallReply, Sizes};
+use model::{Answer, CallReply, Sizes};
 use open_checks::open_answer;
 use opened::{idle_workers, number_records};
 use records::Record;
@@ -19,7 +19,7 @@ pub fn open(
     lists: &mut [u8],
     records: &mut [Record],
     workers: Workers,
-) -> CallReply
+) -> CallReply<Answer>
     ensures workers_after { record {
       answer = result.answer;
       left = all_lent matrix.now lists.new records.new result.workers;

@@ -8,7 +8,7 @@ ghost use Rattle.records.specs.Records.{OthersKept};
 ghost use Rattle.copies.specs.Whole.{whole};
 
 use loading::load;
-use model::{RunReply, Sizes, TaskRecord};
+use model::{CallReply, RunAnswer, Sizes, TaskRecord};
 use records::RECORD;
 use run_part::run_part;
 use storing::store;
@@ -23,7 +23,7 @@ pub fn run(
     records: &mut [TaskRecord],
     workers: Workers,
     budget: u64,
-) -> RunReply
+) -> CallReply<RunAnswer>
     ensures { (record {
       answer = result.answer;
       left = whole matrix.new lists.new records.new result.workers;

@@ -5,7 +5,7 @@ ghost use Rattle.std.specs.Prelude.{◌≡◌, ◌≤◌, length, take as up_to}
 ghost use Rattle.model.specs.Refusal.{run_call};
 ghost use Rattle.records.specs.Records.{all_lent, OthersKept};
 
-use model::{RunReply, Sizes};
+use model::{CallReply, RunAnswer, Sizes};
 use records::Record;
 use worker::Workers;
 
@@ -18,7 +18,7 @@ pub fn run_part(
     n: usize,
     workers: Workers,
     budget: u64,
-) -> RunReply
+) -> CallReply<RunAnswer>
     requires { n ≤ length records.old }
     ensures { (record {
       answer = result.answer;

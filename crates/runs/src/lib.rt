@@ -5,7 +5,7 @@ ghost use Rattle.std.specs.Prelude.{◌≡◌};
 ghost use Rattle.model.specs.Refusal.{run_call};
 ghost use Rattle.records.specs.Records.{all_lent, OthersKept};
 
-use model::{RunReply, Sizes};
+use model::{CallReply, RunAnswer, Sizes};
 use records::Record;
 use run_checks::run_answer;
 use turns::take_turns;
@@ -19,7 +19,7 @@ pub fn run(
     records: &mut [Record],
     workers: Workers,
     budget: u64,
-) -> RunReply
+) -> CallReply<RunAnswer>
     ensures workers_after { record {
       answer = result.answer;
       left = all_lent matrix.new lists.new records.new result.workers;
@@ -28,7 +28,7 @@ pub fn run(
 {
     let answer = run_answer(z, matrix, lists, records, workers);
     if let Err(why) = answer {
-        return RunReply {
+        return CallReply {
             answer: Err(why),
             workers,
         };

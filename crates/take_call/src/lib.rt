@@ -8,7 +8,7 @@ ghost use Rattle.records.specs.Records.{OthersKept};
 ghost use Rattle.copies.specs.Whole.{whole};
 
 use loading::load;
-use model::{CallReply, Sizes, TaskRecord};
+use model::{Answer, CallReply, Sizes, TaskRecord};
 use records::RECORD;
 use storing::store;
 use take_part::take_part;
@@ -24,7 +24,7 @@ pub fn take(
     workers: Workers,
     w: usize,
     p: usize,
-) -> CallReply
+) -> CallReply<Answer>
     ensures { (record {
       answer = result.answer;
       left = whole matrix.now lists.now records.new result.workers;

@@ -6,7 +6,7 @@ ghost use Rattle.model.specs.Refusal.{take_call};
 ghost use Rattle.records.specs.Records.{all_lent, OthersKept};
 
 use answers::accepted;
-use model::{CallReply, Sizes};
+use model::{Answer, CallReply, Sizes};
 use record_changes::take_record;
 use records::Record;
 use take_checks::take_answer;
@@ -21,7 +21,7 @@ pub fn take(
     workers: Workers,
     w: usize,
     p: usize,
-) -> CallReply
+) -> CallReply<Answer>
     ensures workers_after { record {
       answer = result.answer;
       left = all_lent matrix.now lists.now records.new result.workers;

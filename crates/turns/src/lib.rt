@@ -8,7 +8,7 @@ ghost use Rattle.model.specs.Calls.{whole_run};
 ghost use Rattle.model.specs.Refusal.{run_answer};
 ghost use Rattle.records.specs.Records.{all_lent, OthersKept};
 
-use model::{RunReply, Sizes};
+use model::{CallReply, RunAnswer, Sizes};
 use records::Record;
 use turns_from::turns_from;
 use worker::Workers;
@@ -21,7 +21,7 @@ pub fn take_turns(
     records: &mut [Record],
     workers: Workers,
     budget: u64,
-) -> RunReply
+) -> CallReply<RunAnswer>
     requires { run_answer z (all_lent matrix.old lists.old records.old workers) ≡ accepted }
     ensures workers_after { record {
       answer = result.answer;

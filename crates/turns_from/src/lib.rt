@@ -8,7 +8,7 @@ ghost use Rattle.records.specs.Records.{all_lent, OthersKept};
 ghost use Rattle.turns_from.specs.Underway.{Underway};
 
 use advancing::advance;
-use model::{RunReply, RunStop, Sizes};
+use model::{CallReply, RunAnswer, RunStop, Sizes};
 use next_task::{lowest_ready, search_start, take_task};
 use next_worker::worker_after;
 use records::Record;
@@ -27,7 +27,7 @@ pub fn turns_from(
     made: u64,
     turn: usize,
     low: usize,
-) -> RunReply
+) -> CallReply<RunAnswer>
     requires { Underway z budget matrix.old lists.old records.old workers made turn low }
     ensures workers_after { record {
       answer = result.answer;
@@ -82,7 +82,7 @@ pub fn turns_from(
             }
             u += 1;
         }
-        return RunReply {
+        return CallReply {
             answer: Ok(RunStop::Finished(n)),
             workers: Workers {
                 slots: left,
@@ -91,7 +91,7 @@ pub fn turns_from(
             },
         };
     }
-    RunReply {
+    CallReply {
         answer: answer_after(records, n),
         workers: Workers {
             slots: left,

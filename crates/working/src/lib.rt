@@ -8,7 +8,7 @@ ghost use Rattle.records.specs.Records.{all_lent, OthersKept};
 use advancing::advance_worker;
 use answers::accepted;
 use column_checks::column_answer;
-use model::{CallReply, Sizes};
+use model::{Answer, CallReply, Sizes};
 use records::Record;
 use worker::Workers;
 
@@ -20,7 +20,7 @@ pub fn column(
     records: &mut [Record],
     workers: Workers,
     w: usize,
-) -> CallReply
+) -> CallReply<Answer>
     ensures workers_after { record {
       answer = result.answer;
       left = all_lent matrix.new lists.new records.new result.workers;

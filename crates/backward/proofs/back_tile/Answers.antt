@@ -59,8 +59,8 @@ loop-r-preserved c =
     let e : suc (c.args.i * c.args.z.side + (c.loop-r.r - 1)) ≡ c.args.i * c.args.z.side + c.loop-r.r = omega (arith, c.loop-r-test.true) in (
       omega (arith, c.loop-r.invariant.0),
       simp length-set c.loop-r.invariant.1,
-      λ lists. sym (back_number _ _ _ _ _ (c.back_row-found.ensures lists) _ c.in-Number.is) ∙ rw e (c.loop-r.invariant.2 lists),
-      λ lists. between_row _ _ _ _ _ _ _ (c.back_row-found.ensures lists) _ c.in-Number.is (omega (arith, e, c.loop-r.invariant.0)) (rw e (c.loop-r.invariant.3 lists)),
+      λ lists. sym (back_number _ _ _ _ _ (c.back_row-found.ensures lists) _ c.in-Some.is) ∙ rw e (c.loop-r.invariant.2 lists),
+      λ lists. between_row _ _ _ _ _ _ _ (c.back_row-found.ensures lists) _ c.in-Some.is (omega (arith, e, c.loop-r.invariant.0)) (rw e (c.loop-r.invariant.3 lists)),
     )
 
 pub shape_of-y : goal.shape_of-y
