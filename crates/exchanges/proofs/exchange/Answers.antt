@@ -1,17 +1,13 @@
 -- `exchange` meets its contract: after i turns the first i pairs are exchanged. Assumes nothing.
 use mathlib.Core.Path.{◌≡◌}
-use Prim.Native.Nat.{◌+◌}
 use native.Mathlib.Omega.{arith}
-use lib.Ieee.{nan}
-use Rattle.std.proofs.lemmas.List.Edits.{swap_is}
 use Rattle.exchanges.proofs.Swapped.{swapped_more, swapped_is}
 use Rattle.exchanges.proofs.exchange.Goals as goal
 
 pub loop-i-preserved : goal.loop-i-preserved
 loop-i-preserved c =
     let p = c.requires in
-    let l = c.loop-i in
-    rw (swap_is l.m (c.args.a + l.i) (c.args.b + l.i) nan (omega arith) (omega arith)) (swapped_more _ _ _ p.2 _ _ _ l.invariant c.loop-i-test.true p.0 p.1)
+    swapped_more _ _ _ p.2 _ _ _ c.loop-i.invariant c.loop-i-test.true p.0 p.1
 
 pub returns : goal.returns
 returns c =
