@@ -1,13 +1,13 @@
 -- What the loop of an exchange has done, and that this is the exchange of the two parts. Assumes nothing.
-use mathlib.Core.Path.{◌≡◌, refl, sym, ◌∙◌, subst}
+use mathlib.Core.Path.{◌≡◌, sym, ◌∙◌, subst}
 use mathlib.Core.Logic.{◌⊎◌, inl, inr, ⊎_elim, ◌≢◌}
 use mathlib.Core.List.{List}
 use Prim.Native.Nat.{ℕ, ◌+◌, ◌-◌, ◌≤◌, ◌<◌}
 use native.Mathlib.Omega.{arith}
-use lib.ListN.{length, get_or}
+use lib.ListN.{length, get_or, set, length-set}
 use lib.Ieee.{Float, nan}
-use Rattle.std.specs.List.{swap}
-use Rattle.std.proofs.lemmas.List.Edits.{Swapped as Exchanged, length-swap, swapped_from_swap}
+use borrow.Author.Count.{below_more}
+use Rattle.std.proofs.lemmas.List.Edits.{Swapped as Exchanged, swap_is, swapped_from_swap}
 use Rattle.model.specs.Lists.{part, with_part}
 use Rattle.laws.proofs.Tests.{lt_or_le}
 use Rattle.laws.specs.Apart.{Apart}
@@ -36,7 +36,7 @@ module _ (n a b : ℕ) (apart : (a ≡ b) ⊎ Apart n a b) where
 
   module _ (k : ℕ) (before after : List Float) (s : Swapped a b k before after) (h : k < n) (room-a : a + n ≤ length before) (room-b : b + n ≤ length before) where
     abbrev turned : List Float
-    turned = swap after (a + k) (b + k)
+    turned = set (set after (a + k) (get_or after (b + k) nan)) (b + k) (get_or after (a + k) nan)
 
     old_a : get_or after (a + k) nan ≡ get_or before (a + k) nan
     old_a = s.other (a + k) (inr (omega arith)) (beside k h)
@@ -45,7 +45,10 @@ module _ (n a b : ℕ) (apart : (a ≡ b) ⊎ Apart n a b) where
     old_b = s.other (b + k) (beside' k h) (inr (omega arith))
 
     exchanged : Exchanged (λ i. get_or after i nan) (λ i. get_or turned i nan) (a + k) (b + k)
-    exchanged = swapped_from_swap after turned (a + k) (b + k) nan (omega (arith, s.long)) (omega (arith, s.long)) refl
+    exchanged =
+        let first : a + k < length after = omega (arith, s.long) in
+        let second : b + k < length after = omega (arith, s.long) in
+        swapped_from_swap after turned (a + k) (b + k) nan first second (swap_is after (a + k) (b + k) nan first second)
 
     elsewhere : (x : ℕ) → x ≢ a + k → x ≢ b + k → get_or turned x nan ≡ get_or after x nan
     elsewhere = exchanged.2
@@ -56,17 +59,16 @@ module _ (n a b : ℕ) (apart : (a ≡ b) ⊎ Apart n a b) where
     here_a : get_or turned (a + k) nan ≡ get_or before (b + k) nan
     here_a = exchanged.0 ∙ old_b
 
-    up_to : (P : ℕ → Type 0) → P k → ((j : ℕ) → j < k → P j) → (j : ℕ) → j < k + 1 → P j
-    up_to P here all j l = ⊎_elim (λ g. all j g) (λ g. subst P (omega arith) here) (lt_or_le j k)
-
     -- one pair more
     pub swapped_more : Swapped a b (k + 1) before turned
     swapped_more = record {
-      long = simp length-swap s.long;
-      in_a = up_to (λ (j : ℕ). get_or turned (a + j) nan ≡ get_or before (b + j) nan) here_a
-          (λ j l. elsewhere (a + j) (λ e. absurd (omega arith)) (differ j k (omega arith) h (λ e. absurd (omega arith))) ∙ s.in_a j l);
-      in_b = up_to (λ (j : ℕ). get_or turned (b + j) nan ≡ get_or before (a + j) nan) here_b
-          (λ j l. elsewhere (b + j) (λ e. differ k j h (omega arith) (λ d. absurd (omega arith)) (sym e)) (λ e. absurd (omega arith)) ∙ s.in_b j l);
+      long = simp length-set s.long;
+      in_a = below_more (λ (j : ℕ). get_or turned (a + j) nan ≡ get_or before (b + j) nan) k
+          (λ j l. elsewhere (a + j) (λ e. absurd (omega arith)) (differ j k (omega arith) h (λ e. absurd (omega arith))) ∙ s.in_a j l)
+          here_a;
+      in_b = below_more (λ (j : ℕ). get_or turned (b + j) nan ≡ get_or before (a + j) nan) k
+          (λ j l. elsewhere (b + j) (λ e. differ k j h (omega arith) (λ d. absurd (omega arith)) (sym e)) (λ e. absurd (omega arith)) ∙ s.in_b j l)
+          here_b;
       other = λ x p q.
           elsewhere x (λ e. ⊎_elim (λ l. absurd (omega arith)) (λ r. absurd (omega arith)) p) (λ e. ⊎_elim (λ l. absurd (omega arith)) (λ r. absurd (omega arith)) q)
           ∙ s.other x (⊎_elim (λ l. inl l) (λ r. inr (omega arith)) p) (⊎_elim (λ l. inl l) (λ r. inr (omega arith)) q);

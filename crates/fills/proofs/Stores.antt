@@ -4,7 +4,7 @@ use mathlib.Core.Logic.{◌⊎◌, inl, inr, ⊎_elim}
 use mathlib.Core.List.{List}
 use Prim.Native.Nat.{ℕ, ◌+◌, ◌-◌, ◌≤◌, ◌<◌}
 use native.Mathlib.Omega.{arith}
-use lib.ListN.{length, get_or, set, replicate, length-set, length-replicate, get_or-replicate}
+use lib.ListN.{length, get_or, set, length-set}
 use lib.Seq.{ext_get_or, get_or-set_same, get_or-set_other}
 use Rattle.model.specs.Lists.{part, with_part}
 use Rattle.laws.proofs.Tests.{same_or_not, lt_or_le}
@@ -80,10 +80,3 @@ module _ {A : Type 0} (d : A) (a : ℕ) where
       (record { long = s.long; inside = λ j l. refl; outside = λ x o. s.outside x (⊎_elim (λ l. inl l) (λ g. inr (omega arith)) o) })
       (record { whole = length_part a n after (rw s.long room); room = room })
       (λ j l. get_part a n after d j l)
-
-  -- one value stored in all n places
-  pub stored_fill : (n k : ℕ) (v : A) (before after : List A) → Stored d a k (λ _. v) before after → k ≡ n → a + n ≤ length before → after ≡ with_part a n (replicate n v) before
-  stored_fill n k v before after s e room =
-      stored_is n (λ _. v) before after (replicate n v) (subst (λ (z : ℕ). Stored d a z (λ _. v) before after) e s)
-      (record { whole = length-replicate n v; room = room })
-      (λ j l. get_or-replicate n j v d l)

@@ -17,11 +17,9 @@ pub fn factor_pivot(m: &[f64], t: usize, a: usize, c: usize) -> Pivot
     ensures { FactorTold t c (part a (t * t) m.now) result }
 {
     let best = search_pivot(m, a + (c * t + c), a + ((c + 1) * t + c), t, t - (c + 1));
-    let row = c + best.place;
     Pivot {
-        place: row,
-        magnitude: best.magnitude,
-        ties: best.ties,
+        place: c + best.place,
+        ..best
     }
 }
 

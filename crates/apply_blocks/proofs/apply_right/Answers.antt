@@ -5,20 +5,7 @@ use Prim.Native.Nat.{suc, ◌+◌, ◌-◌, ◌*◌}
 use native.Mathlib.Omega.{arith}
 use Rattle.column_laws.proofs.Finite.{finite_part}
 use Rattle.column_laws.proofs.Updates.{below_read, rows_applied}
-use Rattle.laws.proofs.Blocks.{row_end, square_most}
 use Rattle.apply_blocks.proofs.apply_right.Goals as goal
-
-pub overflow_mul-c : goal.overflow_mul-c
-overflow_mul-c c =
-    let a = c.args in omega (arith, c.requires.block_2, row_end a.c a.t a.t c.requires.c_lt_t.0, square_most a.t c.requires.block_2.rows_most)
-
-pub overflow_add-c-4 : goal.overflow_add-c-4
-overflow_add-c-4 c =
-    let a = c.args in omega (arith, c.requires.block_2, row_end a.c a.t a.t c.requires.c_lt_t.0, square_most a.t c.requires.block_2.rows_most)
-
-pub overflow_add-f : goal.overflow_add-f
-overflow_add-f c =
-    let a = c.args in omega (arith, c.requires.block_2, row_end a.c a.t a.t c.requires.c_lt_t.0, square_most a.t c.requires.block_2.rows_most)
 
 pub update_column-requires : goal.update_column-requires
 update_column-requires c =

@@ -5,36 +5,7 @@ use Prim.Native.Nat.{suc, ◌+◌, ◌-◌, ◌*◌}
 use native.Mathlib.Omega.{arith}
 use Rattle.column_laws.proofs.Finite.{finite_part}
 use Rattle.column_laws.proofs.Updates.{below_read, rows_applied}
-use Rattle.laws.proofs.Blocks.{row_end, square_most}
 use Rattle.apply_blocks.proofs.apply_rows.Goals as goal
-
-pub overflow_mul-c : goal.overflow_mul-c
-overflow_mul-c c =
-    let a = c.args in omega (arith, c.requires.block, row_end a.c a.t a.t c.requires.c_lt_t.0, square_most a.t c.requires.block.rows_most)
-
-pub overflow_add-a : goal.overflow_add-a
-overflow_add-a c =
-    let a = c.args in omega (arith, c.requires.block, row_end a.c a.t a.t c.requires.c_lt_t.0, square_most a.t c.requires.block.rows_most)
-
-pub overflow_mul-c-2 : goal.overflow_mul-c-2
-overflow_mul-c-2 c =
-    let a = c.args in omega (arith, c.requires.block, row_end a.c a.t a.t c.requires.c_lt_t.0, square_most a.t c.requires.block.rows_most)
-
-pub overflow_add-a-2 : goal.overflow_add-a-2
-overflow_add-a-2 c =
-    let a = c.args in omega (arith, c.requires.block, row_end a.c a.t a.t c.requires.c_lt_t.0, square_most a.t c.requires.block.rows_most)
-
-pub overflow_mul-c-3 : goal.overflow_mul-c-3
-overflow_mul-c-3 c =
-    let a = c.args in omega (arith, c.requires.block, row_end a.c a.t a.t c.requires.c_lt_t.0, square_most a.t c.requires.block.rows_most)
-
-pub overflow_add-c-4 : goal.overflow_add-c-4
-overflow_add-c-4 c =
-    let a = c.args in omega (arith, c.requires.block, row_end a.c a.t a.t c.requires.c_lt_t.0, square_most a.t c.requires.block.rows_most)
-
-pub overflow_add-f : goal.overflow_add-f
-overflow_add-f c =
-    let a = c.args in omega (arith, c.requires.block, row_end a.c a.t a.t c.requires.c_lt_t.0, square_most a.t c.requires.block.rows_most)
 
 pub update_rows-requires : goal.update_rows-requires
 update_rows-requires c =

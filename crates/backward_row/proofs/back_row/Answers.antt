@@ -7,55 +7,11 @@ use Rattle.backward_row.proofs.Whole.{value_is, diagonal_finite}
 use Rattle.backward_row.proofs.Shows.{row_number_lem, row_not_finite}
 use Rattle.backward_row.proofs.back_row.Goals as goal
 
-pub overflow_mul-x : goal.overflow_mul-x
-overflow_mul-x c =
-    let here : Placed c.args.z c.args.matrix.now c.args.y.now c.args.i c.args.i c.args.r = placed c.requires.backward_fits c.args.i c.args.i c.args.r c.requires.i_lt_tiles.0 c.requires.i_lt_tiles.0 c.requires.i_lt_tiles.1 in omega (arith, (here).part, (here).right_few)
-
-pub overflow_add-x : goal.overflow_add-x
-overflow_add-x c =
-    let here : Placed c.args.z c.args.matrix.now c.args.y.now c.args.i c.args.i c.args.r = placed c.requires.backward_fits c.args.i c.args.i c.args.r c.requires.i_lt_tiles.0 c.requires.i_lt_tiles.0 c.requires.i_lt_tiles.1 in omega (arith, (here).part, (here).right_few, c.requires.i_lt_tiles.1)
-
-pub overflow_mul-own : goal.overflow_mul-own
-overflow_mul-own c =
-    let here : Placed c.args.z c.args.matrix.now c.args.y.now c.args.i c.args.i c.args.r = placed c.requires.backward_fits c.args.i c.args.i c.args.r c.requires.i_lt_tiles.0 c.requires.i_lt_tiles.0 c.requires.i_lt_tiles.1 in omega (arith, (here).row, (here).square)
-
-pub overflow_add-own : goal.overflow_add-own
-overflow_add-own c =
-    let here : Placed c.args.z c.args.matrix.now c.args.y.now c.args.i c.args.i c.args.r = placed c.requires.backward_fits c.args.i c.args.i c.args.r c.requires.i_lt_tiles.0 c.requires.i_lt_tiles.0 c.requires.i_lt_tiles.1 in omega (arith, (here).row, (here).room, (here).numbers_few, c.tile_start.ensures)
-
-pub overflow_add-own-2 : goal.overflow_add-own-2
-overflow_add-own-2 c =
-    let here : Placed c.args.z c.args.matrix.now c.args.y.now c.args.i c.args.i c.args.r = placed c.requires.backward_fits c.args.i c.args.i c.args.r c.requires.i_lt_tiles.0 c.requires.i_lt_tiles.0 c.requires.i_lt_tiles.1 in omega (arith, (here).row, (here).room, (here).numbers_few, c.tile_start.ensures, c.requires.i_lt_tiles.1)
-
-pub overflow_add-x-2 : goal.overflow_add-x-2
-overflow_add-x-2 c =
-    let here : Placed c.args.z c.args.matrix.now c.args.y.now c.args.i c.args.i c.args.r = placed c.requires.backward_fits c.args.i c.args.i c.args.r c.requires.i_lt_tiles.0 c.requires.i_lt_tiles.0 c.requires.i_lt_tiles.1 in omega (arith, (here).part, (here).right_few, c.requires.i_lt_tiles.1)
-
-pub offset_bounds-y-x : goal.offset_bounds-y-x
-offset_bounds-y-x c =
-    let here : Placed c.args.z c.args.matrix.now c.args.y.now c.args.i c.args.i c.args.r = placed c.requires.backward_fits c.args.i c.args.i c.args.r c.requires.i_lt_tiles.0 c.requires.i_lt_tiles.0 c.requires.i_lt_tiles.1 in omega (arith, (here).part, (here).right_few, c.requires.i_lt_tiles.1)
-
-pub bounds-y-x : goal.bounds-y-x
-bounds-y-x c =
-    let here : Placed c.args.z c.args.matrix.now c.args.y.now c.args.i c.args.i c.args.r = placed c.requires.backward_fits c.args.i c.args.i c.args.r c.requires.i_lt_tiles.0 c.requires.i_lt_tiles.0 c.requires.i_lt_tiles.1 in omega (arith, (here).part, c.requires.i_lt_tiles.1)
-
 pub subtract-beside-requires : goal.subtract-beside-requires
 subtract-beside-requires c =
     let here : Placed c.args.z c.args.matrix.now c.args.y.now c.args.i c.args.i c.args.r = placed c.requires.backward_fits c.args.i c.args.i c.args.r c.requires.i_lt_tiles.0 c.requires.i_lt_tiles.0 c.requires.i_lt_tiles.1 in let p = here in
     let h = c.requires.i_lt_tiles.1 in
     (omega (arith, p.row, p.room, h, c.tile_start.ensures), omega (arith, p.part, h))
-
-pub subtract_tiles-left-requires : goal.subtract_tiles-left-requires
-subtract_tiles-left-requires c =
-    record { backward_fits = c.requires.backward_fits; i_lt_tiles = c.requires.i_lt_tiles }
-
-pub overflow_add-v : goal.overflow_add-v
-overflow_add-v c =
-    let here : Placed c.args.z c.args.matrix.now c.args.y.now c.args.i c.args.i c.args.r = placed c.requires.backward_fits c.args.i c.args.i c.args.r c.requires.i_lt_tiles.0 c.requires.i_lt_tiles.0 c.requires.i_lt_tiles.1 in let p = here in omega (arith, p.row, p.room, p.numbers_few, c.requires.i_lt_tiles.1, c.tile_start.ensures)
-
-pub offset_bounds-matrix-own : goal.offset_bounds-matrix-own
-offset_bounds-matrix-own c =
-    let here : Placed c.args.z c.args.matrix.now c.args.y.now c.args.i c.args.i c.args.r = placed c.requires.backward_fits c.args.i c.args.i c.args.r c.requires.i_lt_tiles.0 c.requires.i_lt_tiles.0 c.requires.i_lt_tiles.1 in let p = here in omega (arith, p.row, p.room, p.numbers_few, c.requires.i_lt_tiles.1, c.tile_start.ensures)
 
 pub bounds-matrix-own : goal.bounds-matrix-own
 bounds-matrix-own c =

@@ -1,7 +1,7 @@
 -- `couple_column` meets its contract: a pivot of zero, and the two ways by whether every number computed is finite. Assumes nothing.
-use mathlib.Core.Path.{◌≡◌, refl, ◌∙◌}
+use mathlib.Core.Path.{◌≡◌, refl}
 use mathlib.Core.Bool.{true, false}
-use Prim.Native.Nat.{◌<◌, ◌≤◌}
+use Prim.Native.Nat.{◌≤◌}
 use native.Mathlib.Omega.{arith}
 use lib.ListN.{length-set}
 use lib.Ieee.{of_bits}
@@ -10,18 +10,6 @@ use Rattle.column_laws.proofs.Pivots.{couple_entry, couple_fine}
 use Rattle.column_laws.proofs.Ends.{couple_skips, couple_ends, couple_fails}
 use Rattle.column_laws.proofs.Ready.{couple_ready}
 use Rattle.couple_columns.proofs.couple_column.Goals as goal
-
-pub tile_start-u-requires : goal.tile_start-u-requires
-tile_start-u-requires c =
-    let w = c.requires in let h : c.args.k < c.args.z.tiles = omega (arith, w.placed.0, w.placed.1) in (w.tiles_most, w.side_most, h, h)
-
-pub tile_start-d-requires : goal.tile_start-d-requires
-tile_start-d-requires c =
-    let w = c.requires in (w.tiles_most, w.side_most, w.placed.1, omega (arith, w.placed.0, w.placed.1))
-
-pub list_start-p-requires : goal.list_start-p-requires
-list_start-p-requires c =
-    let w = c.requires in (w.tiles_most, w.side_most, w.placed.1, omega (arith, w.placed.0, w.placed.1))
 
 pub couple_pivot-found-requires : goal.couple_pivot-found-requires
 couple_pivot-found-requires c =
@@ -37,25 +25,9 @@ overflow_cast-lists c =
     let d = c.tile_start-d.ensures in
     couple_entry a.z.side a.c c.tile_start-u.result c.tile_start-d.result r.column a.matrix.now (rw u r.upper_room) (rw d r.lower_room) (rw u r.upper_finite) (rw d r.lower_finite) c.couple_pivot-found.result c.couple_pivot-found.ensures in omega (arith, in_range, (couple_ready c.requires).side_most)
 
-pub overflow_add-lists : goal.overflow_add-lists
-overflow_add-lists c =
-    let r = couple_ready c.requires in omega (arith, r.column, r.list_room, r.lists_few, c.list_start-p.ensures)
-
 pub bounds-lists-p : goal.bounds-lists-p
 bounds-lists-p c =
     let r = couple_ready c.requires in omega (arith, r.column, r.list_room, r.lists_few, c.list_start-p.ensures)
-
-pub column_end-requires : goal.column_end-requires
-column_end-requires c =
-    (couple_ready c.requires).column
-
-pub shape_of-matrix-then-magnitude : goal.shape_of-matrix-then-magnitude
-shape_of-matrix-then-magnitude c =
-    refl
-
-pub shape_of-lists-then-magnitude : goal.shape_of-lists-then-magnitude
-shape_of-lists-then-magnitude c =
-    simp length-set
 
 pub returns-then-magnitude : goal.returns-then-magnitude
 unfolding of_bits is_zero
@@ -81,18 +53,6 @@ couple_rows-requires c =
     let ru = rw (← u) at r.upper_room in
     let rd = rw (← d) at r.lower_room in record { two_blocks = record { rows_most = r.side_most; width_most = r.side_most; few = r.few; upper_room = ru; lower_room = rd; apart = rw (u, d) r.apart }; c_lt_t = (r.column, in_range, rw u r.upper_finite, rw d r.lower_finite); by_index = couple_fine t a.c c.tile_start-u.result c.tile_start-d.result r.column a.matrix.now ru rd (rw u r.upper_finite) (rw d r.lower_finite) c.couple_pivot-found.result c.couple_pivot-found.ensures (nonzero) }
 
-pub column_end-requires-then-couple_rows : goal.column_end-requires-then-couple_rows
-column_end-requires-then-couple_rows c =
-    (couple_ready c.requires).column
-
-pub shape_of-matrix-then-couple_rows : goal.shape_of-matrix-then-couple_rows
-shape_of-matrix-then-couple_rows c =
-    c.couple_rows.auto.m
-
-pub shape_of-lists-then-couple_rows : goal.shape_of-lists-then-couple_rows
-shape_of-lists-then-couple_rows c =
-    simp length-set
-
 pub returns-then-couple_rows : goal.returns-then-couple_rows
 unfolding of_bits is_zero
 returns-then-couple_rows c =
@@ -112,14 +72,6 @@ fill_coupled-requires c =
     let p = c.list_start-p.ensures in
     let long = c.couple_rows.auto.m in
     (r.side_most, omega (arith, r.upper_room, u, long), omega (arith, r.lower_room, d, long), simp length-set (omega (arith, r.list_room, p)))
-
-pub shape_of-matrix : goal.shape_of-matrix
-shape_of-matrix c =
-    c.fill_coupled.auto.matrix ∙ c.couple_rows.auto.m
-
-pub shape_of-lists : goal.shape_of-lists
-shape_of-lists c =
-    c.fill_coupled.auto.lists ∙ simp length-set
 
 pub returns : goal.returns
 unfolding of_bits is_zero

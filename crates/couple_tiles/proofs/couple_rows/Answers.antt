@@ -6,14 +6,6 @@ use Rattle.column_laws.proofs.Pairs.{mid_long, mid_finite, coupled_fine, tiles_c
 use Rattle.laws.proofs.Blocks.{row_end}
 use Rattle.couple_tiles.proofs.couple_rows.Goals as goal
 
-pub overflow_mul-c : goal.overflow_mul-c
-overflow_mul-c c =
-    let a = c.args in omega (arith, c.requires.two_blocks, row_end a.c a.t a.t c.requires.c_lt_t.0)
-
-pub overflow_add-u : goal.overflow_add-u
-overflow_add-u c =
-    let a = c.args in omega (arith, c.requires.two_blocks, row_end a.c a.t a.t c.requires.c_lt_t.0)
-
 pub eliminate-requires : goal.eliminate-requires
 eliminate-requires c =
     let a = c.args in

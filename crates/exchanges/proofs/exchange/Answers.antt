@@ -7,7 +7,7 @@ use Rattle.exchanges.proofs.exchange.Goals as goal
 pub loop-i-preserved : goal.loop-i-preserved
 loop-i-preserved c =
     let p = c.requires in
-    rw c.swap.ensures.after (swapped_more _ _ _ p.2 _ _ _ c.loop-i.invariant c.loop-i-test.true p.0 p.1)
+    swapped_more _ _ _ p.2 _ _ _ c.loop-i.invariant c.loop-i-test.true p.0 p.1
 
 pub returns : goal.returns
 returns c =

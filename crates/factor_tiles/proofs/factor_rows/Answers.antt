@@ -9,43 +9,11 @@ use Rattle.column_laws.proofs.Pairs.{kept_long, factored_finite, factored_fine, 
 use Rattle.laws.proofs.Blocks.{row_end}
 use Rattle.factor_tiles.proofs.factor_rows.Goals as goal
 
-pub overflow_mul-c : goal.overflow_mul-c
-overflow_mul-c c =
-    let a = c.args in omega (arith, c.requires.block, row_end a.c a.t a.t c.requires.c_lt_t.0)
-
-pub overflow_add-a : goal.overflow_add-a
-overflow_add-a c =
-    let a = c.args in omega (arith, c.requires.block, row_end a.c a.t a.t c.requires.c_lt_t.0)
-
-pub overflow_mul-y : goal.overflow_mul-y
-overflow_mul-y c =
-    let a = c.args in omega (arith, c.requires.block, row_end a.y a.t a.t c.requires.c_lt_t.1)
-
-pub overflow_add-a-2 : goal.overflow_add-a-2
-overflow_add-a-2 c =
-    let a = c.args in omega (arith, c.requires.block, row_end a.y a.t a.t c.requires.c_lt_t.1)
-
 pub exchange-requires : goal.exchange-requires
 exchange-requires c =
     let a = c.args in
     let h = c.requires.c_lt_t in
     (omega (arith, c.requires.block, row_end a.c a.t a.t h.0), omega (arith, c.requires.block, row_end a.y a.t a.t h.1), rows_exchangeable a.t a.a a.c a.y)
-
-pub overflow_mul-c-2 : goal.overflow_mul-c-2
-overflow_mul-c-2 c =
-    let a = c.args in omega (arith, c.requires.block, row_end a.c a.t a.t c.requires.c_lt_t.0)
-
-pub overflow_add-a-3 : goal.overflow_add-a-3
-overflow_add-a-3 c =
-    let a = c.args in omega (arith, c.requires.block, row_end a.c a.t a.t c.requires.c_lt_t.0)
-
-pub overflow_mul-c-3 : goal.overflow_mul-c-3
-overflow_mul-c-3 c =
-    let a = c.args in omega (arith, c.requires.block, row_end a.c a.t a.t c.requires.c_lt_t.0)
-
-pub overflow_add-a-4 : goal.overflow_add-a-4
-overflow_add-a-4 c =
-    let a = c.args in omega (arith, c.requires.block, row_end a.c a.t a.t c.requires.c_lt_t.0)
 
 pub eliminate-requires : goal.eliminate-requires
 eliminate-requires c =

@@ -13,14 +13,6 @@ use Rattle.column_laws.proofs.Updates.{column_read}
 use Rattle.laws.proofs.Blocks.{row_end}
 use Rattle.pair_blocks.proofs.pair_rows.Goals as goal
 
-pub overflow_mul-c : goal.overflow_mul-c
-overflow_mul-c c =
-    let a = c.args in let b = c.requires.two_blocks in omega (arith, b.upper_room, b.few, row_end a.c a.t a.t c.requires.c_lt_t.0)
-
-pub overflow_add-u : goal.overflow_add-u
-overflow_add-u c =
-    let a = c.args in let b = c.requires.two_blocks in omega (arith, b.upper_room, b.few, row_end a.c a.t a.t c.requires.c_lt_t.0)
-
 pub update_rows-requires : goal.update_rows-requires
 update_rows-requires c =
     let a = c.args in

@@ -1,7 +1,9 @@
 -- `factor_pivot` meets its contract: the candidates are column c from row c on. Assumes nothing.
 use mathlib.Core.Path.{◌≡◌, refl, ap, subst, ◌∙◌}
 use mathlib.Core.List.{List}
-use Prim.Native.Nat.{ℕ, suc, ◌+◌, ◌-◌, ◌*◌, ◌≤◌}
+use Prim.Native.Nat.{ℕ, suc, ◌+◌, ◌-◌, ◌*◌, ◌≤◌, ◌<◌}
+use lib.ListN.{length}
+use Rattle.model.specs.declared.Pivot.{Pivot}
 use native.Mathlib.Omega.{arith}
 use lib.Ieee.{Float}
 use Rattle.model.specs.Tile.{all_finite}
@@ -10,61 +12,33 @@ use Rattle.model.specs.Best.{Searched}
 use Rattle.model.specs.Column.{factor_candidates}
 use Rattle.column_laws.proofs.Pivots.{factor_candidates_lem, factor_finite, factor_length, factor_told}
 use Rattle.pivot_search.specs.Candidates.{candidates}
-use Rattle.laws.proofs.Blocks.{row_end}
 use Rattle.pivots.proofs.factor_pivot.Goals as goal
 
-pub overflow_mul-c : goal.overflow_mul-c
-overflow_mul-c c =
-    let room : c.args.a + (c.args.c * c.args.t + c.args.t) + 16 ≤ 65552 = let a = c.args in omega (arith, c.requires.block, row_end a.c a.t a.t c.requires.c_lt_t.0) in omega (arith, room)
+-- the candidates of the search are the definition's, and what was searched is the best of them
+module _ (t y a : ℕ) (h : y < t) (m : List Float) (room : a + t * t ≤ length m) where
+  same : (first rest : ℕ) → first ≡ a + (y * t + y) → rest ≡ a + (suc y * t + y) → candidates m first rest t (t - (y + 1)) ≡ factor_candidates t y (part a (t * t) m)
+  same first rest e f = factor_candidates_lem t y a h m room first rest (t - (y + 1)) (omega arith) e f
 
-pub overflow_add-c : goal.overflow_add-c
-overflow_add-c c =
-    let room : c.args.a + (c.args.c * c.args.t + c.args.t) + 16 ≤ 65552 = let a = c.args in omega (arith, c.requires.block, row_end a.c a.t a.t c.requires.c_lt_t.0) in omega (arith, room)
+  searched : (p : Pivot) → Searched (candidates m (a + (y * t + y)) (a + ((y + 1) * t + y)) t (t - (y + 1))) p → Searched (factor_candidates t y (part a (t * t) m)) p
+  searched p s = subst (λ (xs : List Float). Searched xs p) (same _ _ refl (omega arith)) s
 
-pub overflow_add-a : goal.overflow_add-a
-overflow_add-a c =
-    let room : c.args.a + (c.args.c * c.args.t + c.args.t) + 16 ≤ 65552 = let a = c.args in omega (arith, c.requires.block, row_end a.c a.t a.t c.requires.c_lt_t.0) in omega (arith, room)
+pub search_pivot-best-requires-clause-count_value : goal.search_pivot-best-requires-clause-count_value
+search_pivot-best-requires-clause-count_value c =
+    let a = c.args in
+    let h = c.requires.c_lt_t in
+    let room = c.requires.block.room in
+    ap all_finite (same a.t a.c a.a h.0 a.m.now room _ _ refl (omega arith)) ∙ factor_finite a.t a.c a.a h.0 a.m.now room h.1
 
-pub overflow_mul-c-2 : goal.overflow_mul-c-2
-overflow_mul-c-2 c =
-    let room : c.args.a + (c.args.c * c.args.t + c.args.t) + 16 ≤ 65552 = let a = c.args in omega (arith, c.requires.block, row_end a.c a.t a.t c.requires.c_lt_t.0) in omega (arith, room)
-
-pub overflow_add-c-3 : goal.overflow_add-c-3
-overflow_add-c-3 c =
-    let room : c.args.a + (c.args.c * c.args.t + c.args.t) + 16 ≤ 65552 = let a = c.args in omega (arith, c.requires.block, row_end a.c a.t a.t c.requires.c_lt_t.0) in omega (arith, room)
-
-pub overflow_add-a-2 : goal.overflow_add-a-2
-overflow_add-a-2 c =
-    let room : c.args.a + (c.args.c * c.args.t + c.args.t) + 16 ≤ 65552 = let a = c.args in omega (arith, c.requires.block, row_end a.c a.t a.t c.requires.c_lt_t.0) in omega (arith, room)
-
-pub search_pivot-best-requires : goal.search_pivot-best-requires
-search_pivot-best-requires c =
-    let room : c.args.a + (c.args.c * c.args.t + c.args.t) + 16 ≤ 65552 = let a = c.args in omega (arith, c.requires.block, row_end a.c a.t a.t c.requires.c_lt_t.0) in let same : (first rest : ℕ) → first ≡ c.args.a + (c.args.c * c.args.t + c.args.c)
-    → rest ≡ c.args.a + (suc c.args.c * c.args.t + c.args.c)
-    → candidates c.args.m.now first rest c.args.t (c.args.t - (c.args.c + 1))
-    ≡ factor_candidates c.args.t c.args.c (part c.args.a (c.args.t * c.args.t) c.args.m.now) = λ first rest e f. let a = c.args in
+pub overflow_add-result : goal.overflow_add-result
+overflow_add-result c =
+    let a = c.args in
     let h = c.requires.c_lt_t.0 in
-    factor_candidates_lem a.t a.c a.a h a.m.now c.requires.block.room first rest (a.t - (a.c + 1)) (omega (arith, h)) e f in let a = c.args in
-    let h = c.requires.c_lt_t.0 in
-    let ends : suc a.c + (a.t - (a.c + 1)) ≡ a.t = omega (arith, h) in
-    let split : (suc a.c + (a.t - (a.c + 1))) * a.t ≡ a.t * a.t = rw ends in
-    record { first_in_bounds = omega (arith, c.requires.block, h, room, split); count_value = ap all_finite (same _ _ refl (omega arith)) ∙ factor_finite a.t a.c a.a h a.m.now c.requires.block.room c.requires.c_lt_t.1 }
-
-pub overflow_add-row : goal.overflow_add-row
-overflow_add-row c =
-    let room : c.args.a + (c.args.c * c.args.t + c.args.t) + 16 ≤ 65552 = let a = c.args in omega (arith, c.requires.block, row_end a.c a.t a.t c.requires.c_lt_t.0) in let same : (first rest : ℕ) → first ≡ c.args.a + (c.args.c * c.args.t + c.args.c)
-    → rest ≡ c.args.a + (suc c.args.c * c.args.t + c.args.c)
-    → candidates c.args.m.now first rest c.args.t (c.args.t - (c.args.c + 1))
-    ≡ factor_candidates c.args.t c.args.c (part c.args.a (c.args.t * c.args.t) c.args.m.now) = λ first rest e f. let a = c.args in
-    let h = c.requires.c_lt_t.0 in
-    factor_candidates_lem a.t a.c a.a h a.m.now c.requires.block.room first rest (a.t - (a.c + 1)) (omega (arith, h)) e f in let searched : Searched (factor_candidates c.args.t c.args.c (part c.args.a (c.args.t * c.args.t) c.args.m.now)) c.search_pivot-best.result = subst (λ (xs : List Float). Searched xs c.search_pivot-best.result) (same _ _ refl (omega arith)) c.search_pivot-best.ensures in let a = c.args in
-    omega (arith, (searched).best.inside, factor_length a.t a.c a.a c.requires.c_lt_t.0 a.m.now c.requires.block.room, room)
+    let b = c.requires.block in
+    let s = searched a.t a.c a.a h a.m.now b.room c.search_pivot-best.result c.search_pivot-best.ensures in
+    omega (arith, s.best.inside, factor_length a.t a.c a.a h a.m.now b.room, b.rows_most)
 
 pub returns : goal.returns
 returns c =
-    let same : (first rest : ℕ) → first ≡ c.args.a + (c.args.c * c.args.t + c.args.c)
-    → rest ≡ c.args.a + (suc c.args.c * c.args.t + c.args.c)
-    → candidates c.args.m.now first rest c.args.t (c.args.t - (c.args.c + 1))
-    ≡ factor_candidates c.args.t c.args.c (part c.args.a (c.args.t * c.args.t) c.args.m.now) = λ first rest e f. let a = c.args in
+    let a = c.args in
     let h = c.requires.c_lt_t.0 in
-    factor_candidates_lem a.t a.c a.a h a.m.now c.requires.block.room first rest (a.t - (a.c + 1)) (omega (arith, h)) e f in let searched : Searched (factor_candidates c.args.t c.args.c (part c.args.a (c.args.t * c.args.t) c.args.m.now)) c.search_pivot-best.result = subst (λ (xs : List Float). Searched xs c.search_pivot-best.result) (same _ _ refl (omega arith)) c.search_pivot-best.ensures in let a = c.args in factor_told a.t a.c _ c.search_pivot-best.result _ (searched) refl
+    factor_told a.t a.c _ c.search_pivot-best.result _ (searched a.t a.c a.a h a.m.now c.requires.block.room c.search_pivot-best.result c.search_pivot-best.ensures) refl
