@@ -1,6 +1,6 @@
 -- `digits_read::all_digits` meets its contract: after some bytes the fold is the test of these. Assumes nothing.
 use mathlib.Core.Path.{◌≡◌, refl, ap, ◌∙◌, subst}
-use mathlib.Core.Bool.{Bool, ◌&&◌}
+use mathlib.Core.Bool.{Bool, true, ◌&&◌}
 use mathlib.Core.List.{List, [], ◌∷◌, ◌++◌}
 use Prim.Native.Nat.{ℕ}
 use Rattle.std.proofs.Common.{rules}
@@ -19,4 +19,4 @@ pub returns : goal.returns
 unfolding every
 returns c =
     subst (λ (l : List ℕ). c.fold.result ≡ every is_digit l) c.iter.ensures.rest
-    (fold_over fronts (λ y. y.now) _ (λ ys b. b ≡ every is_digit ys) _ (λ ys a x b f' j k. let more = one_more ys x.now a j in search rules) _ _ _ _ (slice_gives c.iter.result) refl c.fold.ensures.ran)
+    (fold_over fronts (λ y. y.now) _ (λ ys b. b ≡ every is_digit ys) _ (λ ys a x b f' j k. let more = one_more ys x.now a j in search rules) _ _ true _ (slice_gives c.iter.result) refl c.fold.ensures.ran)

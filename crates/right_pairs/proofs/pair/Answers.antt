@@ -1,5 +1,4 @@
 -- All columns of T-4(k,i): what is left from column c on is the whole. Assumes nothing.
-use mathlib.Core.Path.{◌∙◌}
 use native.Mathlib.Omega.{arith}
 use Rattle.model.specs.Plan.{plan}
 use Rattle.progress.specs.Right.{passed_of, pair_all}
@@ -9,11 +8,6 @@ use Rattle.right_pairs.proofs.pair.Goals as goal
 pub loop-c-init : goal.loop-c-init
 unfolding pair_all plan
 loop-c-init c = (c.requires.right_side.all_finite_lem, left_begins _ _ _)
-
-pub pair_right_column-requires : goal.pair_right_column-requires
-pair_right_column-requires c =
-    let i = c.loop-c.invariant in
-    record { solvable = c.requires.solvable; right_side = record { long = c.loop-c.auto.y ∙ c.requires.right_side.long; all_finite_lem = i.0 }; k_lt_i = (c.requires.k_lt_i.0, c.requires.k_lt_i.1, c.loop-c-test.true) }
 
 pub returns-then-not-pair_right_column : goal.returns-then-not-pair_right_column
 unfolding passed_of

@@ -1,5 +1,4 @@
 -- All columns of T-2(k): what is left from column c on is the whole. Assumes nothing.
-use mathlib.Core.Path.{◌∙◌}
 use native.Mathlib.Omega.{arith}
 use Rattle.model.specs.Plan.{plan}
 use Rattle.progress.specs.Right.{passed_of, apply_all}
@@ -9,10 +8,6 @@ use Rattle.right_sides.proofs.apply.Goals as goal
 pub loop-c-init : goal.loop-c-init
 unfolding apply_all plan
 loop-c-init c = (c.requires.right_side.all_finite_lem, left_begins _ _ _)
-
-pub apply_right_column-requires : goal.apply_right_column-requires
-apply_right_column-requires c =
-    record { solvable = c.requires.solvable; right_side = record { long = c.loop-c.auto.y ∙ c.requires.right_side.long; all_finite_lem = c.loop-c.invariant.0 }; k_lt_tiles = (c.requires.k_lt_tiles, c.loop-c-test.true) }
 
 pub returns-then-not-apply_right_column : goal.returns-then-not-apply_right_column
 unfolding passed_of
