@@ -21,13 +21,6 @@ use Rattle.records.proofs.Laws.{length_records}
 
 -- ---- the numbering, record by record
 
-pub number_first : (n : ℕ) (a : Triple) → a ≡ record { k = 0; i = 0; j = 0 } → number n (key a.k a.i a.j) ≡ 0
-unfolding number offset
-number_first n a e = rw e (omega arith)
-
-pub in_first : (n : ℕ) (a : Triple) → a ≡ record { k = 0; i = 0; j = 0 } → 1 ≤ n → In n (key a.k a.i a.j)
-in_first n a e h = rw e (record { row = omega arith; column = omega arith; row_fits = h; column_fits = h })
-
 -- the first p records are those of the first p tasks, waiting
 abbrev pub Numbered : ℕ → List TaskRecord → ℕ → Type 0
 Numbered n rs p = (q : ℕ) → q < p → get_or rs q (record_of (t_1 0)) ≡ record_of (task (tasks n) q)
