@@ -12,44 +12,26 @@ use Rattle.model.specs.declared.Sizes.{Sizes}
 use Rattle.model.specs.declared.TaskRecord.{TaskRecord}
 use Rattle.worker.specs.declared.Worker.{Worker}
 use Rattle.model.specs.Limits.{most_tiles}
-use Rattle.model.specs.Lists.{below, some, keep, total}
+use Rattle.model.specs.Lists.{below, some, total}
 use Rattle.model.specs.Task.{Task, kind_of, k_of, i_of, j_of, tasks}
 use Rattle.model.specs.Plan.{plan, plan_of}
-use Rattle.model.specs.Links.{task, mark}
+use Rattle.model.specs.Links.{task}
 use Rattle.model.specs.Calls.{Lent, record_of, marks_of, ties_of}
-use Rattle.model.specs.Refusal.{holds, next_column, bad_record, bad_hold, tie_limit, bad_ties, bad_calls, call_limit, bad_number, bad_worker, bad_entry, damaged}
+use Rattle.model.specs.Refusal.{next_column, bad_record, bad_hold, tie_limit, bad_ties, bad_calls, call_limit, bad_number, bad_worker, bad_entry, damaged}
 use Rattle.laws.proofs.Every.{get_d_any}
-use borrow.Author.Tests.{eqb-true, eqb-false, eq-eqb, ltb-true, not-false}
-use Rattle.laws.proofs.Tests.{never, and_left, and_right, and_intro, or_false, false_or, false_if, some_either, same_or_not}
+use borrow.Author.Tests.{lt-ltb, le-ltb}
+use Rattle.laws.proofs.Tests.{never, or_false, false_or, some_either, same_or_not}
+use Rattle.std.specs.Prelude.{Some, None}
 use Rattle.holds.specs.declared.Limits.{Limits}
 use Rattle.holds.specs.Allowed.{Allowed}
-use Rattle.records.specs.Records.{records_from, marks_from, ties_from, blank, crew, lent, four_bytes}
-use Rattle.records.proofs.Laws.{length_records, length_crew, get_mark, get_ties}
-use Rattle.links.specs.Closed.{key, In, task_at, offset, number}
+use Rattle.records.specs.Records.{records_from, ties_from, blank, crew, lent, four_bytes}
+use Rattle.records.proofs.Laws.{length_records, length_crew, get_ties}
+use Rattle.links.specs.Closed.{key, In, task_at, number}
 use Rattle.damage.specs.Named.{name_of, name_at, Bytes}
 use Rattle.links.proofs.Numbering.{task_is, at_T_1, at_T_2, at_T_3, at_T_4}
 use Rattle.checks.specs.Checks.{records_alone, lists_alone, numbered}
 
 -- ---- records
-
--- four bytes are the same where the numbers that they make are
-module _ (a b c d a' b' c' d' : ℕ) (ha : a < 256) (hb : b < 256) (hc : c < 256) (hd : d < 256) (ha' : a' < 256) (hb' : b' < 256) (hc' : c' < 256) (hd' : d' < 256) where
-  all_same : four_bytes a b c d ≡ four_bytes a' b' c' d' → (eqb a a' && eqb b b' && eqb c c' && eqb d d') ≡ true
-  all_same e = and_intro _ _ (and_intro _ _ (and_intro _ _ (eq-eqb a a' (omega (arith, e))) (eq-eqb b b' (omega (arith, e)))) (eq-eqb c c' (omega (arith, e)))) (eq-eqb d d' (omega (arith, e)))
-
-  pub bytes_same : eqb (four_bytes a b c d) (four_bytes a' b' c' d') ≡ (eqb a a' && eqb b b' && eqb c c' && eqb d d')
-  bytes_same = go (eqb (four_bytes a b c d) (four_bytes a' b' c' d')) refl
-    where
-      go : (t : Bool) → eqb (four_bytes a b c d) (four_bytes a' b' c' d') ≡ t → t ≡ (eqb a a' && eqb b b' && eqb c c' && eqb d d')
-      go true e = sym (all_same (eqb-true (four_bytes a b c d) (four_bytes a' b' c' d') e))
-      go false e = sym (false_if (eqb a a' && eqb b b' && eqb c c' && eqb d d') (λ f.
-          let three = and_left (eqb a a' && eqb b b' && eqb c c') (eqb d d') f in
-          let two = and_left (eqb a a' && eqb b b') (eqb c c') three in
-          let x = eqb-true a a' (and_left (eqb a a') (eqb b b') two) in
-          let y = eqb-true b b' (and_right (eqb a a') (eqb b b') two) in
-          let u = eqb-true c c' (and_right (eqb a a' && eqb b b') (eqb c c') three) in
-          let v = eqb-true d d' (and_right (eqb a a' && eqb b b' && eqb c c') (eqb d d') f) in
-          eqb-false (four_bytes a b c d) (four_bytes a' b' c' d') e (λ i. four_bytes (x i) (y i) (u i) (v i))))
 
 -- past the first task of a row only j grows
 pub name_next : (k i j : ℕ) → k + 1 < j → name_at k i (j - 1) + 16777216 ≡ name_at k i j
@@ -150,37 +132,26 @@ module _ (z : Sizes) (r : List (List ℕ)) (h : List Worker) (n : ℕ) where
       found_is : found ≡ get_or (records_from r) p (record_of (task (tasks z.tiles) p))
       found_is = f ∙ get_d_any (records_from r) p blank (record_of (task (tasks z.tiles) p)) (rw length_records l)
 
+  -- a taken task that is not held by one worker
+  pub not_held : (p : ℕ) → Allowed z r h p None → bad_hold (plan_of z) state p ≡ true
+  unfolding bad_hold lent marks_of
+  not_held p a = sym a.as_marked
+
   -- by the limits of task p
-  module _ (p : ℕ) (m : Limits) (a : Allowed z r h p m) where
-    pub hold_by : not m.held ≡ bad_hold (plan_of z) state p
+  module _ (p : ℕ) (m : Limits) (a : Allowed z r h p (Some m)) where
+    hold_by : false ≡ bad_hold (plan_of z) state p
     unfolding bad_hold lent marks_of
     hold_by = a.as_marked
 
-    pub ties_by : (found : TaskRecord) → found ≡ get_or (records_from r) p blank → ltb m.ties found.ties ≡ bad_ties (plan_of z) state p
+    ties_by : (found : TaskRecord) → found ≡ get_or (records_from r) p blank → ltb m.ties found.ties ≡ bad_ties (plan_of z) state p
     unfolding bad_ties tie_limit next_column lent marks_of ties_of ties_from
     ties_by found f =
         let k : found.ties ≡ get_or (ties_from r) p 0 = ap (λ (x : TaskRecord). x.ties) f ∙ sym (get_ties r p) in
-        λ i. ltb (a.ties i) (k i)
+        λ i. ltb (a.limits.ties i) (k i)
 
     pub calls_by : m.calls ≡ call_limit (plan_of z) state p
     unfolding call_limit next_column lent marks_of
-    calls_by = a.calls
-
-  -- where it isn't taken and has no ties
-  pub quiet : (p : ℕ) (found : TaskRecord) → found ≡ get_or (records_from r) p blank → (eqb found.mark 1 || not (eqb found.ties 0)) ≡ false
-      → (bad_hold (plan_of z) state p || bad_ties (plan_of z) state p) ≡ false
-  unfolding bad_hold bad_ties lent marks_of marks_from ties_of ties_from
-  quiet p found f e =
-      let d = or_false (eqb found.mark 1) (not (eqb found.ties 0)) e in
-      let m : found.mark ≡ mark (marks_from r) p = ap (λ (x : TaskRecord). x.mark) f ∙ sym (get_mark r p) in
-      let n : found.ties ≡ get_or (ties_from r) p 0 = ap (λ (x : TaskRecord). x.ties) f ∙ sym (get_ties r p) in
-      let none : get_or (ties_from r) p 0 ≡ 0 = sym n ∙ eqb-true found.ties 0 (not-false (eqb found.ties 0) d.1) in
-      let free : bad_hold (plan_of z) state p ≡ false = unfold bad_hold lent marks_of marks_from in
-      (ap (λ (k : ℕ). eqb k 1 && not (eqb (length (keep (holds p) (crew h z.workers))) 1)) (sym m)
-      ∙ ap (λ (b : Bool). b && not (eqb (length (keep (holds p) (crew h z.workers))) 1)) d.0) in
-      let few : bad_ties (plan_of z) state p ≡ false = unfold bad_ties lent ties_of ties_from in
-      false_if (ltb (tie_limit (plan_of z) state p) (get_or (ties_from r) p 0)) (λ q. omega (arith, ltb-true (tie_limit (plan_of z) state p) (get_or (ties_from r) p 0) q, none)) in
-      false_or (bad_hold (plan_of z) state p) (bad_ties (plan_of z) state p) free few
+    calls_by = a.limits.calls
 
   abbrev pub outer : ℕ → Bool
   outer p = bad_record (plan_of z) state p || bad_calls (plan_of z) state p
@@ -198,11 +169,20 @@ module _ (z : Sizes) (r : List (List ℕ)) (h : List Worker) (n : ℕ) where
       let y = calls_bad p long found f w over in
       λ q. x q || y q
 
-  pub inner_tested : (p : ℕ) (m : Limits) → Allowed z r h p m → (found : TaskRecord) → found ≡ get_or (records_from r) p blank → (not m.held || ltb m.ties found.ties) ≡ inner p
+  inner_tested : (p : ℕ) (m : Limits) → Allowed z r h p (Some m) → (found : TaskRecord) → found ≡ get_or (records_from r) p blank → ltb m.ties found.ties ≡ inner p
   inner_tested p m a found f =
       let x = hold_by p m a in
       let y = ties_by p m a found f in
       λ q. x q || y q
+
+  pub inner_above : (p : ℕ) (m : Limits) → Allowed z r h p (Some m) → (found : TaskRecord) → found ≡ get_or (records_from r) p blank → m.ties < found.ties → inner p ≡ true
+  inner_above p m a found f l = sym (inner_tested p m a found f) ∙ lt-ltb m.ties found.ties l
+
+  pub inner_within : (p : ℕ) (m : Limits) → Allowed z r h p (Some m) → (found : TaskRecord) → found ≡ get_or (records_from r) p blank → found.ties ≤ m.ties → inner p ≡ false
+  inner_within p m a found f l = sym (inner_tested p m a found f) ∙ le-ltb m.ties found.ties l
+
+  pub inner_not_held : (p : ℕ) → Allowed z r h p None → inner p ≡ true
+  inner_not_held p a = rw (not_held p a)
 
   pub bad_outer : (p : ℕ) → outer p ≡ true → bad p ≡ true
   bad_outer p e = first_bad (bad_record (plan_of z) state p) (bad_hold (plan_of z) state p) (bad_ties (plan_of z) state p) (bad_calls (plan_of z) state p) e
@@ -236,11 +216,6 @@ module _ (z : Sizes) (r : List (List ℕ)) (h : List Worker) (n : ℕ) where
       || some (bad_ties (plan_of z) state) (below (length (tasks z.tiles)))) || some (bad_calls (plan_of z) state) (below (length (tasks z.tiles)))) || bad_number (plan_of z) state)
   unfolding bad_number lent plan
   found_none e calls f = ap (λ (k : ℕ). ltb k n) f ∙ ap (λ (b : Bool). b || bad_number (plan_of z) state) (e ∙ four (below (length (tasks z.tiles))))
-
--- the triple of task 0
-pub number_first : (N : ℕ) → number N (key 0 0 0) ≡ 0
-unfolding number offset
-number_first N = let z : 0 - 0 ≡ 0 = refl in omega arith
 
 -- ---- all of it
 

@@ -14,8 +14,9 @@ ghost use Rattle.checks.specs.Checks.{Sized, numbered};
 
 use entries::bad_entries;
 use holds::{free_limits, held_limits};
+use marks::{SPOILED, TAKEN};
 use model::{Sizes, TaskRecord};
-use numbering::{Triple, next};
+use numbering::{Triple, first, next};
 use records::{Record, record_at};
 use task_counts::task_count;
 use waiting_records::record_of;
@@ -26,7 +27,7 @@ use workers::bad_workers;
 fn named(task: TaskRecord) -> u32
     ensures { (result ≡ name_of task) × (task.kind < 256) × (task.k < 256) × (task.i < 256) × (task.j < 256) }
 {
-    task.kind as u32 + task.k as u32 * 256 + task.i as u32 * 65536 + task.j as u32 * 16777216
+    u32::from_le_bytes([task.kind, task.k, task.i, task.j])
 }
 
 // That number of the task with the triple a, where `before` is the number of the task before it: within a row only j grows.
@@ -45,7 +46,7 @@ fn differs(found: TaskRecord, due: u32) -> bool
     ensures { (task : SomeRecord) → Bytes task → due ≡ name_of task
         → result ≡ not (eqb found.kind task.kind && eqb found.k task.k && eqb found.i task.i && eqb found.j task.j && leb found.mark 4) }
 {
-    !((named(found) == due) & (found.mark <= 4))
+    !((named(found) == due) & (found.mark <= SPOILED))
 }
 
 // Whether a call number of a record is above the run's, or its worker is none of `workers` many.
@@ -66,29 +67,29 @@ fn bad_records(z: Sizes, records: &[Record], workers: Slots, number: u32) -> boo
         || bad_number (plan_of z) (numbered records.now workers z.workers number)) }
 {
     let count = task_count(z.tiles);
-    let mut a = Triple { k: 0, i: 0, j: 0 };
-    let mut p = 0;
+    let mut a = first();
     let mut calls = 0;
     let mut due = 0;
-    while p < count {
+    for p in 0..count {
         due = named_after(a, due);
         let found = record_at(records, p);
         if differs(found, due) | bad_calls(found, number, z.workers) {
             return true;
         }
-        let mut most = free_limits(z, found.mark);
-        if (found.mark == 1) | (found.ties != 0) {
-            let taken = found.mark == 1;
-            if taken {
-                most = held_limits(z, workers, p);
-            }
-            if !most.held | (most.ties < found.ties as usize) {
+        let taken = found.mark == TAKEN;
+        let most = if taken {
+            let Some(held) = held_limits(z, workers, p) else {
                 return true;
-            }
+            };
+            held
+        } else {
+            free_limits(z, found.mark)
+        };
+        if most.ties < found.ties as usize {
+            return true;
         }
         calls += most.calls;
         a = next(z.tiles as u8, a);
-        p += 1;
     }
     calls < number as usize
 }

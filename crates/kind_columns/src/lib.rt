@@ -1,4 +1,4 @@
-// A column of a task by its record's kind.
+// A column of a task by the step that its record asks for.
 #![tactic(auto)]
 
 ghost use Rattle.std.specs.Prelude.{◌≡◌};
@@ -12,6 +12,7 @@ use couple_columns::couple_column;
 use factor_columns::factor_column;
 use model::{ColumnEnd, Sizes, TaskRecord};
 use pair_columns::pair_column;
+use steps::{Step, step_of};
 
 // Works column c of a task that is not spoiled, and tells how it ends.
 pub fn work_column(
@@ -25,17 +26,10 @@ pub fn work_column(
     ensures { ended_with result (record { matrix = matrix.new; lists = lists.new })
         ≡ column_ends (plan_of z) (task_from task) c (record { matrix = matrix.old; lists = lists.old }) }
 {
-    let k = task.k as usize;
-    let i = task.i as usize;
-    let j = task.j as usize;
-    if task.kind == 1 {
-        return factor_column(z, matrix, lists, k, c);
+    match step_of(task) {
+        Step::Factor { k } => factor_column(z, matrix, lists, k, c),
+        Step::Apply { k, j } => apply_column(z, matrix, lists, k, j, c),
+        Step::Couple { k, i } => couple_column(z, matrix, lists, k, i, c),
+        Step::Pair { k, i, j } => pair_column(z, matrix, lists, k, i, j, c),
     }
-    if task.kind == 2 {
-        return apply_column(z, matrix, lists, k, j, c);
-    }
-    if task.kind == 3 {
-        return couple_column(z, matrix, lists, k, i, c);
-    }
-    pair_column(z, matrix, lists, k, i, j, c)
 }

@@ -9,6 +9,7 @@ use Rattle.model.specs.Task.{tasks}
 use Rattle.laws.proofs.Tests.{lt_or_le}
 use Rattle.links.specs.Closed.{key, In, offset, number}
 use Rattle.links.proofs.Numbering.{count}
+use Rattle.numbering.specs.declared.Triple.{Triple}
 
 module _ (N k i j : ℕ) (v : In N (key k i j)) where
   -- in the same row
@@ -47,3 +48,11 @@ next_inside N k p l e h = go (lt_or_le (k + 1) N)
     go : (k + 1 < N) ⊎ (N ≤ k + 1) → In N (key (k + 1) (k + 1) (k + 1))
     go (inl q) = record { row = omega arith; column = omega arith; row_fits = q; column_fits = q }
     go (inr q) = let f : k + 1 ≡ N = omega arith in absurd (omega (arith, sym (rw f at e) ∙ number_end N))
+
+-- the triple of task 0
+pub number_first : (n : ℕ) (a : Triple) → a ≡ record { k = 0; i = 0; j = 0 } → number n (key a.k a.i a.j) ≡ 0
+unfolding number offset
+number_first n a e = rw e (omega arith)
+
+pub in_first : (n : ℕ) (a : Triple) → a ≡ record { k = 0; i = 0; j = 0 } → 1 ≤ n → In n (key a.k a.i a.j)
+in_first n a e h = rw e (record { row = omega arith; column = omega arith; row_fits = h; column_fits = h })

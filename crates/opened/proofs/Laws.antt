@@ -1,11 +1,12 @@
 -- The numbering written record by record, and idle workers. Assumes nothing.
-use Prim.Native.Nat.{ℕ, suc, ◌+◌, ◌≤◌, ◌<◌}
+use Prim.Native.Nat.{ℕ, ◌+◌, ◌≤◌, ◌<◌}
 use mathlib.Core.Path.{◌≡◌, sym, ap, ◌∙◌}
 use mathlib.Core.Logic.{◌⊎◌, inl, inr, ◌≢◌}
-use mathlib.Core.List.{List, [], ◌∷◌, ◌++◌, map}
+use mathlib.Core.List.{List, ◌++◌, map}
 use native.Mathlib.Omega.{arith}
-use lib.ListN.{length, get_or, set, take, replicate, length-map, get_or-map, replicate-append-replicate}
-use lib.Seq.{ext_get_or, get_or-set_same, get_or-set_other, take-suc-set}
+use lib.ListN.{length, get_or, set, replicate, length-map, length-replicate, get_or-map}
+use lib.Seq.{ext_get_or, get_or-set_same, get_or-set_other}
+use Rattle.std.proofs.lemmas.List.{length-append, take-append-le, take-replicate}
 use Rattle.model.specs.declared.TaskRecord.{TaskRecord}
 use Rattle.worker.specs.declared.Worker.{Worker}
 use Rattle.model.specs.Task.{t_1, tasks}
@@ -13,20 +14,12 @@ use Rattle.model.specs.Links.{task}
 use Rattle.model.specs.Calls.{record_of}
 use Rattle.worker.specs.Holding.{idle}
 use Rattle.laws.proofs.Tests.{same_or_not}
-use Rattle.links.specs.Closed.{Key, key, In, task_at, offset, number}
+use Rattle.links.specs.Closed.{Key, In, task_at, number}
 use Rattle.links.proofs.Numbering.{task_is}
-use Rattle.numbering.specs.declared.Triple.{Triple}
-use Rattle.records.specs.Records.{records_from}
-use Rattle.records.proofs.Laws.{length_records}
+use Rattle.records.specs.Records.{records_from, crew}
+use Rattle.records.proofs.Laws.{length_records, first_slots}
 
 -- ---- the numbering, record by record
-
-pub number_first : (n : ℕ) (a : Triple) → a ≡ record { k = 0; i = 0; j = 0 } → number n (key a.k a.i a.j) ≡ 0
-unfolding number offset
-number_first n a e = rw e (omega arith)
-
-pub in_first : (n : ℕ) (a : Triple) → a ≡ record { k = 0; i = 0; j = 0 } → 1 ≤ n → In n (key a.k a.i a.j)
-in_first n a e h = rw e (record { row = omega arith; column = omega arith; row_fits = h; column_fits = h })
 
 -- the first p records are those of the first p tasks, waiting
 abbrev pub Numbered : ℕ → List TaskRecord → ℕ → Type 0
@@ -56,7 +49,9 @@ module _ (n : ℕ) where
 
 -- ---- idle workers
 
-pub idle_more : (ws : List Worker) (v : ℕ) (h : Worker) → h ≡ idle → v < length ws → take v ws ≡ replicate v idle → take (v + 1) (set ws v h) ≡ replicate (v + 1) idle
-idle_more ws v h f l e =
-    let s : v + 1 ≡ suc v = omega arith in
-    rw f (ap (λ k. take k (set ws v idle)) s ∙ take-suc-set ws v idle l ∙ ap (λ l. l ++ (idle ∷ [])) e ∙ replicate-append-replicate v 1 idle)
+-- the first n slots are filled
+pub idle_front : (ws rest : List Worker) (n m : ℕ) (h : Worker) → h ≡ idle → m ≡ n → ws ≡ replicate m h → crew (ws ++ rest) n ≡ replicate n idle
+idle_front ws rest n m h e q f =
+    let l : n ≤ length (ws ++ rest) = omega (arith, length-append ws rest, ap length f, length-replicate m h) in
+    let k : n ≤ length (replicate n idle) = omega (arith, length-replicate n idle) in
+    first_slots (ws ++ rest) n l ∙ rw (f, q, e) (take-append-le n (replicate n idle) rest k ∙ take-replicate n n idle (omega arith))

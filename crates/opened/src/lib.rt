@@ -24,13 +24,10 @@ pub fn number_records(z: Sizes, records: &mut [Record])
     ensures { records_from records.new ≡ map record_of (tasks z.tiles) }
 {
     let n = z.tiles as u8;
-    let count = task_count(z.tiles);
     let mut a = first();
-    let mut p = 0;
-    while p < count {
+    for p in 0..task_count(z.tiles) {
         put_record(records, p, record_of(a));
         a = next(n, a);
-        p += 1;
     }
 }
 
@@ -40,15 +37,11 @@ pub fn idle_workers(workers: Workers) -> Workers
     ensures count_value { (crew result.slots result.count ≡ replicate workers.count idle) × (result.number ≡ 0) }
     ensures others_kept { OthersKept workers result }
 {
-    let mut left = workers.slots;
-    let mut v = 0;
-    while v < workers.count {
-        left[v] = Worker::idle();
-        v += 1;
-    }
+    let mut slots = workers.slots;
+    slots[..workers.count].fill(Worker::idle());
     Workers {
-        slots: left,
-        count: workers.count,
+        slots,
         number: 0,
+        ..workers
     }
 }

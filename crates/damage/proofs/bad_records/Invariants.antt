@@ -16,10 +16,7 @@ use Rattle.damage.proofs.Laws.{state, bad}
 use Rattle.damage.proofs.bad_records.Given as goal
 
 abbrev pub invariant-loop-p : goal.invariant-loop-p
-invariant-loop-p l = (l.p ≤ l.count) × (number l.z.tiles (key l.a.k l.a.i l.a.j) ≡ l.p) × (l.p < l.count → In l.z.tiles (key l.a.k l.a.i l.a.j))
+invariant-loop-p l = (number l.z.tiles (key l.a.k l.a.i l.a.j) ≡ l.p) × (l.p < l.count → In l.z.tiles (key l.a.k l.a.i l.a.j))
     × (some (bad l.z l.records l.workers l.number) (run l.p (l.count - l.p)) ≡ some (bad l.z l.records l.workers l.number) (below (length (tasks l.z.tiles))))
     × (l.calls ≡ total (map (call_limit (plan_of l.z) (state l.z l.records l.workers l.number)) (below l.p))) × (l.calls ≤ l.p * 8161)
     × ((q : ℕ) → suc q ≡ l.p → l.due ≡ name_of (record_of (task (tasks l.z.tiles) q)))
-
-abbrev pub decreases-loop-p : goal.decreases-loop-p
-decreases-loop-p l = l.count - l.p

@@ -2,7 +2,6 @@
 use Prim.Native.Nat.{ℕ, ◌+◌}
 use mathlib.Core.Path.{ap, ◌∙◌}
 use native.Mathlib.Omega.{arith}
-use Rattle.damage.specs.Named.{name_of}
 use Rattle.damage.proofs.Laws.{name_next, name_bytes}
 use Rattle.damage.proofs.named_after.Goals as goal
 
@@ -17,7 +16,3 @@ pub returns-then-a : goal.returns-then-a
 returns-then-a c =
     let a = c.args.a in
     ap (λ (n : ℕ). n + 16777216) (c.requires c.if-a.true) ∙ name_next a.k a.i a.j c.if-a.true
-
-pub returns : goal.returns
-returns c =
-    c.named.ensures.0 ∙ ap name_of c.record_of.ensures
