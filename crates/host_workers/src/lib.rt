@@ -1,5 +1,5 @@
-// The workers of a host: their slots in three arrays, their count, and the run's number. The arrays are three because hosts lend them so
-// (`struct workers` of hosts/solumivaf.h).
+// The workers of a host: their slots in three arrays, their count, and the run's number. The arrays are three because the
+// C interface has them so (busy, task and column of hosts/solumivaf.h).
 #![tactic(auto)]
 
 ghost use Rattle.std.specs.Prelude.{◌≡◌};
