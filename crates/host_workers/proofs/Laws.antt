@@ -1,17 +1,19 @@
 -- Workers in three lists: one more taken from them, or put into them. Assumes nothing.
-use Prim.Native.Nat.{ℕ, ◌+◌, ◌<◌, ◌≤◌}
+use Prim.Native.Nat.{ℕ, zero, suc, ◌+◌, ◌<◌, ◌≤◌}
 use native.Mathlib.Omega.{arith}
 use borrow.Author.Tests.{eqb-true, not-false, ne_eqb}
 use mathlib.Core.Bool.{Bool, true, false, cond}
-use mathlib.Core.Logic.{⊎_elim, ◌≢◌}
+use mathlib.Core.Logic.{⊎_elim}
 use mathlib.Core.Path.{◌≡◌, refl, sym, ap, subst, ◌∙◌}
 use mathlib.Core.List.{List}
 use lib.Dec.{eqb}
-use lib.ListN.{length, get_or, set, length-set}
-use lib.Seq.{get_or-set_same, get_or-set_other}
+use lib.ListN.{length, get_or}
 use Rattle.worker.specs.declared.Worker.{Worker}
 use Rattle.worker.specs.Holding.{idle}
 use Rattle.laws.proofs.Tests.{lt_or_le}
+use denote.Param.Members.{Mut, Called}
+use Rattle.std.specs.Array.{IsFromFnResultFrom, IsFromFnResult}
+use Rattle.model.specs.Lists.{table}
 use Rattle.laws.proofs.Blocks.{get_or_table, table_unique}
 use Rattle.host_workers.specs.Workers.{says_busy, worker_in, slots_in, byte_left, bytes_left}
 
@@ -60,20 +62,22 @@ module _ (x : ℕ) where
   stays true e = rw (sym e)
   stays false e = rw (sym e)
 
+-- ---- an array that a closure made, which stays as it is
+
+module _ {F B : Type 0} {g : Mut F (ℕ × Unit {0}) B} {f : F} (p : ℕ → B) (n : ℕ) (h : (k : ℕ) (y : B) (q : F) → k < n → Called g f (k, tt) y q → (q ≡ f) × (y ≡ p k)) where
+  made_from : (m i : ℕ) (ys : List B) → i + m ≤ n → IsFromFnResultFrom g f ys i m → (k : ℕ) (d : B) → i ≤ k → k < i + m → get_or ys k d ≡ p k
+  made_from zero i ys b e k d l u = absurd (omega (arith, l, u))
+  made_from (suc m) i ys b e k d l u =
+      let one : (e.0 ≡ f) × (e.1 ≡ p i) = h i e.1 e.0 (omega (arith, b)) e.3 in
+      ⊎_elim
+      (λ w. made_from m (i + 1) ys (omega (arith, b)) (subst (λ (z : F). IsFromFnResultFrom g z ys (i + 1) m) one.0 e.4) k d (omega (arith, w)) (omega (arith, u)))
+      (λ w. let q : i ≡ k = omega (arith, l, w) in subst (λ (z : ℕ). get_or ys z d ≡ p z) q (e.2.1 d ∙ one.1))
+      (lt_or_le i k)
+
+  pub made : (ys : List B) (d : B) → IsFromFnResult g f ys n → ys ≡ table n p
+  made ys d r = table_unique n p ys d r.long (λ i l. made_from n 0 ys (omega arith) r.each i d (omega arith) (omega (arith, l)))
+
 -- ---- all slots
-
--- the first v workers are those of the lists
-pub record Alike (b t c : List ℕ) (ws : List Worker) (v : ℕ) : Type 0 where
-  pub at_most : v ≤ 32
-  pub slots : length ws ≡ 32
-  pub busy_long : length b ≡ 32
-  pub task_long : length t ≡ 32
-  pub column_long : length c ≡ 32
-  pub alike : (i : ℕ) → i < v → get_or ws i idle ≡ worker_in b t c i
-
--- the first v bytes are those left where others stood
-pub record Left (given b : List ℕ) (ws : List Worker) (v : ℕ) : Type 0 where
-  pub left : (i : ℕ) → i < v → get_or b i 0 ≡ byte_left (get_or given i 0) (get_or ws i idle).busy
 
 module _ (b t c : List ℕ) (ws : List Worker) where
   -- a worker that stays as it was keeps its byte
@@ -83,76 +87,14 @@ module _ (b t c : List ℕ) (ws : List Worker) where
       get_or_table 32 (λ i. byte_left (get_or b i 0) (get_or ws i idle).busy) v 0 l
       ∙ stays (get_or b v 0) (get_or ws v idle).busy (ap (λ (w : Worker). w.busy) (e ∙ get_or_table 32 (worker_in b t c) v idle l))
 
-  module _ (v : ℕ) (h : Alike b t c ws v) (l : v < 32) where
-    pub gathered : (w : Worker) → w ≡ worker_in b t c v → Alike b t c (set ws v w) (v + 1)
-    gathered w e = record {
-      at_most = omega (arith, l);
-      slots = length-set ws v w ∙ h.slots;
-      busy_long = h.busy_long;
-      task_long = h.task_long;
-      column_long = h.column_long;
-      alike = λ i j.
-          ⊎_elim
-          (λ k. get_or-set_other ws v i w idle (λ q. absurd (omega (arith, k, q))) ∙ h.alike i k)
-          (λ k.
-          let q : v ≡ i = omega (arith, j, k) in
-          subst (λ (x : ℕ). get_or (set ws v w) x idle ≡ worker_in b t c x) q (get_or-set_same ws v w idle (omega (arith, l, h.slots)) ∙ e))
-          (lt_or_le i v);
-    }
-
-    put_same : (x y z : ℕ) → worker_in (set b v x) (set t v y) (set c v z) v ≡ record { busy = says_busy x; task = y; column = z }
-    unfolding worker_in
-    put_same x y z = λ s. record {
-      busy = says_busy (get_or-set_same b v x 0 (omega (arith, l, h.busy_long)) s);
-      task = get_or-set_same t v y 0 (omega (arith, l, h.task_long)) s;
-      column = get_or-set_same c v z 0 (omega (arith, l, h.column_long)) s;
-    }
-
-    put_other : (x y z i : ℕ) → i ≢ v → worker_in (set b v x) (set t v y) (set c v z) i ≡ worker_in b t c i
-    unfolding worker_in
-    put_other x y z i d = λ s. record {
-      busy = says_busy (get_or-set_other b v i x 0 d s);
-      task = get_or-set_other t v i y 0 d s;
-      column = get_or-set_other c v i z 0 d s;
-    }
-
-    module _ (given : List ℕ) (w : Worker) (e : w ≡ get_or ws v idle) (x : ℕ) (q : x ≡ byte_left (get_or given v 0) w.busy) where
-      as_put : w ≡ record { busy = says_busy x; task = w.task; column = w.column }
-      as_put = λ s. record { busy = (sym (ap says_busy q ∙ says_left (get_or given v 0) w.busy)) s; task = w.task; column = w.column }
-
-      pub scattered : Alike (set b v x) (set t v w.task) (set c v w.column) ws (v + 1)
-      scattered = record {
-        at_most = omega (arith, l);
-        slots = h.slots;
-        busy_long = length-set b v x ∙ h.busy_long;
-        task_long = length-set t v w.task ∙ h.task_long;
-        column_long = length-set c v w.column ∙ h.column_long;
-        alike = λ i j.
-            ⊎_elim
-            (λ k. h.alike i k ∙ sym (put_other x w.task w.column i (λ p. absurd (omega (arith, k, p)))))
-            (λ k.
-            let p : v ≡ i = omega (arith, j, k) in
-            subst (λ (y : ℕ). get_or ws y idle ≡ worker_in (set b v x) (set t v w.task) (set c v w.column) y) p (sym e ∙ as_put ∙ sym (put_same x w.task w.column)))
-            (lt_or_le i v);
-      }
-
-      pub byte_put : Left given b ws v → Left given (set b v x) ws (v + 1)
-      byte_put g = record {
-        left = λ i j.
-            ⊎_elim
-            (λ k. get_or-set_other b v i x 0 (λ p. absurd (omega (arith, k, p))) ∙ g.left i k)
-            (λ k.
-            let p : v ≡ i = omega (arith, j, k) in
-            subst (λ (y : ℕ). get_or (set b v x) y 0 ≡ byte_left (get_or given y 0) (get_or ws y idle).busy) p
-            (get_or-set_same b v x 0 (omega (arith, l, h.busy_long)) ∙ q ∙ ap (λ (k : Worker). byte_left (get_or given v 0) k.busy) e))
-            (lt_or_le i v);
-      }
-
-  module _ (v : ℕ) (h : Alike b t c ws v) (m : 32 ≤ v) where
-    pub all_alike : ws ≡ slots_in b t c
-    unfolding slots_in
-    all_alike = table_unique 32 (worker_in b t c) ws idle h.slots (λ i j. h.alike i (omega (arith, j, m)))
-
-    pub all_left : (given : List ℕ) → Left given b ws v → b ≡ bytes_left given ws
-    unfolding bytes_left
-    all_left given g = table_unique 32 (λ i. byte_left (get_or given i 0) (get_or ws i idle).busy) b 0 h.busy_long (λ i j. g.left i (omega (arith, j, m)))
+  -- where each list has what is due of each worker, they are the workers
+  pub scattered : (given : List ℕ) → length ws ≡ 32 → b ≡ bytes_left given ws → t ≡ table 32 (λ v. (get_or ws v idle).task) → c ≡ table 32 (λ v. (get_or ws v idle).column) → slots_in b t c ≡ ws
+  unfolding slots_in worker_in bytes_left
+  scattered given n e tasks columns =
+      sym (table_unique 32 (worker_in b t c) ws idle n (λ i l.
+      let x : ℕ = get_or given i 0 in
+      let w : Worker = get_or ws i idle in
+      let byte : get_or b i 0 ≡ byte_left x w.busy = ap (λ (z : List ℕ). get_or z i 0) e ∙ get_or_table 32 (λ v. byte_left (get_or given v 0) (get_or ws v idle).busy) i 0 l in
+      let task : get_or t i 0 ≡ w.task = ap (λ (z : List ℕ). get_or z i 0) tasks ∙ get_or_table 32 (λ v. (get_or ws v idle).task) i 0 l in
+      let column : get_or c i 0 ≡ w.column = ap (λ (z : List ℕ). get_or z i 0) columns ∙ get_or_table 32 (λ v. (get_or ws v idle).column) i 0 l in
+      λ s. record { busy = sym (ap says_busy byte ∙ says_left x w.busy) s; task = sym task s; column = sym column s }))

@@ -1,9 +1,11 @@
-// The workers of a host: their slots in three arrays, their count, and the run's number.
+// The workers of a host: their slots in three arrays, their count, and the run's number. The arrays are three because the
+// C interface has them so (busy, task and column of hosts/solumivaf.h).
 #![tactic(auto)]
 
 ghost use Rattle.std.specs.Prelude.{◌≡◌};
 ghost use Rattle.host_workers.specs.Workers.{slots_in, workers_in, byte_left, bytes_left};
 
+use std::array;
 use worker::{SLOTS, Worker, Workers};
 
 // The workers that three arrays hold, `count` of them, with the run's number.
@@ -16,19 +18,12 @@ pub fn gather(
 ) -> Workers
     ensures { result ≡ workers_in busy task column count number }
 {
-    let idle = Worker::idle();
-    let mut slots = [idle; SLOTS];
-    let mut v = 0;
-    while v < SLOTS {
-        slots[v] = Worker {
+    Workers {
+        slots: array::from_fn(|v| Worker {
             busy: busy[v] != 0,
             task: task[v],
             column: column[v],
-        };
-        v += 1;
-    }
-    Workers {
-        slots,
+        }),
         count,
         number,
     }
@@ -57,20 +52,7 @@ pub fn scatter(
     ensures column_after { slots_in busy.new task.new column.new ≡ workers.slots }
     ensures busy_after { busy.new ≡ bytes_left busy.old workers.slots }
 {
-    let slots = workers.slots;
-    let given = *busy;
-    let mut bytes = [0; SLOTS];
-    let mut tasks = [0; SLOTS];
-    let mut columns = [0; SLOTS];
-    let mut v = 0;
-    while v < SLOTS {
-        let h = slots[v];
-        bytes[v] = byte_left(given[v], h.busy);
-        tasks[v] = h.task;
-        columns[v] = h.column;
-        v += 1;
-    }
-    *busy = bytes;
-    *task = tasks;
-    *column = columns;
+    *busy = array::from_fn(|v| byte_left(busy[v], workers.slots[v].busy));
+    *task = array::from_fn(|v| workers.slots[v].task);
+    *column = array::from_fn(|v| workers.slots[v].column);
 }

@@ -14,10 +14,7 @@ pub fn load(records: &[TaskRecord], flat: &mut [Record], n: usize)
     requires { (n ≤ length records.now) × (n ≤ length flat.old) }
     ensures { records_from flat.new ≡ copied n 0 records.now (records_from flat.old) }
 {
-    let mut p = 0;
-    while p < n {
-        let r = records[p];
-        put_record(flat, p, r);
-        p = p + 1;
+    for p in 0..n {
+        put_record(flat, p, records[p]);
     }
 }

@@ -13,10 +13,7 @@ pub fn store(records: &mut [TaskRecord], flat: &[Record], a: usize, e: usize)
     requires { (e ≤ length records.old) × (e ≤ length flat.now) }
     ensures { records.new ≡ copied (e - a) a (records_from flat.now) records.old }
 {
-    let mut p = a;
-    while p < e {
-        let r = record_at(flat, p);
-        records[p] = r;
-        p = p + 1;
+    for p in a..e {
+        records[p] = record_at(flat, p);
     }
 }

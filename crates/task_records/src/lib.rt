@@ -14,18 +14,12 @@ pub const COPIES: usize = MOST_TASKS + 1;
 pub fn looked_at(n: usize) -> usize
     ensures { result ≡ cond (ltb n (most_tasks + 1)) n (most_tasks + 1) }
 {
-    if n < COPIES {
-        return n;
-    }
-    COPIES
+    n.min(COPIES)
 }
 
 // The end of the part that holds record p of n; 0 if there is no such record.
 pub fn past(p: usize, n: usize) -> usize
     ensures { result ≡ cond (ltb p n) (p + 1) 0 }
 {
-    if p < n {
-        return p + 1;
-    }
-    0
+    if p < n { p + 1 } else { 0 }
 }

@@ -1,60 +1,13 @@
--- After v turns the first v workers are those of the arrays. Assumes nothing.
-use mathlib.Core.Path.{refl}
-use native.Mathlib.Omega.{arith}
-use borrow.Author.Rules.{rules}
-use Rattle.host_workers.specs.Workers.{says_busy, worker_in}
-use Rattle.host_workers.proofs.Laws.{gathered, all_alike}
+-- Each worker is that of the arrays at its place. Assumes nothing.
+use Rattle.std.proofs.Common.{rules, ◌≡◌}
+use Rattle.worker.specs.Holding.{idle}
+use Rattle.host_workers.specs.Workers.{says_busy, worker_in, slots_in}
+use Rattle.host_workers.proofs.Laws.{made}
 use Rattle.host_workers.proofs.gather.Goals as goal
 
-pub loop-v-init : goal.loop-v-init
-loop-v-init c =
-    record {
-      at_most = omega arith;
-      slots = refl;
-      busy_long = search rules;
-      task_long = search rules;
-      column_long = search rules;
-      alike = λ i j. absurd (omega (arith, j));
-    }
-
-pub bounds-busy-v : goal.bounds-busy-v
-bounds-busy-v c =
-    omega arith
-
-pub offset_bounds-task-v : goal.offset_bounds-task-v
-offset_bounds-task-v c =
-    omega arith
-
-pub bounds-task-v : goal.bounds-task-v
-bounds-task-v c =
-    omega arith
-
-pub bounds-column-v : goal.bounds-column-v
-bounds-column-v c =
-    omega arith
-
-pub offset_bounds-slots-v : goal.offset_bounds-slots-v
-offset_bounds-slots-v c =
-    omega arith
-
-pub bounds-slots-v : goal.bounds-slots-v
-bounds-slots-v c =
-    omega arith
-
-pub overflow_add-v : goal.overflow_add-v
-overflow_add-v c =
-    omega arith
-
-pub loop-v-smaller : goal.loop-v-smaller
-loop-v-smaller c =
-    omega arith
-
-pub loop-v-preserved : goal.loop-v-preserved
-unfolding worker_in says_busy
-loop-v-preserved c =
-    let a = c.args in
-    gathered a.busy a.task a.column c.loop-v.slots c.loop-v.v c.loop-v.invariant (omega arith) _ refl
-
 pub returns : goal.returns
+unfolding slots_in worker_in says_busy
 returns c =
-    λ i. record { slots = all_alike _ _ _ _ c.loop-v.v c.loop-v.invariant (omega arith) i; count = c.args.count; number = c.args.number }
+    let a = c.args in
+    let e : c.from_fn.result ≡ slots_in a.busy a.task a.column = made (worker_in a.busy a.task a.column) 32 (λ k y q l e. (search rules, search rules)) _ idle c.from_fn.ensures.items in
+    λ i. record { slots = e i; count = a.count; number = a.number }

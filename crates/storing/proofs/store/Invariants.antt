@@ -6,6 +6,3 @@ use Rattle.storing.proofs.store.Given as goal
 
 abbrev pub invariant-loop-p : goal.invariant-loop-p
 invariant-loop-p l = copied (l.e - l.p) l.p (records_from l.flat) l.records ≡ copied (l.e - l.a) l.a (records_from l.flat) l.fn.records
-
-abbrev pub decreases-loop-p : goal.decreases-loop-p
-decreases-loop-p l = l.e - l.p
