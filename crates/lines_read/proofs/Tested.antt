@@ -1,14 +1,14 @@
 -- What the tests of a line come to, by the way that the code takes them. Assumes nothing.
 use Prim.Native.Nat.{ℕ, ◌+◌, ◌-◌, ◌*◌, ◌≤◌, ◌<◌}
 use mathlib.Core.Path.{◌≡◌, refl, sym, ap, ◌∙◌}
-use mathlib.Core.Bool.{Bool, true, false, cond, not, ◌&&◌, ◌||◌, and-true, and-false, or-false}
+use mathlib.Core.Bool.{Bool, true, false, cond, not, ◌&&◌, ◌||◌, or-false}
 use mathlib.Core.List.{List}
 use native.Mathlib.Omega.{arith}
 use lib.Dec.{eqb, ltb}
 use lib.ListN.{length, get_or, take}
 use lib.Seq.{get_or-take, length-take-le}
 use denote.Enum.Bare.{sameb}
-use borrow.Author.Tests.{eq-eqb, ne_eqb, lt-ltb, le-ltb, le-leb, lt-leb, not-false}
+use borrow.Author.Tests.{eq-eqb, ne_eqb, le-leb, not-false}
 use Rattle.laws.proofs.Tests.{and_left}
 use Rattle.laws.proofs.Every.{every_at}
 use Rattle.model.specs.Lists.{every, some}
@@ -16,7 +16,7 @@ use Rattle.model.specs.Answer.{accepted, refused_by}
 use Rattle.model.specs.declared.Rule.TheVariants.{NotFinite, Malformed, WrongFrame}
 use Rattle.model.specs.Tile.{all_finite}
 use Rattle.model.specs.Refusal.{inside, refuse}
-use Rattle.model.specs.Read.{Frame, is_digit, field, kind_in, line_length, entries_in, numbers_in, not_digits, bad_content, bad_line, wrong_frame, not_finite_in, line_answer}
+use Rattle.model.specs.Read.{Frame, is_digit, kind_in, line_length, entries_in, numbers_in, not_digits, bad_content, bad_line, wrong_frame, not_finite_in, line_answer}
 use Rattle.digits_read.specs.Digits.{FieldOfDigits}
 use Rattle.lines_read.specs.declared.Kind.{Kind}
 use Rattle.lines_read.specs.declared.Kind.TheVariants.{Header, Tile, List as ListKind, Outcome, Refusal}
@@ -24,14 +24,6 @@ use Rattle.lines_read.specs.contracts.Kind.{the_type}
 use Rattle.lines_read.specs.Line.{LineOfDigits, kind_number, malformed, bad_entries, bad_outcome}
 
 -- ---- digits ended by 0A
-
-pub not_ended : (l : List ℕ) → (get_or l (length l - 1) 0 ≡ 10 → ⊥) → true ≡ not_digits l
-unfolding not_digits
-not_ended l h = rw (ne_eqb (get_or l (length l - 1) 0) 10 h, and-false (every is_digit (take (length l - 1) l)))
-
-pub ended : (l : List ℕ) → get_or l (length l - 1) 0 ≡ 10 → not (every is_digit (take (length l - 1) l)) ≡ not_digits l
-unfolding not_digits
-ended l h = rw (eq-eqb (get_or l (length l - 1) 0) 10 h, and-true (every is_digit (take (length l - 1) l)))
 
 pub line_of_digits : (l : List ℕ) → 7 ≤ length l → not_digits l ≡ false → LineOfDigits l
 unfolding not_digits
@@ -67,36 +59,16 @@ content_outcome : (t : ℕ) (l : List ℕ) → kind_in l ≡ 4 → bad_content t
 unfolding bad_content bad_outcome line_length
 content_outcome t l e = rw e
 
-content_other : (t : ℕ) (l : List ℕ) → (kind_in l ≡ 3 → ⊥) → (kind_in l ≡ 4 → ⊥) → bad_content t l ≡ false
-unfolding bad_content
-content_other t l m n = rw (ne_eqb (kind_in l) 3 m, ne_eqb (kind_in l) 4 n) (and-false (eqb (length l) (line_length t (kind_in l))))
+module _ (t : ℕ) (l : List ℕ) (d : not_digits l ≡ false) where
+  known : 1 ≤ kind_in l → kind_in l ≤ 5 → bad_content t l ≡ malformed t l
+  unfolding malformed inside
+  known b h = rw (d, le-leb 1 (kind_in l) b, le-leb (kind_in l) 5 h)
 
-module _ (t : ℕ) (l : List ℕ) where
-  pub no_digits : not_digits l ≡ true → true ≡ malformed t l
-  unfolding malformed
-  no_digits e = rw e
+  pub list_line_lem : kind_in l ≡ 3 → bad_entries t l ≡ malformed t l
+  list_line_lem e = sym (content_list t l e) ∙ known (omega arith) (omega arith)
 
-  module _ (d : not_digits l ≡ false) where
-    pub kind_below : kind_in l < 1 → true ≡ malformed t l
-    unfolding malformed inside
-    kind_below h = rw (d, lt-leb 1 (kind_in l) h)
-
-    pub kind_above : 1 ≤ kind_in l → 5 < kind_in l → true ≡ malformed t l
-    unfolding malformed inside
-    kind_above b h = rw (d, le-leb 1 (kind_in l) b, lt-leb (kind_in l) 5 h)
-
-    known : 1 ≤ kind_in l → kind_in l ≤ 5 → bad_content t l ≡ malformed t l
-    unfolding malformed inside
-    known b h = rw (d, le-leb 1 (kind_in l) b, le-leb (kind_in l) 5 h)
-
-    pub list_line_lem : kind_in l ≡ 3 → bad_entries t l ≡ malformed t l
-    list_line_lem e = sym (content_list t l e) ∙ known (omega arith) (omega arith)
-
-    pub outcome_line_lem : kind_in l ≡ 4 → bad_outcome l ≡ malformed t l
-    outcome_line_lem e = sym (content_outcome t l e) ∙ known (omega arith) (omega arith)
-
-    pub other_line : 1 ≤ kind_in l → kind_in l ≤ 5 → (kind_in l ≡ 3 → ⊥) → (kind_in l ≡ 4 → ⊥) → false ≡ malformed t l
-    other_line b h m n = sym (content_other t l m n) ∙ known b h
+  pub outcome_line_lem : kind_in l ≡ 4 → bad_outcome l ≡ malformed t l
+  outcome_line_lem e = sym (content_outcome t l e) ∙ known (omega arith) (omega arith)
 
 -- ---- the content tests of 12
 
@@ -108,25 +80,7 @@ pub right_size : (t : ℕ) (l : List ℕ) → length l ≡ 7 + 2 * t → some (l
 unfolding bad_entries
 right_size t l h = rw (eq-eqb (length l) (7 + 2 * t) h)
 
-module _ (l : List ℕ) where
-  pub no_outcome : (length l ≡ 9 → ⊥) → false ≡ bad_outcome l
-  unfolding bad_outcome
-  no_outcome h = rw (ne_eqb (length l) 9 h)
-
-  module _ (h : length l ≡ 9) where
-    pub outcome_above : 2 < field 2 2 l → true ≡ bad_outcome l
-    unfolding bad_outcome
-    outcome_above a = rw (eq-eqb (length l) 9 h, lt-ltb 2 (field 2 2 l) a)
-
-    pub outcome_placed : field 2 2 l ≤ 2 → (field 2 2 l ≡ 0 → ⊥) → false ≡ bad_outcome l
-    unfolding bad_outcome
-    outcome_placed a n = rw (eq-eqb (length l) 9 h, le-ltb 2 (field 2 2 l) a, ne_eqb (field 2 2 l) 0 n)
-
-    pub outcome_good : field 2 2 l ≡ 0 → not (eqb (field 4 4 l) 0) ≡ bad_outcome l
-    unfolding bad_outcome
-    outcome_good e = rw (eq-eqb (length l) 9 h, e)
-
--- ---- tests of a kind, by its number
+-- ---- a tile's kind, by its number
 
 pub is_tile : (k : Kind) → sameb the_type k Tile ≡ eqb (kind_number k) 2
 is_tile Header = refl
@@ -134,34 +88,6 @@ is_tile Tile = refl
 is_tile ListKind = refl
 is_tile Outcome = refl
 is_tile Refusal = refl
-
-pub is_outcome : (k : Kind) → sameb the_type k Outcome ≡ eqb (kind_number k) 4
-is_outcome Header = refl
-is_outcome Tile = refl
-is_outcome ListKind = refl
-is_outcome Outcome = refl
-is_outcome Refusal = refl
-
--- ---- 13
-
-module _ (f : Frame) (l : List ℕ) where
-  pub other_kind : (field 0 2 l ≡ f.kind → ⊥) → true ≡ wrong_frame f l
-  unfolding wrong_frame kind_in
-  other_kind n = rw (ne_eqb (field 0 2 l) f.kind n)
-
-  module _ (e : field 0 2 l ≡ f.kind) where
-    pub without_place : f.kind ≡ 4 → false ≡ wrong_frame f l
-    unfolding wrong_frame kind_in
-    without_place h = rw (eq-eqb (field 0 2 l) f.kind e, eq-eqb f.kind 4 h)
-
-    module _ (n : f.kind ≡ 4 → ⊥) where
-      pub other_row : (field 2 2 l ≡ f.i → ⊥) → true ≡ wrong_frame f l
-      unfolding wrong_frame kind_in
-      other_row h = rw (eq-eqb (field 0 2 l) f.kind e, ne_eqb f.kind 4 n, ne_eqb (field 2 2 l) f.i h)
-
-      pub same_row : field 2 2 l ≡ f.i → not (eqb (field 4 2 l) f.j) ≡ wrong_frame f l
-      unfolding wrong_frame kind_in
-      same_row h = rw (eq-eqb (field 0 2 l) f.kind e, ne_eqb f.kind 4 n, eq-eqb (field 2 2 l) f.i h)
 
 -- ---- 3
 

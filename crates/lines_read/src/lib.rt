@@ -45,6 +45,7 @@ pub struct Due {
 }
 
 // The line isn't digits ended by 0A.
+#[tactic(auto, unfolding(model::specs::Read::not_digits))]
 fn not_digits(line: &[u8]) -> bool
     requires { 1 ≤ length line.now }
     ensures { result ≡ not_digits line.now }
@@ -69,6 +70,7 @@ fn bad_entries(line: &[u8], t: usize) -> bool
 }
 
 // An outcome exceeds 02, or good has a place other than 0.
+#[tactic(auto, unfolding(crate::specs::Line::bad_outcome))]
 fn bad_outcome(line: &[u8]) -> bool
     requires { LineOfDigits line.now }
     ensures { result ≡ bad_outcome line.now }
@@ -87,6 +89,7 @@ fn bad_outcome(line: &[u8]) -> bool
 }
 
 // 12: other bytes than digits before the 0A, no 0A, a kind that no frame has, or contents that its kind does not allow.
+#[tactic(auto, unfolding(crate::specs::Line::malformed, model::specs::Read::bad_content, model::specs::Read::kind_in, model::specs::Read::line_length, model::specs::Refusal::inside))]
 pub fn is_malformed(line: &[u8], t: usize) -> bool
     requires in_bounds { 7 ≤ length line.now }
     requires t_le_most_side { t ≤ most_side }
@@ -104,6 +107,7 @@ pub fn is_malformed(line: &[u8], t: usize) -> bool
 }
 
 // 13: the frame isn't the one due.
+#[tactic(auto, unfolding(model::specs::Read::wrong_frame, model::specs::Read::kind_in))]
 fn wrong_frame(line: &[u8], due: Due) -> bool
     requires { LineOfDigits line.now }
     ensures { result ≡ wrong_frame (frame_of due) line.now }

@@ -49,7 +49,8 @@ pub fn put_tile(text: &mut [u8], at: usize, m: &[f64], start: usize, n: usize, i
     text[at + 6 + n * 16] = 10;
 }
 
-// Writes row list (i,j), whose n entries stand in l from start on.
+// Writes row list (i,j), whose n entries stand in l from start on. It is put_tile with another type, kind and writer: one form for both needs a trait that
+// has these and the digits of an element, with a law of their count, and is longer than three calls.
 pub fn put_list(text: &mut [u8], at: usize, l: &[u8], start: usize, n: usize, i: usize, j: usize)
     requires n_in_bounds { at + (7 + n * 2) ≤ length text.old }
     requires n_in_bounds_2 { start + n ≤ length l.now }
@@ -61,21 +62,23 @@ pub fn put_list(text: &mut [u8], at: usize, l: &[u8], start: usize, n: usize, i:
 }
 
 // Writes the outcome.
+#[tactic(auto, unfolding(model::specs::Text::outcome_frame))]
 pub fn put_outcome(text: &mut [u8], at: usize, outcome: Outcome)
     requires { at + 9 ≤ length text.old }
     ensures { text.new ≡ with_part at 9 (outcome_frame outcome) text.old }
 {
     match outcome {
         Outcome::Good => put_short(text, at, 4, 0, 0),
-        Outcome::Overflow(p) => put_short(text, at, 4, 1, p as u64),
-        Outcome::Singular(x) => put_short(text, at, 4, 2, x as u64),
+        Outcome::Overflow(p) => put_short(text, at, 4, 1, u64::from(p)),
+        Outcome::Singular(x) => put_short(text, at, 4, 2, u64::from(x)),
     }
 }
 
 // Writes a refusal: its number and the four lowest digits of its place.
+#[tactic(auto, unfolding(model::specs::Text::refusal_frame))]
 pub fn put_refusal(text: &mut [u8], at: usize, number: u8, place: usize)
     requires { at + 9 ≤ length text.old }
     ensures { text.new ≡ with_part at 9 (refusal_frame number place) text.old }
 {
-    put_short(text, at, 5, number as u64, place as u64);
+    put_short(text, at, 5, u64::from(number), place as u64);
 }

@@ -8,7 +8,8 @@ ghost use Rattle.rows_written.specs.Rows.{list_row, list_rows, triangle};
 
 use lines_written::put_list;
 
-// Writes lists (i,0) to (i,i) of the n by n row lists of l, t entries each.
+// Writes lists (i,0) to (i,i) of the n by n row lists of l, t entries each. The loops here and those of rows_written differ in type, writer and the length
+// of a row: one that is given a closure for the writer is no shorter than a loop.
 fn put_list_row(text: &mut [u8], at: usize, l: &[u8], n: usize, t: usize, i: usize)
     requires i_lt_n { (i < n) × (n ≤ most_tiles) × (t ≤ most_side) }
     requires t_in_bounds { at + (i + 1) * (7 + t * 2) ≤ length text.old }

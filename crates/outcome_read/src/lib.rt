@@ -9,6 +9,7 @@ use digits_read::field_at;
 use model::Outcome;
 
 // The outcome on its line.
+#[tactic(auto, unfolding(model::specs::Read::outcome_in))]
 pub fn outcome_at(line: &[u8]) -> Outcome
     requires line_of_digits { LineOfDigits line.now }
     requires line_len { length line.now ≡ 9 }

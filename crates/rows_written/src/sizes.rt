@@ -4,6 +4,7 @@ ghost use Rattle.model.specs.Limits.{most_tiles, most_side};
 ghost use Rattle.rows_written.specs.Rows.{system_length, result_length};
 
 // The length of a system's text.
+#[tactic(auto, unfolding(crate::specs::Rows::system_length))]
 pub fn system_length(n: usize, t: usize) -> usize
     requires { (n ≤ most_tiles) × (t ≤ most_side) }
     ensures { result ≡ system_length n t }

@@ -2,12 +2,8 @@
 use mathlib.Core.Path.{sym, ◌∙◌}
 use native.Mathlib.Omega.{arith}
 use Rattle.model.specs.Read.{kind_in}
-use Rattle.lines_read.proofs.Tested.{line_of_digits, field_in, no_digits, kind_below, kind_above, list_line_lem, outcome_line_lem, other_line}
+use Rattle.lines_read.proofs.Tested.{line_of_digits, field_in, list_line_lem, outcome_line_lem}
 use Rattle.lines_read.proofs.is_malformed.Goals as goal
-
-pub returns-then-not_digits : goal.returns-then-not_digits
-returns-then-not_digits c =
-    no_digits _ _ (sym c.not_digits.ensures ∙ c.if-not_digits.true)
 
 pub field_at-requires : goal.field_at-requires
 field_at-requires c =
@@ -30,24 +26,3 @@ pub returns-in-4 : goal.returns-in-4
 unfolding kind_in
 returns-in-4 c =
     c.bad_outcome.ensures ∙ outcome_line_lem _ _ (sym c.not_digits.ensures ∙ c.if-not_digits.false) (sym c.field_at.ensures ∙ c.in-4.is)
-
-pub returns-in-1 : goal.returns-in-1
-unfolding kind_in
-returns-in-1 c =
-    let l = c.args.line.now in
-    other_line _ _ (sym c.not_digits.ensures ∙ c.if-not_digits.false) (omega arith) (omega arith) (λ e. omega arith) (λ e. omega arith)
-
-pub returns-in-1-2 : goal.returns-in-1-2
-unfolding kind_in
-returns-in-1-2 c =
-    other_line _ _ (sym c.not_digits.ensures ∙ c.if-not_digits.false) (omega arith) (omega arith) (λ e. omega arith) (λ e. omega arith)
-
-pub returns-in_default : goal.returns-in_default
-unfolding kind_in
-returns-in_default c =
-    kind_below _ _ (sym c.not_digits.ensures ∙ c.if-not_digits.false) (omega arith)
-
-pub returns-in_default-2 : goal.returns-in_default-2
-unfolding kind_in
-returns-in_default-2 c =
-    kind_above _ _ (sym c.not_digits.ensures ∙ c.if-not_digits.false) (omega arith) (omega arith)
