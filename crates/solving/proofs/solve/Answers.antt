@@ -1,8 +1,6 @@
 -- A refusal leaves the answers; else what was solved. Assumes nothing.
-use mathlib.Core.Path.{◌≡◌, sym, ap, ◌∙◌}
+use mathlib.Core.Path.{sym, ◌∙◌}
 use borrow.Author.Rules.{rules}
-use Rattle.model.specs.Answer.{Answer}
-use Rattle.model.specs.Solve.{Answers}
 use Rattle.records.specs.Records.{lent}
 use Rattle.laws.proofs.Refusals.{passed_on}
 use Rattle.solving.proofs.Laws.{checked, refused, accepted_lem}
@@ -10,9 +8,7 @@ use Rattle.solving.proofs.solve.Goals as goal
 
 pub returns-in_err-solve_answer : goal.returns-in_err-solve_answer
 returns-in_err-solve_answer c =
-    let left = c.args.answers.now in
-    ap (λ (r : Answer) : Answers. record { answer = r; left = left }) (passed_on _ _ _ c.from_residual.ensures.1 c.in_err-solve_answer.was)
-    ∙ refused _ _ _ _ _ c.solve_answer.ensures _ c.in_err-solve_answer.was
+    rw (passed_on _ _ _ c.from_residual.ensures.1 c.in_err-solve_answer.was) (refused _ _ _ _ _ c.solve_answer.ensures _ c.in_err-solve_answer.was)
 
 pub solve_with-requires : goal.solve_with-requires
 solve_with-requires c =
