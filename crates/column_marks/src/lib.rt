@@ -9,7 +9,7 @@ ghost use Rattle.worker.specs.Holding.{idle, holding};
 ghost use Rattle.marks.specs.Marks.{Recorded};
 ghost use Rattle.records.specs.Records.{marks_from};
 
-use marks::is_finished;
+use marks::{DONE, FAILED, SPOILED, TAKEN, is_finished};
 use model::{ColumnEnd, Sizes};
 use records::Record;
 use spoiling::is_spoiled;
@@ -20,10 +20,7 @@ pub fn spoiled_at(z: Sizes, records: &[Record], p: usize, c: usize) -> bool
     requires { Recorded z.tiles records.now p }
     ensures { result ≡ (eqb c 0 && spoils (tasks z.tiles) (marks_from records.now) p) }
 {
-    if c != 0 {
-        return false;
-    }
-    is_spoiled(z.tiles, records, p)
+    c == 0 && is_spoiled(z.tiles, records, p)
 }
 
 // The mark that a column's end gives its task.
@@ -31,10 +28,10 @@ pub fn mark_after(end: ColumnEnd) -> u8
     ensures { result ≡ mark_after end }
 {
     match end {
-        ColumnEnd::GoesOn(_) => 1,
-        ColumnEnd::Done(_) => 2,
-        ColumnEnd::Failed => 3,
-        ColumnEnd::Spoiled => 4,
+        ColumnEnd::GoesOn(_) => TAKEN,
+        ColumnEnd::Done(_) => DONE,
+        ColumnEnd::Failed => FAILED,
+        ColumnEnd::Spoiled => SPOILED,
     }
 }
 
@@ -43,10 +40,8 @@ pub fn ties_after(end: ColumnEnd) -> u16
     ensures { result ≡ ties_after end }
 {
     match end {
-        ColumnEnd::GoesOn(ties) => ties,
-        ColumnEnd::Done(ties) => ties,
-        ColumnEnd::Failed => 0,
-        ColumnEnd::Spoiled => 0,
+        ColumnEnd::GoesOn(ties) | ColumnEnd::Done(ties) => ties,
+        ColumnEnd::Failed | ColumnEnd::Spoiled => 0,
     }
 }
 

@@ -1,16 +1,16 @@
 -- The tiles that a record's kind touches, in the order in which the code tests them. Assumes nothing.
 use Prim.Native.Nat.{ℕ}
 use mathlib.Core.Path.{◌≡◌, refl, sym, ap, ◌∙◌}
-use mathlib.Core.Bool.{Bool, true, false, cond, not, ◌&&◌}
+use mathlib.Core.Bool.{Bool, true, false, cond, ◌&&◌}
 use mathlib.Core.List.{List, [], ◌∷◌}
 use lib.Ieee.{Float}
 use lib.Dec.{eqb}
-use borrow.Author.Tests.{eqb-true, eq-eqb, ne_eqb}
+use borrow.Author.Tests.{eqb-true}
 use Rattle.model.specs.declared.Sizes.{Sizes}
 use Rattle.model.specs.declared.TaskRecord.{TaskRecord}
 use Rattle.model.specs.Lists.{every}
 use Rattle.model.specs.Tile.{all_finite}
-use Rattle.model.specs.Task.{t_1, t_2, t_3, t_4, A, low, low_of, is_list, reads, writes, touches}
+use Rattle.model.specs.Task.{Task, t_1, t_2, t_3, t_4, A, low, low_of, is_list, reads, writes, touches}
 use Rattle.model.specs.Plan.{plan, plan_of}
 use Rattle.model.specs.Buffer.{Buffers, tile, tile_of, finite_in, finite_tiles}
 use Rattle.laws.proofs.Every.{every_append}
@@ -68,28 +68,26 @@ module _ (z : Sizes) (m : List Float) (l : List ℕ) where
       go true false w v h = refl
       go false y w v h = refl
 
+  -- by the step that a record asks for
   module _ (r : TaskRecord) where
-    pub tiles_1 : r.kind ≡ 1 → (v : Bool) → v ≡ F r.k r.k → not v ≡ not (finite_tiles (plan_of z) (task_from r) s)
-    unfolding task_from
-    tiles_1 e v q = rw (eq-eqb r.kind 1 e) (ap not (q ∙ sym (finite_1 r.k)))
+    abbrev all : Bool
+    all = finite_tiles (plan_of z) (task_from r) s
 
-    module _ (a : r.kind ≡ 1 → ⊥) where
-      pub tiles_2 : r.kind ≡ 2 → (v : Bool) → v ≡ (F r.k r.k && F r.k r.j) → not v ≡ not (finite_tiles (plan_of z) (task_from r) s)
-      unfolding task_from
-      tiles_2 e v q = rw (ne_eqb r.kind 1 a, eq-eqb r.kind 2 e) (ap not (q ∙ sym (finite_2 r.k r.j)))
+    of_step : (a : Task) → a ≡ task_from r → finite_tiles (plan_of z) a s ≡ all
+    of_step a e = ap (λ (t : Task). finite_tiles (plan_of z) t s) e
 
-      module _ (b : r.kind ≡ 2 → ⊥) where
-        pub tiles_3 : r.kind ≡ 3 → (v : Bool) → v ≡ (F r.k r.k && F r.i r.k) → not v ≡ not (finite_tiles (plan_of z) (task_from r) s)
-        unfolding task_from
-        tiles_3 e v q = rw (ne_eqb r.kind 1 a, ne_eqb r.kind 2 b, eq-eqb r.kind 3 e) (ap not (q ∙ sym (finite_3 r.k r.i)))
+    pub tiles_1 : (k : ℕ) → t_1 k ≡ task_from r → (v : Bool) → v ≡ F k k → v ≡ all
+    tiles_1 k e v q = q ∙ sym (finite_1 k) ∙ of_step (t_1 k) e
 
-        module _ (c : r.kind ≡ 3 → ⊥) where
-          four : finite_tiles (plan_of z) (task_from r) s ≡ (F r.i r.k && (F r.k r.j && F r.i r.j))
-          unfolding task_from
-          four = rw (ne_eqb r.kind 1 a, ne_eqb r.kind 2 b, ne_eqb r.kind 3 c) (finite_4 r.k r.i r.j)
+    pub tiles_2 : (k j : ℕ) → t_2 k j ≡ task_from r → (v : Bool) → v ≡ (F k k && F k j) → v ≡ all
+    tiles_2 k j e v q = q ∙ sym (finite_2 k j) ∙ of_step (t_2 k j) e
 
-          pub tiles_4 : (v : Bool) → v ≡ F r.i r.k → v ≡ false → true ≡ not (finite_tiles (plan_of z) (task_from r) s)
-          tiles_4 v q e = rw (four, sym q ∙ e)
+    pub tiles_3 : (k i : ℕ) → t_3 k i ≡ task_from r → (v : Bool) → v ≡ (F k k && F i k) → v ≡ all
+    tiles_3 k i e v q = q ∙ sym (finite_3 k i) ∙ of_step (t_3 k i) e
 
-          pub tiles_5 : (v w : Bool) → v ≡ F r.i r.k → v ≡ true → w ≡ (F r.k r.j && F r.i r.j) → not w ≡ not (finite_tiles (plan_of z) (task_from r) s)
-          tiles_5 v w q e p = rw (four, sym q ∙ e) (ap not p)
+    module _ (k i j : ℕ) (e : t_4 k i j ≡ task_from r) (v : Bool) (q : v ≡ F i k) where
+      pub tiles_4 : v ≡ true → (w : Bool) → w ≡ (F k j && F i j) → w ≡ all
+      tiles_4 f w p = rw (← of_step (t_4 k i j) e, finite_4 k i j, ← q, f) p
+
+      pub tiles_5 : v ≡ false → v ≡ all
+      tiles_5 f = rw (← of_step (t_4 k i j) e, finite_4 k i j, ← q, f)

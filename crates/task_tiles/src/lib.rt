@@ -10,6 +10,7 @@ ghost use Rattle.checks.specs.Checks.{Sized, Inside, task_from};
 
 use finite_numbers::all_finite;
 use model::{Sizes, TaskRecord};
+use steps::{Step, step_of};
 use tile_parts::tile;
 
 // Whether every element of tile A(i,j) is finite.
@@ -25,10 +26,7 @@ fn finite_pair(z: Sizes, matrix: &[f64], i: usize, j: usize, k: usize, l: usize)
     requires { Sized z × MatrixFits z matrix.now × ((i < z.tiles) × (j < z.tiles) × (k < z.tiles) × (l < z.tiles)) }
     ensures { result ≡ all_finite (tile_of z.tiles z.side matrix.now i j) && all_finite (tile_of z.tiles z.side matrix.now k l) }
 {
-    if !finite_tile(z, matrix, i, j) {
-        return false;
-    }
-    finite_tile(z, matrix, k, l)
+    finite_tile(z, matrix, i, j) && finite_tile(z, matrix, k, l)
 }
 
 // Whether an element of a tile that the task touches isn't finite.
@@ -36,20 +34,12 @@ pub fn bad_tiles(z: Sizes, matrix: &[f64], task: TaskRecord) -> bool
     requires { Sized z × MatrixFits z matrix.now × Inside z.tiles task }
     ensures { (lists : List ℕ) → result ≡ not (finite_tiles (plan_of z) (task_from task) (record { matrix = matrix.now; lists = lists })) }
 {
-    let k = task.k as usize;
-    let i = task.i as usize;
-    let j = task.j as usize;
-    if task.kind == 1 {
-        return !finite_tile(z, matrix, k, k);
-    }
-    if task.kind == 2 {
-        return !finite_pair(z, matrix, k, k, k, j);
-    }
-    if task.kind == 3 {
-        return !finite_pair(z, matrix, k, k, i, k);
-    }
-    if !finite_tile(z, matrix, i, k) {
-        return true;
-    }
-    !finite_pair(z, matrix, k, j, i, j)
+    let finite = match step_of(task) {
+        Step::Factor { k } => finite_tile(z, matrix, k, k),
+        Step::Apply { k, j } => finite_pair(z, matrix, k, k, k, j),
+        Step::Couple { k, i } => finite_pair(z, matrix, k, k, i, k),
+        Step::Pair { k, i, j } => finite_tile(z, matrix, i, k)
+            && finite_pair(z, matrix, k, j, i, j),
+    };
+    !finite
 }

@@ -1,23 +1,18 @@
--- Each kind's tiles are looked at once. Assumes nothing.
+-- Each step's tiles are looked at once. Assumes nothing.
+use mathlib.Core.Bool.{not}
+use mathlib.Core.Path.{ap, ◌∙◌}
 use Rattle.task_tiles.proofs.Laws.{tiles_1, tiles_2, tiles_3, tiles_4, tiles_5}
 use Rattle.task_tiles.proofs.bad_tiles.Goals as goal
-
-pub returns-then-task-eq1 : goal.returns-then-task-eq1
-returns-then-task-eq1 c =
-    λ lists. tiles_1 c.args.z _ lists _ c.if-task-eq1.true _ c.finite_tile.ensures
-
-pub returns-then-task-eq2 : goal.returns-then-task-eq2
-returns-then-task-eq2 c =
-    λ lists. tiles_2 c.args.z _ lists _ c.if-task-eq1.false c.if-task-eq2.true _ c.finite_pair.ensures
-
-pub returns-then-task-eq3 : goal.returns-then-task-eq3
-returns-then-task-eq3 c =
-    λ lists. tiles_3 c.args.z _ lists _ c.if-task-eq1.false c.if-task-eq2.false c.if-task-eq3.true _ c.finite_pair-then-task-eq3.ensures
-
-pub returns-then-not-finite_tile : goal.returns-then-not-finite_tile
-returns-then-not-finite_tile c =
-    λ lists. tiles_4 c.args.z _ lists _ c.if-task-eq1.false c.if-task-eq2.false c.if-task-eq3.false _ c.finite_tile-2.ensures c.if-not-finite_tile.true
+use Rattle.task_tiles.proofs.bad_tiles.Goals.{in-Factor, in-Apply, in-Couple, in-Pair+then-finite_tile, in-Pair+else-finite_tile}
 
 pub returns : goal.returns
 returns c =
-    λ lists. tiles_5 c.args.z _ lists _ c.if-task-eq1.false c.if-task-eq2.false c.if-task-eq3.false _ _ c.finite_tile-2.ensures c.if-not-finite_tile.false c.finite_pair-2.ensures
+    λ lists.
+    let a = c.args in
+    ap not (elim c.match-step_of.branch [
+      | in-Factor w ↦ w.finite-is ∙ tiles_1 a.z a.matrix.now lists a.task _ w.in-Factor.ensures.same_task _ w.finite_tile-finite.ensures
+      | in-Apply w ↦ w.finite-is ∙ tiles_2 a.z a.matrix.now lists a.task _ _ w.in-Apply.ensures.same_task _ w.finite_pair-finite.ensures
+      | in-Couple w ↦ w.finite-is ∙ tiles_3 a.z a.matrix.now lists a.task _ _ w.in-Couple.ensures.same_task _ w.finite_pair-finite-in-Couple.ensures
+      | in-Pair+then-finite_tile w ↦ w.finite-is ∙ tiles_4 a.z a.matrix.now lists a.task _ _ _ w.in-Pair.ensures.same_task _ w.finite_tile.ensures w.if-finite_tile.true _ w.finite_pair.ensures
+      | in-Pair+else-finite_tile w ↦ w.finite-is ∙ tiles_5 a.z a.matrix.now lists a.task _ _ _ w.in-Pair.ensures.same_task _ w.finite_tile.ensures w.if-finite_tile.false
+    ])
