@@ -1,12 +1,10 @@
--- Workers in three lists: one more taken from them, or put into them. Assumes nothing.
+-- Workers in three lists: the byte that is left of each, lists that a closure made, and all slots. Assumes nothing.
 use Prim.Native.Nat.{ℕ, zero, suc, ◌+◌, ◌<◌, ◌≤◌}
 use native.Mathlib.Omega.{arith}
-use borrow.Author.Tests.{eqb-true, not-false, ne_eqb}
 use mathlib.Core.Bool.{Bool, true, false, cond}
 use mathlib.Core.Logic.{⊎_elim}
 use mathlib.Core.Path.{◌≡◌, refl, sym, ap, subst, ◌∙◌}
 use mathlib.Core.List.{List}
-use lib.Dec.{eqb}
 use lib.ListN.{length, get_or}
 use Rattle.worker.specs.declared.Worker.{Worker}
 use Rattle.worker.specs.Holding.{idle}
@@ -20,26 +18,6 @@ use Rattle.host_workers.specs.Workers.{says_busy, worker_in, slots_in, byte_left
 -- ---- the byte that is left
 
 module _ (x : ℕ) where
-  idle_zero : says_busy x ≡ false → x ≡ 0
-  unfolding says_busy
-  idle_zero e = eqb-true x 0 (not-false (eqb x 0) e)
-
-  zero_or_stays : (s : Bool) → says_busy x ≡ s → 0 ≡ cond s 0 x
-  zero_or_stays true e = refl
-  zero_or_stays false e = sym (idle_zero e)
-
-  pub idle_byte : (b : Bool) → b ≡ false → 0 ≡ byte_left x b
-  unfolding byte_left
-  idle_byte b e = rw e (zero_or_stays (says_busy x) refl)
-
-  pub new_byte : (b : Bool) → b ≡ true → x ≡ 0 → 1 ≡ byte_left x b
-  unfolding byte_left says_busy
-  new_byte b e z = rw (e, z)
-
-  pub same_byte : (b : Bool) → b ≡ true → (x ≡ 0 → ⊥) → x ≡ byte_left x b
-  unfolding byte_left says_busy
-  same_byte b e n = rw (e, ne_eqb x 0 n)
-
   says_busy_lem : (s : Bool) → says_busy x ≡ s → says_busy (cond s x 1) ≡ true
   unfolding says_busy
   says_busy_lem true e = e

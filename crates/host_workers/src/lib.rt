@@ -30,16 +30,11 @@ pub fn gather(
 }
 
 // The byte of a worker that is busy or idle, where `was` stood: the same byte, if it says the same.
+#[tactic(auto, unfolding(crate::specs::Workers::byte_left, crate::specs::Workers::says_busy))]
 fn byte_left(was: u8, busy: bool) -> u8
     ensures { result ≡ byte_left was busy }
 {
-    if !busy {
-        return 0;
-    }
-    if was == 0 {
-        return 1;
-    }
-    was
+    if busy { was.max(1) } else { 0 }
 }
 
 // Puts the slots of workers into three arrays. A byte of `busy` that says what it should stays.

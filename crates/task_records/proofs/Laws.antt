@@ -4,9 +4,10 @@ use native.Mathlib.Omega.{arith}
 use mathlib.Core.Path.{◌≡◌, refl, sym, ap, ◌∙◌}
 use mathlib.Core.Bool.{cond}
 use mathlib.Core.Logic.{⊎_elim, ◌≢◌}
-use mathlib.Core.List.{List, [], ◌∷◌, map}
+use mathlib.Core.List.{List}
 use lib.Dec.{ltb}
 use lib.ListN.{length, get_or, set, take, length-set}
+use Rattle.std.proofs.lemmas.List.{take-map}
 use lib.Seq.{get_or-set_same, get_or-set_other, get_or-take, length-take-le, take_all, ext_get_or, set_out}
 use borrow.Author.Tests.{lt-ltb, le-ltb}
 use Rattle.model.specs.declared.TaskRecord.{TaskRecord}
@@ -116,12 +117,6 @@ module _ (n : ℕ) (rs xs : List TaskRecord) where
 
 -- ---- copies as bytes
 
-module _ {A B : Type 0} (f : A → B) where
-  map_take : (n : ℕ) (l : List A) → map f (take n l) ≡ take n (map f l)
-  map_take zero l = refl
-  map_take (suc n) [] = refl
-  map_take (suc n) (x ∷ l) = ap (λ t. f x ∷ t) (map_take n l)
-
 pub take_records : (n : ℕ) (l : List (List ℕ)) → records_from (take n l) ≡ take n (records_from l)
 unfolding records_from
-take_records n l = map_take record_from n l
+take_records n l = sym (take-map record_from n l)
