@@ -27,7 +27,8 @@ pub fn apply_rows(m: &mut [f64], t: usize, f: usize, a: usize, c: usize) -> bool
     )
 }
 
-// The same on a right side y, by the tile at f of the slice m.
+// The same on a right side y, by the tile at f of the slice m. Not one function with apply_rows: there the multipliers stand in the slice that is
+// changed, and a slice that is lent to be changed cannot be lent again to be read.
 pub fn apply_right(y: &mut [f64], m: &[f64], t: usize, f: usize, a: usize, c: usize) -> bool
     requires block { Block t 1 a y.old }
     requires block_2 { Block t t f m.now }

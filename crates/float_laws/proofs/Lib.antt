@@ -4,4 +4,3 @@ pub mod Finite
 pub mod Order
 pub mod Quotient
 pub mod Search
-pub mod Tested

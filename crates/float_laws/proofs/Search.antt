@@ -23,9 +23,8 @@ use Rattle.laws.proofs.Every.{every_at, every_take, every_append}
 use Rattle.laws.proofs.Counts.{count_last, count_same, count_none, count_most}
 use Rattle.laws.proofs.Finite.{finite_get}
 use Rattle.laws.proofs.Tests.{never, and_left, lt_or_le}
-use Rattle.float_laws.proofs.Finite.{magnitude_twice, zero_magnitude, suc_is_not_zero}
+use Rattle.float_laws.proofs.Finite.{zero_exponent, magnitude_twice, zero_magnitude, suc_is_not_zero}
 use Rattle.float_laws.proofs.Order.{true_exceeds, exceeds_false, exceeds_irreflexive, largest_replaced, largest_is_first}
-use Rattle.float_laws.proofs.Tested.{zero_exponent}
 use Rattle.float_laws.proofs.Rounding.{within}
 use Rattle.float_laws.proofs.Quotient.{quotient_at_most_one}
 

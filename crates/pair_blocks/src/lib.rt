@@ -22,7 +22,8 @@ pub fn pair_rows(m: &mut [f64], t: usize, f: usize, u: usize, d: usize, c: usize
     update_rows(m, d, u + c * t, t, 0, t, f + c)
 }
 
-// The same on the parts at u and d of a right side y, by the tile at f of the slice m.
+// The same on the parts at u and d of a right side y, by the tile at f of the slice m. Not one function with pair_rows: there the multipliers stand in
+// the slice that is changed, and a slice that is lent to be changed cannot be lent again to be read.
 pub fn pair_right(
     y: &mut [f64],
     m: &[f64],
