@@ -85,7 +85,7 @@ module _ (rows start top first stride : ℕ) (l before : List Float) (room : sta
   pub column_all : (after : List Float) (r : ℕ) → r ≡ rows → Done 0 start number r before after
       → RowsUpdated rows 1 0 start multiplier (λ q. get_or before (top + q) nan) before after true
   column_all after r e d =
-      rows_all rows 1 0 start top multiplier before (omega arith) room finites after rows true refl refl (column_rows after (rw e at d))
+      rows_all rows 1 0 start top multiplier before (omega arith) room finites after rows refl (column_rows after (rw e at d))
 
   -- one of the n numbers from row r on isn't finite
   pub column_stop : (r n apart : ℕ) (mid after : List Float) (ok : Bool) → Done 0 start number r before mid

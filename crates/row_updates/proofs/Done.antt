@@ -38,6 +38,9 @@ module _ (f s : ℕ) (v : ℕ → Float) where
     fine = λ k h l. absurd (omega arith);
   }
 
+  pub done_at : (q p : ℕ) (before after : List Float) → q ≡ p → Done f s v q before after → Done f s v p before after
+  done_at q p before after e d = subst (λ (k : ℕ). Done f s v k before after) e d
+
   -- q numbers are done, and then the n numbers u are stored
   module _ (q n : ℕ) (u : ℕ → Float) (before mid after : List Float) (ok : Bool) (d : Done f s v q before mid) (g : NumbersStored n (s + q) u mid after ok)
       (h : f ≤ q) (same : (k : ℕ) → k < n → u k ≡ v (q + k)) where

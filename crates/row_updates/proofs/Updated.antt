@@ -18,8 +18,8 @@ use Rattle.laws.proofs.Every.{every_at, every_joined}
 use Rattle.laws.proofs.Blocks.{get_or_table, length_block, row_of, column_of_lem, in_block, row_below, column_below, row_end}
 use Rattle.laws.proofs.Parts.{length_part, get_part}
 use Rattle.float_laws.proofs.Finite.{computed_shows}
-use Rattle.row_updates.specs.Updates.{updated_rows, rows_compute, row_number, NumbersStored, RowsUpdated}
-use Rattle.row_updates.proofs.Done.{made, Done, group_stored, group_not, done_more, done_join}
+use Rattle.row_updates.specs.Updates.{updated_rows, rows_compute, row_number, NumbersStored, RowUpdated, RowsUpdated}
+use Rattle.row_updates.proofs.Done.{made, Done, made_left, made_right, group_stored, group_not, done_at, done_more, done_join}
 use Rattle.fills.proofs.Stores.{Outside, Stored, stored_none, stored_join, stored_is, stored_frame}
 
 -- ---- one row, which starts at s, by the multiplier x and the row at top
@@ -57,6 +57,62 @@ module _ (f s top : ℕ) (x : Float) where
     pub row_join : (g : ℕ) (after : List Float) → f ≤ q → q ≤ g → ((k : ℕ) → q ≤ k → k < g → Outside s q (top + k)) → RowDone q s top x g mid after → RowDone f s top x g before after
     row_join g after a b o e = done_join f q g s (row_number s top x before) (row_number s top x mid) before mid after a b (λ k h l. number_same k h (o k h l)) d e
 
+-- ---- what the update of one row leaves
+
+module _ (w f s top : ℕ) (x : Float) (before : List Float) (fits : f ≤ w) where
+  row_frame : (n : ℕ) (after : List Float) → n ≤ w → Stored nan s n (made f s (row_number s top x before) before) before after → (y : ℕ) → (y < s + f) ⊎ (s + w ≤ y)
+      → get_or after y nan ≡ get_or before y nan
+  row_frame n after h d y o = by (lt_or_le y s) (lt_or_le y (s + n)) o
+    where
+      by : (y < s) ⊎ (s ≤ y) → (y < s + n) ⊎ (s + n ≤ y) → (y < s + f) ⊎ (s + w ≤ y) → get_or after y nan ≡ get_or before y nan
+      by (inl a) b c = d.outside y (inl a)
+      by (inr a) (inr b) c = d.outside y (inr b)
+      by (inr a) (inl b) (inr c) = absurd (omega arith)
+      by (inr a) (inl b) (inl c) =
+          let k = y - s in
+          let e : s + k ≡ y = omega arith in
+          subst (λ (z : ℕ). get_or after z nan ≡ get_or before z nan) e (d.inside k (omega arith) ∙ sym (made_left f s (row_number s top x before) before k (omega arith)))
+
+  -- all columns are done
+  pub row_all : (q : ℕ) (after : List Float) → q ≡ w → RowDone f s top x q before after → RowUpdated w f s top x before after true
+  row_all q after z d' =
+      let d : RowDone f s top x w before after = done_at f s (row_number s top x before) q w before after z d' in
+      record {
+        sound = sym (every_run_intro (λ k. finite (row_number s top x before k)) f (w - f) (λ k a b. d.fine k a (omega arith)));
+        long = d.stored.long;
+        inside = λ _ k a b. d.stored.inside k b ∙ sym (made_right f s (row_number s top x before) before k a);
+        outside = row_frame w after (omega arith) d.stored;
+      }
+
+  -- one of the n numbers from column q on isn't finite
+  pub row_stop : (q n : ℕ) (mid after : List Float) (ok : Bool) → RowDone f s top x q before mid → NumbersStored n (s + q) (row_number (s + q) (top + q) x mid) mid after ok
+      → ((k : ℕ) → k < n → Outside s q (top + (q + k))) → f ≤ q → q + n ≤ w → ok ≡ false → RowUpdated w f s top x before after false
+  row_stop q n mid after ok d g o a b e =
+      let same = group_same f s top x q before mid d n o in
+      let v = row_number s top x before in
+      let u = row_number (s + q) (top + q) x mid in
+      record {
+        sound = sym (false_if (every (λ k. finite (v k)) (run f (w - f)))
+            (λ all. group_not f s v q n u before mid after ok d g a same e (λ k h. every_run_elim (λ j. finite (v j)) f (w - f) all (q + k) (omega arith) (omega arith))));
+        long = g.long ∙ d.stored.long;
+        inside = λ t. never t refl;
+        outside = row_frame (q + n) after b (group_stored f s v q n u before mid after ok d g a same);
+      }
+
+  -- a row that is updated, as loops over rows have it
+  pub row_is : (after : List Float) → RowUpdated w f s top x before after true → RowDone f s top x w before after
+  row_is after u = record {
+    stored = record {
+      long = u.long;
+      inside = λ j h.
+          ⊎_elim (λ a. u.outside (s + j) (inl (omega arith)) ∙ made_left f s (row_number s top x before) before j a)
+          (λ a. u.inside refl j a h ∙ made_right f s (row_number s top x before) before j a)
+          (lt_or_le j f);
+      outside = λ y o. u.outside y (⊎_elim (λ l. inl (omega arith)) (λ g. inr g) o);
+    };
+    fine = λ k a b. every_run_elim (λ j. finite (row_number s top x before j)) f (w - f) (sym u.sound) k a (omega arith);
+  }
+
 -- ---- the rows from start on
 
 module _ (w f start top : ℕ) (l : ℕ → Float) where
@@ -92,36 +148,34 @@ module _ (w f start top : ℕ) (l : ℕ → Float) where
     unfolding made
     row_made k a = ap₂ (λ (y z : Float). cond (ltb k f) y z) (cell_same k) (row_same k a)
 
-    -- and then the first q numbers of the next row are stored
-    both_stored : (q : ℕ) (after : List Float) → q ≤ w → Stored nan (start + r * w) q (made f (start + r * w) (row_number (start + r * w) top (l r) mid) mid) mid after
-        → Stored nan start (r * w + q) (rows_made w f start top l before) before after
-    both_stored q after h s =
-        stored_join nan start (r * w) q (rows_made w f start top l before) (made f (start + r * w) (row_number (start + r * w) top (l r) mid) mid) before mid after d.stored s
-        (λ j a. row_made j (omega arith) ∙ sym (made_at before r j (omega arith)))
-
   -- the next row is done too, by a multiplier x that is its own
-  pub rows_more : (r q : ℕ) (x : Float) (before mid after : List Float) → q ≡ w → x ≡ l r → RowsDone w f start top l r before mid → RowDone f (start + r * w) top x q mid after
+  pub rows_more : (r : ℕ) (x : Float) (before mid after : List Float) → x ≡ l r → RowsDone w f start top l r before mid → RowDone f (start + r * w) top x w mid after
       → ((k : ℕ) → k < w → Outside start (r * w) (top + k)) → RowsDone w f start top l (r + 1) before after
-  rows_more r q x before mid after z y d e' o =
-      let e : RowDone f (start + r * w) top (l r) w mid after = rw (z, y) at e' in
+  rows_more r x before mid after y d e' o =
+      let e : RowDone f (start + r * w) top (l r) w mid after = rw y at e' in
       record {
         stored = subst (λ (k : ℕ). Stored nan start k (rows_made w f start top l before) before after) (sym (ap (λ (z : ℕ). z * w) (add-one r) ∙ suc-mul r w))
-            (both_stored r before mid d o w after (omega arith) e.stored);
+            (stored_join nan start (r * w) w (rows_made w f start top l before) (made f (start + r * w) (row_number (start + r * w) top (l r) mid) mid) before mid after d.stored e.stored
+            (λ j a. row_made r before mid d o j a ∙ sym (made_at before r j a)));
         fine = λ i k a b c.
             ⊎_elim (λ g. d.fine i k g b c)
             (λ g. subst (λ (z : ℕ). finite (row_number (start + z * w) top (l z) before k) ≡ true) (omega arith) (ap finite (sym (row_same r before mid d o k c)) ∙ e.fine k b c))
             (lt_or_le i r);
       }
 
--- the row at top shares no number with the rows: none with those that are done, and none with the columns of the next that are done
+-- the row at top shares no number with the rows: none with those that are done, and none with the next one
 abbrev Aside : ℕ → ℕ → ℕ → ℕ → Type 0
 Aside rows w start top = (top + w ≤ start) ⊎ (start + rows * w ≤ top)
 
 pub top_kept : (rows w start top : ℕ) → Aside rows w start top → (r : ℕ) → r < rows → (k : ℕ) → k < w → Outside start (r * w) (top + k)
 top_kept rows w start top s r h k l = ⊎_elim (λ g. inl (omega arith)) (λ g. inr (omega (arith, row_end r rows w h))) s
 
-pub top_clear : (rows w start top : ℕ) → Aside rows w start top → (r : ℕ) → r < rows → (q : ℕ) → q ≤ w → (k : ℕ) → k < w → Outside (start + r * w) q (top + k)
-top_clear rows w start top s r h q l k a = ⊎_elim (λ g. inl (omega arith)) (λ g. inr (omega (arith, row_end r rows w h))) s
+pub top_apart : (rows w start top : ℕ) → Aside rows w start top → (r : ℕ) → r < rows → (top + w ≤ start + r * w) ⊎ (start + r * w + w ≤ top)
+top_apart rows w start top s r h = ⊎_elim (λ g. inl (omega arith)) (λ g. inr (omega (arith, row_end r rows w h))) s
+
+-- nor does it share one with the columns of a row that are done
+pub top_clear : (w s top : ℕ) → (top + w ≤ s) ⊎ (s + w ≤ top) → (q : ℕ) → q ≤ w → (k : ℕ) → k < w → Outside s q (top + k)
+top_clear w s top o q h k a = ⊎_elim (λ g. inl (omega arith)) (λ g. inr (omega arith)) o
 
 -- the multiplier of row r is none of the numbers of the rows before it
 pub multiplier_kept : (rows w start first : ℕ) → (first + rows * w < start + w) ⊎ (start ≤ first) → (r : ℕ) → r < rows → Outside start (r * w) (first + r * w)
@@ -192,13 +246,12 @@ module _ (rows w f start top : ℕ) (l : ℕ → Float) (before : List Float) (f
     length_updated = simp length_block
 
     -- all rows are done
-    pub rows_all : (after : List Float) (r : ℕ) (ok : Bool) → r ≡ rows → ok ≡ true → RowsDone w f start top l r before after
-        → RowsUpdated rows w f start l (λ q. get_or before (top + q) nan) before after ok
+    pub rows_all : (after : List Float) (r : ℕ) → r ≡ rows → RowsDone w f start top l r before after → RowsUpdated rows w f start l (λ q. get_or before (top + q) nan) before after true
     unfolding updated_rows block rows_made made
-    rows_all after r ok e good d' =
+    rows_all after r e d' =
         let d : RowsDone w f start top l rows before after = subst (λ (k : ℕ). RowsDone w f start top l k before after) e d' in
         record {
-          sound = good ∙ sym (all_fine (λ i q a b c. d.fine i q a b c));
+          sound = sym (all_fine (λ i q a b c. d.fine i q a b c));
           whole = λ t.
               stored_is nan start (rows * w) (rows_made w f start top l before) before after
               (updated_rows rows w f l (λ q. get_or before (top + q) nan) (part start (rows * w) before)) d.stored
@@ -219,21 +272,19 @@ module _ (rows w f start top : ℕ) (l : ℕ → Float) (before : List Float) (f
       frame = stored_frame nan start k (rows * w) v before after s a room;
     }
 
-    -- one of the n numbers from column q on of row r isn't finite
-    pub rows_stop : (r q n : ℕ) (x : Float) (mid late after : List Float) (ok : Bool) → x ≡ l r → RowsDone w f start top l r before mid → RowDone f (start + r * w) top x q mid late
-        → NumbersStored n (start + r * w + q) (row_number (start + r * w + q) (top + q) x late) late after ok → ((k : ℕ) → k < w → Outside start (r * w) (top + k))
-        → ((k : ℕ) → k < n → Outside (start + r * w) q (top + (q + k))) → r < rows → f ≤ q → q + n ≤ w → ok ≡ false
-        → RowsUpdated rows w f start l (λ q. get_or before (top + q) nan) before after false
-    rows_stop r q n y mid late after ok z d e' g' o p a b c h =
+    -- a number of row r isn't finite
+    pub rows_stop : (r : ℕ) (x : Float) (mid after : List Float) → x ≡ l r → RowsDone w f start top l r before mid → RowUpdated w f (start + r * w) top x mid after false
+        → ((k : ℕ) → k < w → Outside start (r * w) (top + k)) → r < rows → RowsUpdated rows w f start l (λ q. get_or before (top + q) nan) before after false
+    rows_stop r x mid after z d u' o h =
         let s = start + r * w in
-        let x = l r in
-        let e : RowDone f s top x q mid late = rw z at e' in
-        let g : NumbersStored n (s + q) (row_number (s + q) (top + q) x late) late after ok = rw z at g' in
-        let same = group_same f s top x q mid late e n p in
-        rows_not (r * w + (q + n)) (rows_made w f start top l before) after (omega (arith, row_end r rows w a))
-        (λ all. group_not f s (row_number s top x mid) q n (row_number (s + q) (top + q) x late) mid late after ok e g b same h
-        (λ k y. ap finite (row_same w f start top l r before mid d o (q + k) (omega arith)) ∙ all r (q + k) a (omega arith) (omega arith)))
-        (both_stored w f start top l r before mid d o (q + n) after c (group_stored f s (row_number s top x mid) q n (row_number (s + q) (top + q) x late) mid late after ok e g b same))
+        let u : RowUpdated w f s top (l r) mid after false = rw z at u' in
+        rows_not (r * w + w) (λ j. get_or after (start + j) nan) after (row_end r rows w h)
+        (λ all. never (every_run_intro (λ k. finite (row_number s top (l r) mid k)) f (w - f) (λ k a b. ap finite (row_same w f start top l r before mid d o k (omega arith)) ∙ all r k h a (omega arith))) (sym u.sound))
+        (record {
+          long = u.long ∙ d.stored.long;
+          inside = λ j a. refl;
+          outside = λ y p. u.outside y (⊎_elim (λ a. inl (omega arith)) (λ b. inr (omega arith)) p) ∙ d.stored.outside y (⊎_elim (λ a. inl a) (λ b. inr (omega arith)) p);
+        })
 
 -- ---- multipliers that stand in the slice itself, that of row i at first + i·w
 

@@ -34,3 +34,11 @@ pub record NumbersStored (n p : ℕ) (v : ℕ → Float) (before after : List Fl
   pub long : length after ≡ length before
   pub inside : (k : ℕ) → k < n → get_or after (p + k) nan ≡ v k
   pub outside : (x : ℕ) → (x < p) ⊎ (p + n ≤ x) → get_or after x nan ≡ get_or before x nan
+
+-- columns f to w - 1 of the row that starts at s, updated by the multiplier x and the row at `top` where every number computed is finite; else stopped at
+-- some number, with nothing else changed
+pub record RowUpdated (w f s top : ℕ) (x : Float) (before after : List Float) (answer : Bool) : Type 0 where
+  pub sound : answer ≡ every (λ k. finite (row_number s top x before k)) (run f (w - f))
+  pub long : length after ≡ length before
+  pub inside : answer ≡ true → (k : ℕ) → f ≤ k → k < w → get_or after (s + k) nan ≡ row_number s top x before k
+  pub outside : (y : ℕ) → (y < s + f) ⊎ (s + w ≤ y) → get_or after y nan ≡ get_or before y nan

@@ -1,10 +1,7 @@
--- `column_one` meets its contract: one store, and one test. Assumes nothing.
-use mathlib.Core.Path.{◌∙◌}
+-- `column_one` meets its contract: a group of one. Assumes nothing.
 use native.Mathlib.Nat.{add-zero, zero-mul}
-use Rattle.row_updates.proofs.Groups.{one_stored}
+use Rattle.row_updates.proofs.Groups.{numbers_same, at_one}
 use Rattle.row_updates.proofs.column_one.Goals as goal
 
 pub returns : goal.returns
-returns c =
-    let a = c.args in
-    one_stored a.p _ _ _ _ c.requires.0 (c.update-v.ensures ∙ rw (add-zero a.p, zero-mul 0, add-zero a.q)) c.is_finite.ensures
+returns c = numbers_same _ _ _ _ _ _ _ (at_one _ _ (rw (zero-mul 0, add-zero c.args.q))) c.update_group.ensures

@@ -1,25 +1,8 @@
--- `row_four` meets its contract: four stores, and four tests joined. Assumes nothing.
-use mathlib.Core.Path.{◌∙◌}
+-- `row_four` meets its contract: a group whose multipliers are all the same. Assumes nothing.
+use mathlib.Core.Path.{refl}
 use native.Mathlib.Nat.{add-zero}
-use native.Mathlib.Omega.{arith}
-use lib.ListN.{length-set}
-use Rattle.row_updates.proofs.Groups.{four_stored}
+use Rattle.row_updates.proofs.Groups.{numbers_same, at_four}
 use Rattle.row_updates.proofs.row_four.Goals as goal
 
-pub bounds-m-p-6 : goal.bounds-m-p-6
-bounds-m-p-6 c =
-    simp length-set (omega arith)
-
-pub bounds-m-p-7 : goal.bounds-m-p-7
-bounds-m-p-7 c =
-    simp length-set (omega arith)
-
-pub bounds-m-p-8 : goal.bounds-m-p-8
-bounds-m-p-8 c =
-    simp length-set (omega arith)
-
 pub returns : goal.returns
-returns c =
-    let a = c.args in
-    four_stored a.p _ _ _ _ _ _ _ _ _ _ (omega arith) (c.update-a.ensures ∙ rw (add-zero a.p, add-zero a.y)) c.update-b.ensures c.update-c.ensures c.update-d.ensures
-    c.is_finite.ensures c.is_finite-2.ensures c.is_finite-3.ensures c.is_finite-4.ensures
+returns c = numbers_same _ _ _ _ _ _ _ (at_four _ _ (rw (add-zero c.args.y) refl) refl refl refl) c.update_group.ensures
