@@ -20,10 +20,10 @@ use Rattle.laws.proofs.Blocks.{get_or_table, length_block, row_of, column_of_lem
 use Rattle.laws.proofs.Parts.{length_part}
 use Rattle.laws.proofs.Finite.{finite_at}
 use Rattle.float_laws.proofs.Finite.{computed_shows}
-use Rattle.fills.proofs.Stores.{Outside, Stored, stored_none, stored_join, stored_is, stored_frame}
-use Rattle.row_updates.specs.Updates.{row_number, NumbersStored}
-use Rattle.row_updates.proofs.Done.{made_left, made_right, group_not}
-use Rattle.row_updates.proofs.Updated.{RowDone, top_kept, group_same}
+use Rattle.fills.proofs.Stores.{Stored, stored_none, stored_join, stored_is, stored_frame}
+use Rattle.row_updates.specs.Updates.{row_number, RowUpdated}
+use Rattle.row_updates.proofs.Done.{made_left, made_right}
+use Rattle.row_updates.proofs.Updated.{RowDone, top_kept}
 use Rattle.column_laws.specs.Steps.{RowsEliminated, eliminated_rows, eliminated_computes}
 use Rattle.column_laws.proofs.Updates.{compare_less, compare_equal, compare_more, at_part}
 
@@ -52,12 +52,6 @@ gone_none k t c s top m = record {
   stored = subst (λ (j : ℕ). Stored nan s j (gone k t c s top m) m m) (sym (zero-mul t)) (stored_none nan s (gone k t c s top m) m);
   fine = λ i q a b d. absurd (omega arith);
 }
-
--- the division in row r leaves the length
-pub divided_long : {k t c s top r : ℕ} {m mid : List Float} → RowsGone k t c s top m r mid
-    → length (set mid (s + r * t + c) (quotient (get_or mid (s + r * t + c) nan) (get_or m (top + c) nan))) ≡ length m
-divided_long {t = t} {c = c} {s = s} {top = top} {r = r} {m = m} {mid = mid} d =
-    length-set mid (s + r * t + c) (quotient (get_or mid (s + r * t + c) nan) (get_or m (top + c) nan)) ∙ d.stored.long
 
 module _ (k t c s top : ℕ) (hc : c < t) (m : List Float) (room : s + k * t ≤ length m) (apart : (top + t ≤ s) ⊎ (s + k * t ≤ top)) where
   row_number_lem : (i q : ℕ) → i < k → q < t → get_or m (s + i * t + q) nan ≡ row k t c s top m i q
@@ -179,42 +173,39 @@ module _ (k t c s top : ℕ) (hc : c < t) (m : List Float) (room : s + k * t ≤
         ∙ every_run_elim (cell_test i) (suc c) (t - suc c) (and_right (finite (multiplier k t c s top m i)) (every (cell_test i) (run (suc c) (t - suc c))) (sym (row_test_lem i) ∙ r)) q (omega arith) (omega arith)
 
     -- the pivot row is eliminated from all rows
-    pub all_gone : (after : List Float) (r : ℕ) (ok : Bool) → r ≡ k → ok ≡ true → RowsGone k t c s top m r after → RowsEliminated k t c s top m after ok
+    pub all_gone : (after : List Float) (r : ℕ) → r ≡ k → RowsGone k t c s top m r after → RowsEliminated k t c s top m after true
     unfolding eliminated_rows block gone
-    all_gone after r ok e good d' =
+    all_gone after r e d' =
         let d : RowsGone k t c s top m k after = subst (λ (z : ℕ). RowsGone k t c s top m z after) e d' in
         record {
           long = d.stored.long;
-          sound = good ∙ sym (all_fine d.fine);
+          sound = sym (all_fine d.fine);
           whole = λ _.
               stored_is nan s (k * t) (gone k t c s top m) m after (eliminated_rows k t c (pivot_row k t c s top m) (part s (k * t) m)) d.stored
               (record { whole = simp length_block; room = room }) (λ j h. get_or_table (k * t) _ j nan h);
           frame = stored_frame nan s (k * t) (k * t) (gone k t c s top m) m after d.stored (omega arith) room;
         }
 
-    -- one of the n numbers from column q on of row r isn't finite
+    -- a number of row r isn't finite
     module _ (r : ℕ) (hr : r < k) (mid : List Float) (d : RowsGone k t c s top m r mid) (x : Float) (ex : x ≡ quotient (get_or mid (s + r * t + c) nan) (get_or m (top + c) nan)) where
-      pub gone_stop : (q n : ℕ) (late after : List Float) (ok : Bool) → RowDone (c + 1) (s + r * t) top x q (set mid (s + r * t + c) x) late
-          → NumbersStored n (s + r * t + q) (row_number (s + r * t + q) (top + q) x late) late after ok → ((y : ℕ) → y < n → Outside (s + r * t) q (top + (q + y)))
-          → c + 1 ≤ q → q + n ≤ t → ok ≡ false → RowsEliminated k t c s top m after false
-      gone_stop q n late after ok e g o b l h =
+      pub gone_stop : (after : List Float) → RowUpdated t (c + 1) (s + r * t) top x (set mid (s + r * t + c) x) after false → RowsEliminated k t c s top m after false
+      gone_stop after u =
           let p = s + r * t in
           let first = set mid (p + c) x in
-          let long : length after ≡ length m = g.long ∙ e.stored.long ∙ length-set mid (p + c) x ∙ d.stored.long in
+          let long : length after ≡ length m = u.long ∙ length-set mid (p + c) x ∙ d.stored.long in
           record {
             long = long;
             sound = sym (false_if (every finite computed)
                 (λ all.
-                group_not (c + 1) p (row_number p top x first) q n (row_number (p + q) (top + q) x late) first late after ok e g b (group_same (c + 1) p top x q first late e n o) h
-                (λ y z. ap finite (new_number r hr mid d x ex (q + y) (omega arith) (omega arith)) ∙ each_fine all r (q + y) hr (omega arith) (omega arith))));
+                never (every_run_intro (λ q. finite (row_number p top x first q)) (c + 1) (t - (c + 1))
+                (λ q y z. ap finite (new_number r hr mid d x ex q (omega arith) (omega arith)) ∙ each_fine all r q hr (omega arith) (omega arith))) (sym u.sound)));
             whole = λ z. never z refl;
             frame = stored_frame nan s (k * t) (k * t) (λ j. get_or after (s + j) nan) m after
                 (record {
                   long = long;
                   inside = λ j _. refl;
                   outside = λ y z.
-                      g.outside y (⊎_elim (λ v. inl (omega arith)) (λ w. inr (omega (arith, row_end r k t hr))) z)
-                      ∙ e.stored.outside y (⊎_elim (λ v. inl (omega arith)) (λ w. inr (omega (arith, row_end r k t hr))) z)
+                      u.outside y (⊎_elim (λ v. inl (omega arith)) (λ w. inr (omega (arith, row_end r k t hr))) z)
                       ∙ get_or-set_other mid (p + c) y x nan (λ v. ⊎_elim (λ f. omega arith) (λ f. omega (arith, row_end r k t hr)) z)
                       ∙ d.stored.outside y (⊎_elim (λ v. inl v) (λ w. inr (omega (arith, row_end r k t hr))) z);
                 })

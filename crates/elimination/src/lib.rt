@@ -9,7 +9,7 @@ ghost use Rattle.model.specs.Tile.{at, all_finite};
 ghost use Rattle.column_laws.specs.Steps.{RowsEliminated};
 ghost use Rattle.column_laws.specs.Room.{Rows};
 
-use row_updates::{row_four, row_one};
+use row_updates::update_row;
 
 // Eliminates the pivot row at top from the rows of width t from `start` on: in each the number in column c becomes the multiplier, and those right
 // of it are updated while it is at hand. False where a computed number isn't finite.
@@ -20,33 +20,16 @@ pub fn eliminate(m: &mut [f64], t: usize, start: usize, top: usize, rows: usize,
     ensures { RowsEliminated rows t c start top m.old m.new result }
 {
     let pivot = m[top + c];
-    let fours = t - (t - (c + 1)) / 4 * 4;
-    let mut ok = true;
-    let mut r = 0;
-    'rows: while r < rows {
+    for r in 0..rows {
         let at = start + r * t;
         let by = m[at + c] / pivot;
         m[at + c] = by;
         if by == 0.0 {
-            r += 1;
             continue;
         }
-        let mut q = c + 1;
-        while q < fours {
-            if !row_one(m, at + q, top + q, by) {
-                ok = false;
-                break 'rows;
-            }
-            q += 1;
+        if !update_row(m, at, top, t, c + 1, by) {
+            return false;
         }
-        while q < t {
-            if !row_four(m, at + q, top + q, by) {
-                ok = false;
-                break 'rows;
-            }
-            q += 4;
-        }
-        r += 1;
     }
-    ok
+    true
 }
