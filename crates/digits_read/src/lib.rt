@@ -13,7 +13,7 @@ ghost use Rattle.digits_read.specs.Digits.{FieldOfDigits};
 pub fn is_digit(b: u8) -> bool
     ensures { result ≡ is_digit b }
 {
-    (48 <= b) & (b <= 57) | (65 <= b) & (b <= 70)
+    (b'0' <= b) & (b <= b'9') | (b'A' <= b) & (b <= b'F')
 }
 
 // The low four bits of '0' to '9' are the value, those of 'A' to 'F' are 9 less.
@@ -21,32 +21,24 @@ pub fn digit_value(b: u8) -> usize
     requires { is_digit b ≡ true }
     ensures { result ≡ digit_value b }
 {
-    (b % 16 + b / 64 * 9) as usize
+    usize::from(b % 16 + b / 64 * 9)
 }
 
-// Every byte is a digit. All are looked at, so that the loop has no branch.
+// Every byte is a digit. All are looked at, so that there is no branch, as `all` has.
 pub fn all_digits(bytes: &[u8]) -> bool
     ensures { result ≡ every is_digit bytes.now }
 {
-    let mut good = true;
-    let mut k = 0;
-    while k < bytes.len() {
-        good = good & is_digit(bytes[k]);
-        k += 1;
-    }
-    good
+    bytes.iter().fold(true, |good, b| good & is_digit(*b))
 }
 
-// The number that the n digits from place p on stand for: at most 16 of them.
+// The number that the n digits from place p on stand for: at most 16 of them. Beside it numbers_read has one for 16 digits, which looks them up for speed.
 pub fn field_at(line: &[u8], p: usize, n: usize) -> usize
     requires { FieldOfDigits line.now p n }
     ensures { result ≡ field p n line.now }
 {
     let mut v = 0;
-    let mut k = 0;
-    while k < n {
+    for k in 0..n {
         v = v * 16 + digit_value(line[p + k]);
-        k += 1;
     }
     v
 }
@@ -58,7 +50,7 @@ pub fn finite_at(line: &[u8], p: usize) -> bool
     ensures { result ≡ finite (of_bits binary64 (field p 16 line.now)) }
 {
     let first = line[p];
-    if (first != 55) & (first != 70) {
+    if (first != b'7') & (first != b'F') {
         return true;
     }
     field_at(line, p, 3) % 2048 != 2047

@@ -2,7 +2,6 @@
 use mathlib.Core.Path.{ap, ◌∙◌}
 use mathlib.Core.Bool.{not}
 use Prim.Native.Nat.{ℕ, ◌%◌}
-use native.Mathlib.Omega.{arith}
 use lib.Dec.{eqb}
 use Rattle.digits_read.proofs.Bits.{leading, by_first}
 use Rattle.digits_read.proofs.finite_at.Goals as goal
@@ -10,11 +9,6 @@ use Rattle.digits_read.proofs.finite_at.Goals as goal
 pub returns-then-first : goal.returns-then-first
 returns-then-first c =
     by_first _ _ c.requires c.if-first.true
-
-pub field_at-requires : goal.field_at-requires
-field_at-requires c =
-    let f = c.requires in
-    record { inside = omega (arith, f.inside); short = omega arith; digits = λ k h. f.digits k (omega arith) }
 
 pub returns : goal.returns
 returns c =
