@@ -116,12 +116,6 @@ module _ (a n value : ℕ) (xs : List ℕ) where
   unfolding hex
   hexed_none h = record { some = omega arith; still = rw sub_self (sym (div-one value)); written = rw sub_self (put_none (a + n) xs h) }
 
-  pub hexed_all : (left rest : ℕ) (xs' : List ℕ) → left ≤ 0 → Hexed a n value xs left rest xs' → xs' ≡ with_part a n (hex n value) xs
-  hexed_all left rest xs' h p =
-      let a-is : a + left ≡ a = omega arith in
-      let n-is : n - left ≡ n = omega arith in
-      p.written.is ∙ rw (a-is, n-is)
-
   -- one digit more
   more : (left k rest : ℕ) (xs' : List ℕ) → left < n → k ≡ n - suc left → rest ≡ value / 16 ^ k → Put (a + suc left) k (hex k value) xs xs'
       → Put (a + left) (suc k) (hex (suc k) value) xs (set xs' (a + left) (digit (rest % 16)))

@@ -20,12 +20,10 @@ pub fn put_hex(text: &mut [u8], at: usize, count: usize, value: u64)
     requires { at + count ≤ length text.old }
     ensures { text.new ≡ with_part at count (hex count value) text.old }
 {
-    let mut left = count;
     let mut rest = value;
-    while left > 0 {
-        left -= 1;
-        text[at + left] = digit(rest % 16);
-        rest = rest / 16;
+    for k in (0..count).rev() {
+        text[at + k] = digit(rest % 16);
+        rest /= 16;
     }
 }
 
@@ -33,24 +31,23 @@ pub fn put_hex(text: &mut [u8], at: usize, count: usize, value: u64)
 fn bits_of(x: f64) -> u64
     ensures { result ≡ to_bits binary64 x }
 {
-    if x != x {
+    if x.is_nan() {
         return 0x7FF8_0000_0000_0000;
     }
-    f64::to_bits(x)
+    x.to_bits()
 }
 
-// Writes the 16 digits of a value. They are looked up, which is faster than computing them.
+// Writes the 16 digits of a value as put_hex does, but looks them up, for speed: computed, numbers are slower, and looked up, entries take 2.5 times
+// as long.
 fn put_bits(text: &mut [u8], at: usize, value: u64, digits: &[u8])
     requires at_in_bounds { at + 16 ≤ length text.old }
     requires digits_value { digits.now ≡ table 16 digit_of }
     ensures { text.new ≡ with_part at 16 (hex 16 value) text.old }
 {
-    let mut left = 16;
     let mut rest = value;
-    while left > 0 {
-        left -= 1;
-        text[at + left] = digits[(rest % 16) as usize];
-        rest = rest / 16;
+    for k in (0..16).rev() {
+        text[at + k] = digits[(rest % 16) as usize];
+        rest /= 16;
     }
 }
 
@@ -60,13 +57,9 @@ pub fn put_numbers(text: &mut [u8], at: usize, m: &[f64], start: usize, n: usize
     requires n_in_bounds_2 { start + n ≤ length m.now }
     ensures { text.new ≡ with_part at (n * 16) (joined (map bits (part start n m.now))) text.old }
 {
-    let digits = [
-        48, 49, 50, 51, 52, 53, 54, 55, 56, 57, 65, 66, 67, 68, 69, 70,
-    ];
-    let mut k = 0;
-    while k < n {
-        put_bits(text, at + k * 16, bits_of(m[start + k]), &digits);
-        k += 1;
+    let digits = b"0123456789ABCDEF";
+    for k in 0..n {
+        put_bits(text, at + k * 16, bits_of(m[start + k]), digits);
     }
 }
 
@@ -76,9 +69,7 @@ pub fn put_entries(text: &mut [u8], at: usize, l: &[u8], start: usize, n: usize)
     requires n_in_bounds_2 { start + n ≤ length l.now }
     ensures { text.new ≡ with_part at (n * 2) (joined (map (hex 2) (part start n l.now))) text.old }
 {
-    let mut k = 0;
-    while k < n {
-        put_hex(text, at + k * 2, 2, l[start + k] as u64);
-        k += 1;
+    for k in 0..n {
+        put_hex(text, at + k * 2, 2, u64::from(l[start + k]));
     }
 }

@@ -20,26 +20,5 @@ each : (x : ℕ) → x < 16 → computed x ≡ digit x
 unfolding run every digit
 each x h = eqb-true (computed x) (digit x) (every_run_elim right 0 16 refl x (omega arith) h)
 
-pub overflow_add-result : goal.overflow_add-result
-overflow_add-result c =
-    omega arith
-
-pub overflow_add-result-2 : goal.overflow_add-result-2
-overflow_add-result-2 c =
-    omega arith
-
-pub overflow_mul-result : goal.overflow_mul-result
-overflow_mul-result c =
-    omega arith
-
-pub overflow_add-result-3 : goal.overflow_add-result-3
-overflow_add-result-3 c =
-    omega arith
-
-pub overflow_cast-result : goal.overflow_cast-result
-overflow_cast-result c =
-    omega arith
-
 pub returns : goal.returns
-returns c =
-    each c.args.x c.requires
+returns c = each c.args.x c.requires

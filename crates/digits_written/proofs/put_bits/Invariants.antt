@@ -2,8 +2,5 @@
 use Rattle.digits_written.proofs.Put.{Hexed}
 use Rattle.digits_written.proofs.put_bits.Given as goal
 
-abbrev pub invariant-loop-left : goal.invariant-loop-left
-invariant-loop-left l = Hexed l.at 16 l.value l.initial.text l.left l.rest l.text
-
-abbrev pub decreases-loop-left : goal.decreases-loop-left
-decreases-loop-left l = l.left
+abbrev pub invariant-loop-k : goal.invariant-loop-k
+invariant-loop-k l = Hexed l.at 16 l.value l.initial.text l.k l.rest l.text
