@@ -5,14 +5,13 @@ use mathlib.Core.List.{List, [], ◌∷◌, map}
 use Prim.Native.Nat.{ℕ, suc, ◌+◌, ◌-◌, ◌<◌, ◌≤◌}
 use native.Mathlib.Omega.{arith}
 use lib.Ieee.{Float}
+use Rattle.std.specs.Prelude.{Result, Ok, Err}
 use Rattle.model.specs.Lists.{run, below, joined, in_turn}
 use Rattle.model.specs.Task.{t_2, t_4, after, lower_row, stage, tasks}
 use Rattle.model.specs.Plan.{Plan}
 use Rattle.model.specs.Buffer.{Buffers}
 use Rattle.model.specs.Solve.{Passed, going, stopped, applied, paired, pass}
 use Rattle.laws.proofs.Runs.{in_turn_append}
-use Rattle.progress.specs.declared.Progress.{Progress}
-use Rattle.progress.specs.declared.Progress.TheVariants.{Going, Stopped}
 use Rattle.progress.specs.Right.{passed_of, apply_all, pair_all, stage_passed}
 
 -- ---- doing things in turn
@@ -67,14 +66,14 @@ unfolding below
 left_begins f n p = let s : n - 0 ≡ n = omega arith in rw s
 
 -- what the code answered, case by case
-module _ (r : Progress) (y : List Float) (whole : Passed) (e : passed_of r y ≡ whole) where
-  pub went : r ≡ Going → going y ≡ whole
+module _ (r : Result (Unit {0}) ℕ) (y : List Float) (whole : Passed) (e : passed_of r y ≡ whole) where
+  pub went : r ≡ Ok tt → going y ≡ whole
   unfolding passed_of
-  went q = sym (ap (λ (x : Progress). passed_of x y) q) ∙ e
+  went q = sym (ap (λ (x : Result (Unit {0}) ℕ). passed_of x y) q) ∙ e
 
-  pub halted : (x : ℕ) → r ≡ Stopped x → stopped x ≡ whole
+  pub halted : (x : ℕ) → r ≡ Err x → stopped x ≡ whole
   unfolding passed_of
-  halted x q = sym (ap (λ (x : Progress). passed_of x y) q) ∙ e
+  halted x q = sym (ap (λ (x : Result (Unit {0}) ℕ). passed_of x y) q) ∙ e
 
 -- ---- the tasks
 

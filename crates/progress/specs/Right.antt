@@ -1,5 +1,5 @@
 -- What the passing of a right side needs of its caller, and what it answers. Assumes nothing.
-use Rattle.std.specs.Prelude.{ℕ, ◌+◌, ◌*◌, ◌<◌, ◌≤◌, ◌≡◌, Bool, true, false, List, length, get_or, Float}
+use Rattle.std.specs.Prelude.{ℕ, ◌+◌, ◌*◌, ◌<◌, ◌≤◌, ◌≡◌, Bool, true, false, List, length, get_or, Float, Result, Ok, Err}
 use Rattle.model.specs.declared.Sizes.{Sizes}
 use Rattle.model.specs.Lengths.{BuffersFit}
 use Rattle.model.specs.Limits.{most_tiles, most_side}
@@ -10,8 +10,6 @@ use Rattle.model.specs.Plan.{Plan}
 use Rattle.model.specs.Buffer.{Buffers}
 use Rattle.model.specs.Solve.{Passed, going, stopped, applied, paired}
 use Rattle.column_laws.specs.Steps.{list_start}
-use Rattle.progress.specs.declared.Progress.{Progress}
-use Rattle.progress.specs.declared.Progress.TheVariants.{Going, Stopped}
 
 -- the factored matrix and its lists: as long as the sizes say, with entries in range
 pub record Solvable (z : Sizes) (m : List Float) (l : List ℕ) : Type 0 where
@@ -27,9 +25,9 @@ pub record RightSide (z : Sizes) (y : List Float) : Type 0 where
   pub all_finite_lem : all_finite y ≡ true
 
 -- the right side as far as it has come, by what the code answers and what it left
-unfoldable pub passed_of : Progress → List Float → Passed
-passed_of Going y = going y
-passed_of (Stopped x) y = stopped x
+unfoldable pub passed_of : Result (Unit {0}) ℕ → List Float → Passed
+passed_of (Ok u) y = going y
+passed_of (Err x) y = stopped x
 
 -- one column at place x: on true the right side goes on and is finite, on false it stops there
 pub record ColumnPassed (x : ℕ) (after : List Float) (answer : Bool) (whole : Passed) : Type 0 where
@@ -38,9 +36,9 @@ pub record ColumnPassed (x : ℕ) (after : List Float) (answer : Bool) (whole : 
   pub finite_then : answer ≡ true → all_finite after ≡ true
 
 -- several columns: a right side that goes on is finite
-pub record Passing (r : Progress) (after : List Float) (whole : Passed) : Type 0 where
+pub record Passing (r : Result (Unit {0}) ℕ) (after : List Float) (whole : Passed) : Type 0 where
   pub is : passed_of r after ≡ whole
-  pub finite_then : r ≡ Going → all_finite after ≡ true
+  pub finite_then : r ≡ Ok tt → all_finite after ≡ true
 
 -- ---- the tasks that touch the right side, stage by stage
 
