@@ -9,7 +9,6 @@ ghost use Rattle.progress.specs.Right.{Solvable, RightSide, ColumnPassed, Passin
 use model::Sizes;
 use pair_blocks::pair_right;
 use places::{list_start, tile_start, wide};
-use progress::Progress;
 
 // Column c of T-4(k,i) on the right side y. False where a computed number isn't finite.
 fn pair_right_column(
@@ -35,21 +34,25 @@ fn pair_right_column(
     pair_right(y, matrix, t, f, k * t, i * t, c, e)
 }
 
-// T-4(k,i) on the right side y.
-pub fn pair(z: Sizes, matrix: &[f64], lists: &[u8], y: &mut [f64], k: usize, i: usize) -> Progress
+// T-4(k,i) on the right side y. Where a computed number isn't finite, i is told.
+pub fn pair(
+    z: Sizes,
+    matrix: &[f64],
+    lists: &[u8],
+    y: &mut [f64],
+    k: usize,
+    i: usize,
+) -> Result<(), usize>
     requires solvable { Solvable z matrix.now lists.now }
     requires right_side { RightSide z y.old }
     requires k_lt_i { (k < i) × (i < z.tiles) }
     ensures { Passing result y.new
         (pair_all (plan_of z) (record { matrix = matrix.now; lists = lists.now }) k i (going y.old)) }
 {
-    let t = z.side;
-    let mut c = 0;
-    while c < t {
+    for c in 0..z.side {
         if !pair_right_column(z, matrix, lists, y, k, i, c) {
-            return Progress::Stopped(i);
+            return Err(i);
         }
-        c += 1;
     }
-    Progress::Going
+    Ok(())
 }

@@ -1,8 +1,6 @@
 -- All columns of T-4(k,i): what is left from column c on is the whole. Assumes nothing.
 use mathlib.Core.Path.{◌≡◌}
 use mathlib.Core.Bool.{true}
-use Prim.Native.Nat.{◌-◌, ◌≤◌}
-use lib.ListN.{length}
 use Rattle.model.specs.Tile.{all_finite}
 use Rattle.model.specs.Plan.{plan_of}
 use Rattle.model.specs.Solve.{going, paired}
@@ -11,9 +9,6 @@ use Rattle.progress.proofs.Turns.{Left, paired_keeps}
 use Rattle.right_pairs.proofs.pair.Given as goal
 
 abbrev pub invariant-loop-c : goal.invariant-loop-c
-invariant-loop-c l = (l.c ≤ l.t) × (length l.y ≡ length l.initial.y) × (all_finite l.y ≡ true)
-    × Left (paired (plan_of l.z) (record { matrix = l.matrix; lists = l.lists }) l.k l.i) (paired_keeps (plan_of l.z) (record { matrix = l.matrix; lists = l.lists }) l.k l.i) l.t l.c
+invariant-loop-c l = (all_finite l.y ≡ true)
+    × Left (paired (plan_of l.z) (record { matrix = l.matrix; lists = l.lists }) l.k l.i) (paired_keeps (plan_of l.z) (record { matrix = l.matrix; lists = l.lists }) l.k l.i) l.z.side l.c
     (pair_all (plan_of l.z) (record { matrix = l.matrix; lists = l.lists }) l.k l.i (going l.initial.y)) l.c l.y
-
-abbrev pub decreases-loop-c : goal.decreases-loop-c
-decreases-loop-c l = l.t - l.c
