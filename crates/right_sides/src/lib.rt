@@ -12,7 +12,6 @@ use apply_blocks::apply_right;
 use block_starts::start_block;
 use model::Sizes;
 use places::{list_start, tile_start};
-use progress::Progress;
 use right_pairs::pair;
 
 // Column c of T-2(k) on the right side y. False where a computed number isn't finite.
@@ -40,76 +39,58 @@ fn apply_right_column(
 }
 
 // T-2(k) on the right side y.
-fn apply(z: Sizes, matrix: &[f64], lists: &[u8], y: &mut [f64], k: usize) -> Progress
+fn apply(z: Sizes, matrix: &[f64], lists: &[u8], y: &mut [f64], k: usize) -> Result<(), usize>
     requires solvable { Solvable z matrix.now lists.now }
     requires right_side { RightSide z y.old }
     requires k_lt_tiles { k < z.tiles }
     ensures { Passing result y.new
         (apply_all (plan_of z) (record { matrix = matrix.now; lists = lists.now }) k (going y.old)) }
 {
-    let t = z.side;
-    let mut c = 0;
-    while c < t {
+    for c in 0..z.side {
         if !apply_right_column(z, matrix, lists, y, k, c) {
-            return Progress::Stopped(k);
+            return Err(k);
         }
-        c += 1;
     }
-    Progress::Going
+    Ok(())
 }
 
 // T-4(k,i) on the right side y for i rising.
-fn pair_below(z: Sizes, matrix: &[f64], lists: &[u8], y: &mut [f64], k: usize) -> Progress
+fn pair_below(z: Sizes, matrix: &[f64], lists: &[u8], y: &mut [f64], k: usize) -> Result<(), usize>
     requires solvable { Solvable z matrix.now lists.now }
     requires right_side { RightSide z y.old }
     requires k_lt_tiles { k < z.tiles }
     ensures { Passing result y.new
         (in_turn (pair_all (plan_of z) (record { matrix = matrix.now; lists = lists.now }) k) (after z.tiles k) (going y.old)) }
 {
-    let n = z.tiles;
-    let mut i = k + 1;
-    while i < n {
-        let p = pair(z, matrix, lists, y, k, i);
-        if let Progress::Stopped(x) = p {
-            return Progress::Stopped(x);
-        }
-        i += 1;
+    for i in k + 1..z.tiles {
+        pair(z, matrix, lists, y, k, i)?;
     }
-    Progress::Going
+    Ok(())
 }
 
 // T-2(k), then T-4(k,i) for i rising, on the right side y.
-fn stage(z: Sizes, matrix: &[f64], lists: &[u8], y: &mut [f64], k: usize) -> Progress
+fn stage(z: Sizes, matrix: &[f64], lists: &[u8], y: &mut [f64], k: usize) -> Result<(), usize>
     requires solvable { Solvable z matrix.now lists.now }
     requires right_side { RightSide z y.old }
     requires k_lt_tiles { k < z.tiles }
     ensures { Passing result y.new
         (stage_passed (plan_of z) (record { matrix = matrix.now; lists = lists.now }) k (going y.old)) }
 {
-    let p = apply(z, matrix, lists, y, k);
-    if let Progress::Stopped(x) = p {
-        return Progress::Stopped(x);
-    }
+    apply(z, matrix, lists, y, k)?;
     pair_below(z, matrix, lists, y, k)
 }
 
 // Passes the right side y through the T-2 and T-4 of all tasks in number order. Where a computed number isn't finite the place is told,
 // k in a T-2 and i in a T-4, and what is left in y is free but for its length.
-pub fn pass(z: Sizes, matrix: &[f64], lists: &[u8], y: &mut [f64]) -> Progress
+pub fn pass(z: Sizes, matrix: &[f64], lists: &[u8], y: &mut [f64]) -> Result<(), usize>
     requires solvable { Solvable z matrix.now lists.now }
     requires right_side { RightSide z y.old }
     ensures passing { Passing result y.new
         (in_turn (passOf (plan_of z) (record { matrix = matrix.now; lists = lists.now })) (tasks z.tiles) (going y.old)) }
     ensures y_len_unchanged { length y.new ≡ length y.old }
 {
-    let n = z.tiles;
-    let mut k = 0;
-    while k < n {
-        let p = stage(z, matrix, lists, y, k);
-        if let Progress::Stopped(x) = p {
-            return Progress::Stopped(x);
-        }
-        k += 1;
+    for k in 0..z.tiles {
+        stage(z, matrix, lists, y, k)?;
     }
-    Progress::Going
+    Ok(())
 }

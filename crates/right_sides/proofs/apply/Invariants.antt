@@ -1,8 +1,6 @@
 -- All columns of T-2(k): what is left from column c on is the whole. Assumes nothing.
 use mathlib.Core.Path.{◌≡◌}
 use mathlib.Core.Bool.{true}
-use Prim.Native.Nat.{◌-◌, ◌≤◌}
-use lib.ListN.{length}
 use Rattle.model.specs.Tile.{all_finite}
 use Rattle.model.specs.Plan.{plan_of}
 use Rattle.model.specs.Solve.{going, applied}
@@ -11,9 +9,6 @@ use Rattle.progress.proofs.Turns.{Left, applied_keeps}
 use Rattle.right_sides.proofs.apply.Given as goal
 
 abbrev pub invariant-loop-c : goal.invariant-loop-c
-invariant-loop-c l = (l.c ≤ l.t) × (length l.y ≡ length l.initial.y) × (all_finite l.y ≡ true)
-    × Left (applied (plan_of l.z) (record { matrix = l.matrix; lists = l.lists }) l.k) (applied_keeps (plan_of l.z) (record { matrix = l.matrix; lists = l.lists }) l.k) l.t l.c
+invariant-loop-c l = (all_finite l.y ≡ true)
+    × Left (applied (plan_of l.z) (record { matrix = l.matrix; lists = l.lists }) l.k) (applied_keeps (plan_of l.z) (record { matrix = l.matrix; lists = l.lists }) l.k) l.z.side l.c
     (apply_all (plan_of l.z) (record { matrix = l.matrix; lists = l.lists }) l.k (going l.initial.y)) l.c l.y
-
-abbrev pub decreases-loop-c : goal.decreases-loop-c
-decreases-loop-c l = l.t - l.c

@@ -1,8 +1,6 @@
 -- T-4(k,i) for i rising: what is left from i on is the whole. Assumes nothing.
 use mathlib.Core.Path.{◌≡◌}
 use mathlib.Core.Bool.{true}
-use Prim.Native.Nat.{◌-◌, ◌<◌, ◌≤◌}
-use lib.ListN.{length}
 use Rattle.model.specs.Lists.{in_turn}
 use Rattle.model.specs.Tile.{all_finite}
 use Rattle.model.specs.Task.{after}
@@ -13,9 +11,6 @@ use Rattle.progress.proofs.Turns.{Left, pairs_keep}
 use Rattle.right_sides.proofs.pair_below.Given as goal
 
 abbrev pub invariant-loop-i : goal.invariant-loop-i
-invariant-loop-i l = (l.i ≤ l.n) × (l.k < l.i) × (length l.y ≡ length l.initial.y) × (all_finite l.y ≡ true)
-    × Left (pair_all (plan_of l.z) (record { matrix = l.matrix; lists = l.lists }) l.k) (pairs_keep (plan_of l.z) (record { matrix = l.matrix; lists = l.lists }) l.k) l.n l.i
-    (in_turn (pair_all (plan_of l.z) (record { matrix = l.matrix; lists = l.lists }) l.k) (after l.n l.k) (going l.initial.y)) l.i l.y
-
-abbrev pub decreases-loop-i : goal.decreases-loop-i
-decreases-loop-i l = l.n - l.i
+invariant-loop-i l = (all_finite l.y ≡ true)
+    × Left (pair_all (plan_of l.z) (record { matrix = l.matrix; lists = l.lists }) l.k) (pairs_keep (plan_of l.z) (record { matrix = l.matrix; lists = l.lists }) l.k) l.z.tiles l.i
+    (in_turn (pair_all (plan_of l.z) (record { matrix = l.matrix; lists = l.lists }) l.k) (after l.z.tiles l.k) (going l.initial.y)) l.i l.y

@@ -1,8 +1,6 @@
 -- The stages in turn are the tasks in number order. Assumes nothing.
 use mathlib.Core.Path.{◌≡◌}
 use mathlib.Core.Bool.{true}
-use Prim.Native.Nat.{◌-◌, ◌≤◌}
-use lib.ListN.{length}
 use Rattle.model.specs.Lists.{in_turn}
 use Rattle.model.specs.Tile.{all_finite}
 use Rattle.model.specs.Task.{tasks}
@@ -13,9 +11,6 @@ use Rattle.progress.proofs.Turns.{Left, stage_keeps}
 use Rattle.right_sides.proofs.pass.Given as goal
 
 abbrev pub invariant-loop-k : goal.invariant-loop-k
-invariant-loop-k l = (l.k ≤ l.n) × (length l.y ≡ length l.initial.y) × (all_finite l.y ≡ true)
-    × Left (stage_passed (plan_of l.z) (record { matrix = l.matrix; lists = l.lists })) (stage_keeps (plan_of l.z) (record { matrix = l.matrix; lists = l.lists })) l.n l.k
-    (in_turn (pass (plan_of l.z) (record { matrix = l.matrix; lists = l.lists })) (tasks l.n) (going l.initial.y)) l.k l.y
-
-abbrev pub decreases-loop-k : goal.decreases-loop-k
-decreases-loop-k l = l.n - l.k
+invariant-loop-k l = (all_finite l.y ≡ true)
+    × Left (stage_passed (plan_of l.z) (record { matrix = l.matrix; lists = l.lists })) (stage_keeps (plan_of l.z) (record { matrix = l.matrix; lists = l.lists })) l.z.tiles l.k
+    (in_turn (pass (plan_of l.z) (record { matrix = l.matrix; lists = l.lists })) (tasks l.z.tiles) (going l.initial.y)) l.k l.y

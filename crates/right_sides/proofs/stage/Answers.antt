@@ -1,5 +1,6 @@
 -- T-2(k), then T-4(k,i) for i rising. Assumes nothing.
 use mathlib.Core.Path.{sym, ap, ◌∙◌}
+use Rattle.std.proofs.lemmas.Result.{err_from_is_err_and}
 use Rattle.model.specs.Lists.{in_turn}
 use Rattle.model.specs.Task.{after}
 use Rattle.model.specs.Plan.{plan}
@@ -7,22 +8,19 @@ use Rattle.progress.specs.Right.{passed_of, pair_all, stage_passed}
 use Rattle.progress.proofs.Turns.{turns_stop, pairs_keep, went, halted}
 use Rattle.right_sides.proofs.stage.Goals as goal
 
-pub returns-in-Stopped : goal.returns-in-Stopped
+pub returns-in_err-apply : goal.returns-in_err-apply
 unfolding passed_of stage_passed plan
-returns-in-Stopped c =
-    let e = halted _ _ _ c.apply-p.ensures.is _ c.in-Stopped.is in
-    record {
+returns-in_err-apply c =
+    let p = err_from_is_err_and c.from_residual.result c.from_residual.ensures.1 in
+    let e = halted _ _ _ c.apply.ensures.is _ c.in_err-apply.was in
+    rw (p.1, p.2) (record {
       is = sym (turns_stop (pair_all _ _ _) (pairs_keep _ _ _) (after _ _) _) ∙ ap (in_turn (pair_all _ _ _) (after _ _)) e;
       finite_then = λ q. cc;
-    }
-
-pub pair_below-requires : goal.pair_below-requires
-pair_below-requires c =
-    record { solvable = c.requires.solvable; right_side = record { long = c.apply-p.auto.y ∙ c.requires.right_side.long; all_finite_lem = c.apply-p.ensures.finite_then c.in_default.is }; k_lt_tiles = c.requires.k_lt_tiles }
+    })
 
 pub returns : goal.returns
 unfolding stage_passed plan
 returns c =
-    let e = went _ _ _ c.apply-p.ensures.is c.in_default.is in
+    let e = went _ _ _ c.apply.ensures.is c.in_ok-apply.was in
     let r = c.pair_below.ensures in
     record { is = r.is ∙ ap (in_turn (pair_all _ _ _) (after _ _)) e; finite_then = r.finite_then }
