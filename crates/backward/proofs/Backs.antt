@@ -5,14 +5,13 @@ use Prim.Native.Nat.{ℕ, zero, suc, ◌+◌, ◌-◌, ◌<◌, ◌≤◌}
 use native.Mathlib.Omega.{arith}
 use lib.ListN.{set}
 use lib.Ieee.{Float}
+use Rattle.std.specs.Prelude.{Result, Ok, Err}
 use Rattle.model.specs.declared.Row.{Row}
 use Rattle.model.specs.declared.Row.TheVariants.{Number, NotFinite}
 use Rattle.model.specs.Lists.{run, below, in_turn}
 use Rattle.model.specs.Plan.{Plan}
 use Rattle.model.specs.Buffer.{Buffers}
 use Rattle.model.specs.Solve.{Passed, going, stopped, row, put, back}
-use Rattle.progress.specs.declared.Progress.{Progress}
-use Rattle.progress.specs.declared.Progress.TheVariants.{Going, Stopped}
 use Rattle.progress.specs.Right.{passed_of}
 use Rattle.progress.proofs.Turns.{turns_stop}
 use Rattle.laws.proofs.Runs.{below_last, in_turn_append}
@@ -62,14 +61,14 @@ module _ (z : Plan) (s : Buffers) where
     back_not_finite q = back_last k (going y) ∙ ap (λ (x : Row). back_below z s k (put z s k y x)) (sym e ∙ q) ∙ back_stopped k k
 
   -- the rows below k after those of a tile, by how these ended
-  module _ (k : ℕ) (r : Progress) (y : List Float) (whole : Passed) (e : back_below z s k (passed_of r y) ≡ whole) where
-    pub tile_goes : r ≡ Going → back_below z s k (going y) ≡ whole
+  module _ (k : ℕ) (r : Result (Unit {0}) ℕ) (y : List Float) (whole : Passed) (e : back_below z s k (passed_of r y) ≡ whole) where
+    pub tile_goes : r ≡ Ok tt → back_below z s k (going y) ≡ whole
     unfolding passed_of
-    tile_goes q = sym (ap (λ (x : Progress). back_below z s k (passed_of x y)) q) ∙ e
+    tile_goes q = sym (ap (λ (x : Result (Unit {0}) ℕ). back_below z s k (passed_of x y)) q) ∙ e
 
-    pub tile_stops : (x : ℕ) → r ≡ Stopped x → stopped x ≡ whole
+    pub tile_stops : (x : ℕ) → r ≡ Err x → stopped x ≡ whole
     unfolding passed_of
-    tile_stops x q = sym (back_stopped k x) ∙ sym (ap (λ (x : Progress). back_below z s k (passed_of x y)) q) ∙ e
+    tile_stops x q = sym (back_stopped k x) ∙ sym (ap (λ (x : Result (Unit {0}) ℕ). back_below z s k (passed_of x y)) q) ∙ e
 
   -- ---- the rows done so far
 

@@ -1,17 +1,12 @@
 -- The rows below i·t are left. Assumes nothing.
 use mathlib.Core.Path.{◌≡◌}
 use mathlib.Core.List.{List}
-use Prim.Native.Nat.{ℕ, ◌*◌, ◌≤◌}
-use lib.ListN.{length}
+use Prim.Native.Nat.{ℕ, ◌*◌}
 use Rattle.model.specs.Plan.{plan_of}
 use Rattle.model.specs.Solve.{going}
 use Rattle.backward.specs.Rows.{back_below, back_between}
 use Rattle.backward.proofs.back_rows.Given as goal
 
 abbrev pub invariant-loop-i : goal.invariant-loop-i
-invariant-loop-i l = (l.i ≤ l.z.tiles) × (length l.y ≡ length l.initial.y)
-    × ((lists : List ℕ) → back_below (plan_of l.z) (record { matrix = l.matrix; lists = lists }) (l.i * l.z.side) (going l.y) ≡ back_below (plan_of l.z) (record { matrix = l.matrix; lists = lists }) (l.z.tiles * l.z.side) (going l.initial.y))
+invariant-loop-i l = ((lists : List ℕ) → back_below (plan_of l.z) (record { matrix = l.matrix; lists = lists }) (l.i * l.z.side) (going l.y) ≡ back_below (plan_of l.z) (record { matrix = l.matrix; lists = lists }) (l.z.tiles * l.z.side) (going l.initial.y))
     × ((lists : List ℕ) → going l.y ≡ back_between (plan_of l.z) (record { matrix = l.matrix; lists = lists }) (l.i * l.z.side) (l.z.tiles * l.z.side) (going l.initial.y))
-
-abbrev pub decreases-loop-i : goal.decreases-loop-i
-decreases-loop-i l = l.i
