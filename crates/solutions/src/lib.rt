@@ -10,7 +10,6 @@ ghost use Rattle.progress.specs.Right.{Solvable, RightSide};
 
 use backward::back_rows;
 use model::{Answer, Sizes};
-use progress::Progress;
 use right_sides::pass;
 
 // Copies all numbers of one slice to another as long.
@@ -43,11 +42,11 @@ pub fn solve_in(
 {
     copy(right, y);
     let forward = pass(z, matrix, lists, y);
-    if let Progress::Stopped(place) = forward {
+    if let Err(place) = forward {
         return Answer::Refused(11, place);
     }
     let back = back_rows(z, matrix, y);
-    if let Progress::Stopped(row) = back {
+    if let Err(row) = back {
         return Answer::Refused(11, row);
     }
     copy(y, answers);

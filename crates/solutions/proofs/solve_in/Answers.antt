@@ -11,9 +11,9 @@ pub pass-forward-requires : goal.pass-forward-requires
 pass-forward-requires c =
     record { solvable = c.requires.solvable; right_side = rw c.copy.ensures c.requires.right_side }
 
-pub returns-in-Stopped : goal.returns-in-Stopped
-returns-in-Stopped c =
-    stops_forward c.args.z _ _ _ _ _ (rw c.copy.ensures at c.pass-forward.ensures.passing.is) _ c.in-Stopped.is
+pub returns-in-Err : goal.returns-in-Err
+returns-in-Err c =
+    stops_forward c.args.z _ _ _ _ _ (rw c.copy.ensures at c.pass-forward.ensures.passing.is) _ c.in-Err.is
 
 pub back_rows-back-requires : goal.back_rows-back-requires
 back_rows-back-requires c =
@@ -26,10 +26,10 @@ back_rows-back-requires c =
       long = c.pass-forward.auto.y ∙ c.copy.auto.to ∙ c.requires.matrix_value.2;
     }
 
-pub returns-in-Stopped-back : goal.returns-in-Stopped-back
-returns-in-Stopped-back c =
+pub returns-in-Err-back : goal.returns-in-Err-back
+returns-in-Err-back c =
     stops_back c.args.z _ _ _ _ _ (rw c.copy.ensures at c.pass-forward.ensures.passing.is) c.in_default.is
-    _ _ (c.back_rows-back.ensures.by_index c.args.lists.now) _ c.in-Stopped-back.is
+    _ _ (c.back_rows-back.ensures.by_index c.args.lists.now) _ c.in-Err-back.is
 
 pub returns : goal.returns
 returns c =
