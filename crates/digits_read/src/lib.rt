@@ -21,7 +21,7 @@ pub fn digit_value(b: u8) -> usize
     requires { is_digit b ≡ true }
     ensures { result ≡ digit_value b }
 {
-    (b % 16 + b / 64 * 9) as usize
+    usize::from(b % 16 + b / 64 * 9)
 }
 
 // Every byte is a digit. All are looked at, so that there is no branch, as `all` has.
@@ -31,7 +31,7 @@ pub fn all_digits(bytes: &[u8]) -> bool
     bytes.iter().fold(true, |good, b| good & is_digit(*b))
 }
 
-// The number that the n digits from place p on stand for: at most 16 of them.
+// The number that the n digits from place p on stand for: at most 16 of them. Beside it numbers_read has one for 16 digits, which looks them up for speed.
 pub fn field_at(line: &[u8], p: usize, n: usize) -> usize
     requires { FieldOfDigits line.now p n }
     ensures { result ≡ field p n line.now }

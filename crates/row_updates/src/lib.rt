@@ -53,8 +53,8 @@ pub fn update_row(m: &mut [f64], at: usize, top: usize, w: usize, f: usize, by: 
     ensures { RowUpdated w f at top by m.old m.new result }
 {
     let fours = w - (w - f) / 4 * 4;
-    // Counted by hand, since `for` is slower: with both loops so, LLVM makes one loop over rows with fours and one without, and a column of T-4 takes 1.3
-    // times as long at t = 16; with the second alone T-2's takes 1.04 times.
+    // Counted by hand, since `for` is slower (on an Intel Xeon): with both loops so, LLVM makes one loop over rows with fours and one without, and a column
+    // of T-4 takes 1.3 times as long at t = 16; with the second alone, parts of rows take up to 1.04 times as long.
     let mut q = f;
     while q < fours {
         if !row_one(m, at + q, top + q, by) {
