@@ -7,7 +7,7 @@ use script::{Fields, room};
 use std::io;
 use std::io::{ErrorKind, Read, Write};
 
-// Judges a text as a system, or as a result.
+// Judges a text as a system, or as a result. What it is read as stays a code: it is tested here alone, and an enum would be made for this one test.
 fn judge_bytes(what: u8, text: &[u8], out: &mut impl Write) -> io::Result<()> {
     let mut numbers = room::<f64, 65536>(0.0);
     if what == 0 {

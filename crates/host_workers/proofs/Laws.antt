@@ -1,9 +1,10 @@
 -- Workers in three lists: the byte that is left of each, lists that a closure made, and all slots. Assumes nothing.
 use Prim.Native.Nat.{ℕ, zero, suc, ◌+◌, ◌<◌, ◌≤◌}
 use native.Mathlib.Omega.{arith}
-use mathlib.Core.Bool.{Bool, true, false, cond}
+use Rattle.std.proofs.lemmas.Bool.Decides.{nat_tests}
+use mathlib.Core.Bool.{Bool, true, false}
 use mathlib.Core.Logic.{⊎_elim}
-use mathlib.Core.Path.{◌≡◌, refl, sym, ap, subst, ◌∙◌}
+use mathlib.Core.Path.{◌≡◌, sym, ap, subst, ◌∙◌}
 use mathlib.Core.List.{List}
 use lib.ListN.{length, get_or}
 use Rattle.worker.specs.declared.Worker.{Worker}
@@ -18,21 +19,11 @@ use Rattle.host_workers.specs.Workers.{says_busy, worker_in, slots_in, byte_left
 -- ---- the byte that is left
 
 module _ (x : ℕ) where
-  says_busy_lem : (s : Bool) → says_busy x ≡ s → says_busy (cond s x 1) ≡ true
-  unfolding says_busy
-  says_busy_lem true e = e
-  says_busy_lem false e = refl
-
-  says_idle : (s : Bool) → says_busy x ≡ s → says_busy (cond s 0 x) ≡ false
-  unfolding says_busy
-  says_idle true e = refl
-  says_idle false e = e
-
   -- it says what it should
   says_left : (b : Bool) → says_busy (byte_left x b) ≡ b
-  unfolding byte_left
-  says_left true = says_busy_lem (says_busy x) refl
-  says_left false = says_idle (says_busy x) refl
+  unfolding byte_left says_busy
+  says_left true = grind (arith, nat_tests)
+  says_left false = grind (arith, nat_tests)
 
   -- one that says so already stays
   pub stays : (b : Bool) → b ≡ says_busy x → byte_left x b ≡ x
