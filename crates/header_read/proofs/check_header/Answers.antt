@@ -4,7 +4,7 @@ use native.Mathlib.Omega.{arith}
 use borrow.Author.Tests.{eqb-true, eqb-false}
 use Rattle.std.specs.Prelude.{Err}
 use Rattle.model.specs.Read.{kind_in, tiles_in, side_in}
-use Rattle.header_read.proofs.Heads.{no_text, short_text, header_12, header_13, header_1, header_shape, length_header, header_field}
+use Rattle.header_read.proofs.Heads.{no_text, short_text, header_12, header_13, header_1, header_shape, header_field}
 use Rattle.header_read.proofs.check_header.Goals as goal
 
 pub returns-then-is_empty : goal.returns-then-is_empty
