@@ -13,6 +13,7 @@ use borrow.Author.Tests.{ne_eqb, lt-ltb, le-ltb, ltb-true, ltb-false}
 use Rattle.laws.proofs.Tests.{true_or_false, or_left}
 use Rattle.std.specs.Prelude.{Ok, Err}
 use Rattle.model.specs.Answer.{Answer, accepted, refused_by}
+use Rattle.model.specs.declared.Rule.{Rule}
 use Rattle.model.specs.declared.Rule.TheVariants.{NotFinite, Malformed, WrongFrame, WrongEnd}
 use Rattle.model.specs.Refusal.{refuse, inside}
 use Rattle.model.specs.Read.{Frame, kind_in, line_length, lines_from, last_line, not_digits, bad_content, bad_line, wrong_frame, not_finite_in, line_answer, lines_answer}
@@ -44,7 +45,7 @@ refused : (t x : ℕ) (f : Frame) (l : List ℕ) (r : Answer) → bad_line t f.k
 unfolding line_answer refuse
 refused t x f l r e = rw e
 
-pub refuse_passed : (n x : ℕ) (b : Bool) (a r : Answer) → refuse n x b (passed a r) ≡ passed (refuse n x b a) r
+pub refuse_passed : (n : Rule) (x : ℕ) (b : Bool) (a r : Answer) → refuse n x b (passed a r) ≡ passed (refuse n x b a) r
 unfolding refuse
 refuse_passed n x true a r = refl
 refuse_passed n x false a r = refl
@@ -52,9 +53,9 @@ refuse_passed n x false a r = refl
 accepts : (t x : ℕ) (f : Frame) (l : List ℕ) (r : Answer) → line_answer t x f l r ≡ passed (line_answer t x f l accepted) r
 unfolding line_answer
 accepts t x f l r =
-    let c = refuse_passed 3 x (not_finite_in t f l) accepted r in
-    let b = refuse_passed 13 x (wrong_frame f l) (refuse NotFinite x (not_finite_in t f l) accepted) r in
-    let a = refuse_passed 12 x (bad_line t f.kind l) (refuse WrongFrame x (wrong_frame f l) (refuse NotFinite x (not_finite_in t f l) accepted)) r in
+    let c = refuse_passed NotFinite x (not_finite_in t f l) accepted r in
+    let b = refuse_passed WrongFrame x (wrong_frame f l) (refuse NotFinite x (not_finite_in t f l) accepted) r in
+    let a = refuse_passed Malformed x (bad_line t f.kind l) (refuse WrongFrame x (wrong_frame f l) (refuse NotFinite x (not_finite_in t f l) accepted)) r in
     ap (λ (z : Answer). refuse Malformed x (bad_line t f.kind l) (refuse WrongFrame x (wrong_frame f l) z)) c ∙ ap (refuse Malformed x (bad_line t f.kind l)) b ∙ a
 
 -- a line that is bad as the text has it is bad as it is looked at
@@ -140,5 +141,5 @@ module _ (t : ℕ) (text : List ℕ) where
 
       go : ((c : Cursor) → lines_answer t c.line fs (lines_from [] (drop c.at text)) ≡ text_end text (follow t text fs c)) → (a : Answer)
           → passed a (lines_answer t (suc c.line) fs (lines_from [] (drop (line_length t f.kind) (drop c.at text)))) ≡ text_end text (onward (follow t text fs) (landed a c'))
-      go ih (Ok _) = rw (drop-drop (line_length t f.kind) c.at text, ← add-one) (ih c')
+      go ih (Ok _) = rw (drop-drop (line_length t f.kind) c.at text, ← add-one c.line) (ih c')
       go ih (Err why) = refl

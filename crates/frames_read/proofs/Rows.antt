@@ -8,9 +8,8 @@ use Rattle.model.specs.Read.{Frame}
 use Rattle.lines_read.proofs.Runs.{up_to, up_to_next, up_to_none}
 use Rattle.cursors.specs.declared.Cursor.{Cursor}
 use Rattle.std.specs.Prelude.{Ok, Err}
-use Rattle.model.specs.Answer.{refused_by}
-use Rattle.cursors.specs.Steps.{Step}
-use Rattle.cursors.specs.Steps.{CursorFits, step_of}
+use Rattle.model.specs.declared.Refusal.{Refusal}
+use Rattle.cursors.specs.Steps.{Step, CursorFits, step_of}
 use Rattle.cursors.proofs.Steps.{step_placed}
 use Rattle.frames_read.specs.Follow.{onward, follow}
 
@@ -60,23 +59,23 @@ module _ (t : ℕ) (text : List ℕ) where
 -- ---- a step that stopped answers for all, and one that did not leaves the rest to do
 
 module _ (k : Cursor → Step) {w s r : Step} where
-  stops : {n x : ℕ} → onward k s ≡ w → r ≡ s → r ≡ refused_by n x → refused_by n x ≡ w
-  stops h e q = sym (ap (onward k) (sym e ∙ q)) ∙ h
+  stops : (why : Refusal) → onward k s ≡ w → r ≡ s → r ≡ Err why → Err why ≡ w
+  stops why h e q = sym (ap (onward k) (sym e ∙ q)) ∙ h
 
   goes_on : {d : Cursor} → onward k s ≡ w → r ≡ s → r ≡ Ok d → k d ≡ w
   goes_on h e q = sym (ap (onward k) (sym e ∙ q)) ∙ h
 
 module _ (t : ℕ) (text : List ℕ) (n : ℕ) {w r : Step} (x : ℕ) (c : Cursor) (b : x < n) where
   module _ (g : ℕ → Frame) (h : follow t text (map g (up_to x n)) c ≡ w) (e : r ≡ step_of t text (g x) c) where
-    pub row_stops : {m y : ℕ} → r ≡ refused_by m y → refused_by m y ≡ w
-    row_stops q = stops (follow t text (map g (up_to (x + 1) n))) (sym (row_next t text g x n c b) ∙ h) e q
+    pub row_stops : (why : Refusal) → r ≡ Err why → Err why ≡ w
+    row_stops why q = stops (follow t text (map g (up_to (x + 1) n))) why (sym (row_next t text g x n c b) ∙ h) e q
 
     pub row_goes_on : {d : Cursor} → r ≡ Ok d → follow t text (map g (up_to (x + 1) n)) d ≡ w
     row_goes_on q = goes_on (follow t text (map g (up_to (x + 1) n))) (sym (row_next t text g x n c b) ∙ h) e q
 
   module _ (g : ℕ → List Frame) (h : follow t text (joined (map g (up_to x n))) c ≡ w) (e : r ≡ follow t text (g x) c) where
-    pub rows_stop : {m y : ℕ} → r ≡ refused_by m y → refused_by m y ≡ w
-    rows_stop q = stops (follow t text (joined (map g (up_to (x + 1) n)))) (sym (rows_next t text g x n c b) ∙ h) e q
+    pub rows_stop : (why : Refusal) → r ≡ Err why → Err why ≡ w
+    rows_stop why q = stops (follow t text (joined (map g (up_to (x + 1) n)))) why (sym (rows_next t text g x n c b) ∙ h) e q
 
     pub rows_go_on : {d : Cursor} → r ≡ Ok d → follow t text (joined (map g (up_to (x + 1) n))) d ≡ w
     rows_go_on q = goes_on (follow t text (joined (map g (up_to (x + 1) n)))) (sym (rows_next t text g x n c b) ∙ h) e q

@@ -6,8 +6,7 @@ use Rattle.model.specs.Lists.{below}
 use Rattle.model.specs.Refusal.{refuse}
 use Rattle.model.specs.Read.{Frame}
 use Rattle.cursors.specs.declared.Cursor.{Cursor}
-use Rattle.cursors.specs.Steps.{Step}
-use Rattle.cursors.specs.Steps.{step_of}
+use Rattle.cursors.specs.Steps.{Step, step_of}
 
 -- what comes after a step that was not refused
 abbrev pub onward : (Cursor → Step) → Step → Step

@@ -12,8 +12,7 @@ use borrow.Author.Tests.{eq-eqb, ne_eqb, lt-ltb, le-ltb, ltb-false}
 use Rattle.laws.proofs.Tests.{true_or_false}
 use Rattle.std.specs.Prelude.{Ok, Err}
 use Rattle.model.specs.Answer.{Answer, accepted, refused_by}
-use Rattle.model.specs.declared.Rule.{Rule}
-use Rattle.header_read.specs.Heads.{shape}
+use Rattle.model.specs.declared.Refusal.{Refusal}
 use Rattle.model.specs.declared.Rule.TheVariants.{BadSizes, BadLengths, Malformed, WrongFrame, WrongEnd}
 use Rattle.model.specs.declared.FileRead.TheVariants.{SystemRead}
 use Rattle.model.specs.Refusal.{refuse}
@@ -22,8 +21,7 @@ use Rattle.model.specs.Read.{Frame, kind_in, tiles_in, side_in, line_length, lin
 use Rattle.digits_read.specs.Digits.{FieldOfDigits}
 use Rattle.lines_read.specs.Line.{malformed}
 use Rattle.lines_read.proofs.Tested.{line_of_digits, field_in, well_formed, as_malformed}
-use Rattle.header_read.specs.Heads.{Header}
-use Rattle.header_read.specs.Heads.{header_line, header_answer, shaped, header_of, sizes_in, sizes_told, Foretells}
+use Rattle.header_read.specs.Heads.{Header, shape, header_line, header_answer, shaped, header_of, sizes_in, sizes_told, Foretells}
 use Rattle.frames_read.proofs.Lines.{First, none, bad, good, first}
 use Rattle.frames_read.proofs.Followed.{passed, bad_line_lem, refuse_passed}
 
@@ -82,9 +80,9 @@ module _ (limit : ℕ) (frames : ℕ → List Frame) (lengths : ℕ → ℕ → 
   own_passed b h r =
       let s = bad_shape (tiles_in h) (side_in h) || ltb limit (tiles_in h * side_in h) in
       let k = not (eqb (kind_in h) 1) in
-      ap (λ (z : Answer). refuse Malformed 1 b (refuse WrongFrame 1 k z)) (refuse_passed 1 1 s accepted r)
-      ∙ ap (refuse Malformed 1 b) (refuse_passed 13 1 k (refuse BadSizes 1 s accepted) r)
-      ∙ refuse_passed 12 1 b (refuse WrongFrame 1 k (refuse BadSizes 1 s accepted)) r
+      ap (λ (z : Answer). refuse Malformed 1 b (refuse WrongFrame 1 k z)) (refuse_passed BadSizes 1 s accepted r)
+      ∙ ap (refuse Malformed 1 b) (refuse_passed WrongFrame 1 k (refuse BadSizes 1 s accepted) r)
+      ∙ refuse_passed Malformed 1 b (refuse WrongFrame 1 k (refuse BadSizes 1 s accepted)) r
 
   file_of : (h : List ℕ) (ls : List (List ℕ)) → file_answer limit frames lengths (h ∷ ls) ≡ own_answer (bad_line 0 1 h) h (behind_header h ls)
   unfolding file_answer own_answer
@@ -186,9 +184,9 @@ module _ (text : List ℕ) where
     abbrev behind : Answer
     behind = behind_header no_limit frames lengths (header_line text) (lines_from [] (drop 7 text))
 
-    told_refused : (a : Answer) (n : Rule) (x : ℕ) → sizes_told (shaped a (header_line text)) ≡ refused_by n x → passed a behind ≡ refused_by n x
-    told_refused (Ok _) n x e = let z : ◌≡◌ {A = ℕ} 0 1 = cc in absurd (omega arith)
-    told_refused (Err why) n x e = cc
+    told_refused : (a : Answer) (why : Refusal) → sizes_told (shaped a (header_line text)) ≡ Err why → passed a behind ≡ Err why
+    told_refused (Ok _) why e = let z : ◌≡◌ {A = ℕ} 0 1 = cc in absurd (omega arith)
+    told_refused (Err w) why e = cc
 
     told_sized : (a : Answer) (N t : ℕ) → sizes_told (shaped a (header_line text)) ≡ Ok (SystemRead N t)
         → passed a behind ≡ refuse BadLengths 0 (lengths N t) (lines_answer t 2 (frames N) (lines_from [] (drop 7 text)))
@@ -198,6 +196,6 @@ module _ (text : List ℕ) where
   pub foretold : (r : Header) → r ≡ header_of no_limit text → Foretells text (sizes_told r)
   unfolding header_of
   foretold r e = record {
-    refused = λ n x q frames lengths. file_headed no_limit frames lengths text ∙ told_refused frames lengths (header_answer no_limit text) n x (sym (ap sizes_told e) ∙ q);
+    refused = λ why q frames lengths. file_headed no_limit frames lengths text ∙ told_refused frames lengths (header_answer no_limit text) why (sym (ap sizes_told e) ∙ q);
     sized = λ N t q frames lengths. file_headed no_limit frames lengths text ∙ told_sized frames lengths (header_answer no_limit text) N t (sym (ap sizes_told e) ∙ q);
   }

@@ -5,10 +5,8 @@ use mathlib.Core.List.{List, [], ◌∷◌, ◌++◌}
 use Rattle.model.specs.Read.{Frame, tile_frames, list_frames, result_frames}
 use Rattle.cursors.specs.declared.Cursor.{Cursor}
 use Rattle.std.specs.Prelude.{Ok, Err}
-use Rattle.model.specs.Answer.{refused_by}
-use Rattle.model.specs.declared.Rule.{Rule}
-use Rattle.cursors.specs.Steps.{Step}
-use Rattle.cursors.specs.Steps.{step_of}
+use Rattle.model.specs.declared.Refusal.{Refusal}
+use Rattle.cursors.specs.Steps.{Step, step_of}
 use Rattle.frames_read.specs.Follow.{onward, follow}
 use Rattle.frames_read.proofs.Rows.{follow_append}
 
@@ -37,12 +35,12 @@ module _ (t N : ℕ) (text : List ℕ) where
       last (Err why) = refl
 
   module _ (s : Cursor) where
-    pub tiles_stop : (n : Rule) (x : ℕ) → follow t text (tile_frames N) s ≡ refused_by n x → refused_by n x ≡ follow t text (result_frames N) s
-    tiles_stop n x e = sym (in_parts s ∙ ap (λ (z : Step). onward (step_of t text outcome_frame) (onward (follow t text (list_frames N)) z)) e)
+    pub tiles_stop : (why : Refusal) → follow t text (tile_frames N) s ≡ Err why → Err why ≡ follow t text (result_frames N) s
+    tiles_stop why e = sym (in_parts s ∙ ap (λ (z : Step). onward (step_of t text outcome_frame) (onward (follow t text (list_frames N)) z)) e)
 
     module _ (c : Cursor) (a : follow t text (tile_frames N) s ≡ Ok c) where
-      pub lists_stop : (n : Rule) (x : ℕ) → follow t text (list_frames N) c ≡ refused_by n x → refused_by n x ≡ follow t text (result_frames N) s
-      lists_stop n x e =
+      pub lists_stop : (why : Refusal) → follow t text (list_frames N) c ≡ Err why → Err why ≡ follow t text (result_frames N) s
+      lists_stop why e =
           sym (in_parts s ∙ ap (λ (z : Step). onward (step_of t text outcome_frame) (onward (follow t text (list_frames N)) z)) a ∙ ap (onward (step_of t text outcome_frame)) e)
 
       pub to_outcome : (d : Cursor) → follow t text (list_frames N) c ≡ Ok d → step_of t text outcome_frame d ≡ follow t text (result_frames N) s

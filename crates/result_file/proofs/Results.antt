@@ -9,9 +9,9 @@ use lib.Dec.{leb}
 use lib.ListN.{length, get_or, drop, replicate}
 use lib.Ieee.{Float}
 use borrow.Author.Tests.{eq-eqb, ne_eqb, leb-true}
-use Rattle.std.specs.Prelude.{Ok}
-use Rattle.model.specs.Answer.{accepted, refused_by}
-use Rattle.model.specs.declared.Rule.{Rule}
+use Rattle.std.specs.Prelude.{Ok, Err}
+use Rattle.model.specs.Answer.{accepted, refusal, refused_by}
+use Rattle.model.specs.declared.Refusal.{Refusal}
 use Rattle.model.specs.declared.Rule.TheVariants.{BadLengths}
 use Rattle.model.specs.declared.FileRead.TheVariants.{ResultRead}
 use Rattle.model.specs.Lists.{joined}
@@ -70,12 +70,12 @@ module _ (text : List ℕ) (m : List Float) (l : List ℕ) where
   abbrev lengths : ℕ → ℕ → Bool
   lengths N t = bad_matrix N t m || bad_lists N t l
 
-  refused : (n : Rule) (x : ℕ) → file_answer no_limit result_frames lengths (lines_from [] text) ≡ refused_by n x → record { answer = refused_by n x; matrix = m; lists = l } ≡ read_result text m l
+  refused : (why : Refusal) → file_answer no_limit result_frames lengths (lines_from [] text) ≡ Err why → record { answer = Err why; matrix = m; lists = l } ≡ read_result text m l
   unfolding read_result result_reading
-  refused n x e = rw e
+  refused why e = rw e
 
-  pub header_refused : (n : Rule) (x : ℕ) → header_answer no_limit text ≡ refused_by n x → record { answer = refused_by n x; matrix = m; lists = l } ≡ read_result text m l
-  header_refused n x e = refused n x (file_refused no_limit result_frames lengths text n x e)
+  pub header_refused : (why : Refusal) → header_answer no_limit text ≡ Err why → record { answer = Err why; matrix = m; lists = l } ≡ read_result text m l
+  header_refused why e = refused why (file_refused no_limit result_frames lengths text why e)
 
   module _ (N t : ℕ) (h : Headed no_limit text N t) where
     by_lengths : (b : Bool) → lengths N t ≡ b → file_answer no_limit result_frames lengths (lines_from [] text) ≡ refuse BadLengths 0 b (text_end text (follow t text (result_frames N) start))
@@ -83,21 +83,21 @@ module _ (text : List ℕ) (m : List Float) (l : List ℕ) where
 
     pub matrix_refused : (length m ≡ N * t * (N * t) → ⊥) → record { answer = refused_by BadLengths 0; matrix = m; lists = l } ≡ read_result text m l
     unfolding refuse
-    matrix_refused n = refused 2 0 (by_lengths true (ap (λ (b : Bool). b || bad_lists N t l) (wrong_matrix N t m n)))
+    matrix_refused n = refused (refusal BadLengths 0) (by_lengths true (ap (λ (b : Bool). b || bad_lists N t l) (wrong_matrix N t m n)))
 
     module _ (a : length m ≡ N * t * (N * t)) where
       pub lists_refused : (length l ≡ N * (N * t) → ⊥) → record { answer = refused_by BadLengths 0; matrix = m; lists = l } ≡ read_result text m l
       unfolding refuse bad_lists
-      lists_refused n = refused 2 0 (by_lengths true (rw (right_matrix N t m a, ne_eqb (length l) (N * N * t) (λ e. n (e ∙ mul_assoc N N t)))))
+      lists_refused n = refused (refusal BadLengths 0) (by_lengths true (rw (right_matrix N t m a, ne_eqb (length l) (N * N * t) (λ e. n (e ∙ mul_assoc N N t)))))
 
       module _ (b : length l ≡ N * (N * t)) where
         both : lengths N t ≡ false
         unfolding bad_lists
         both = rw (right_matrix N t m a, eq-eqb (length l) (N * N * t) (b ∙ sym (mul_assoc N N t)))
 
-        pub lines_refused : (n : Rule) (x : ℕ) → text_end text (follow t text (result_frames N) start) ≡ refused_by n x → record { answer = refused_by n x; matrix = m; lists = l } ≡ read_result text m l
+        pub lines_refused : (why : Refusal) → text_end text (follow t text (result_frames N) start) ≡ Err why → record { answer = Err why; matrix = m; lists = l } ≡ read_result text m l
         unfolding refuse
-        lines_refused n x e = refused n x (by_lengths false both ∙ e)
+        lines_refused why e = refused why (by_lengths false both ∙ e)
 
         pub result_read : text_end text (follow t text (result_frames N) start) ≡ accepted → loaded_result N t text ≡ read_result text m l
         unfolding read_result result_reading loaded_result refuse

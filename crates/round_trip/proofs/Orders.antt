@@ -55,7 +55,7 @@ in_order t x (f ∷ fs) (l ∷ ls) e = go (in_order t (suc x) fs ls (line_rest t
         at (suc k) g h = w.fine k g (le_of_suc-le-suc h)
 
 -- lines made of the frames
-pub accepted : (t : ℕ) (g : Frame → List ℕ) (x : ℕ) {fs : List Frame} → Each (λ f. Fine t f (g f)) fs → lines_answer t x fs (map g fs) ≡ accepted
+pub accepted_lem : (t : ℕ) (g : Frame → List ℕ) (x : ℕ) {fs : List Frame} → Each (λ f. Fine t f (g f)) fs → lines_answer t x fs (map g fs) ≡ accepted
 unfolding lines_answer
-accepted t g x nil = refl
-accepted t g x (cons {x = f} {xs = fs} w ws) = line_passes t x f (g f) (lines_answer t (suc x) fs (map g fs)) w ∙ accepted t g (suc x) ws
+accepted_lem t g x nil = refl
+accepted_lem t g x (cons {x = f} {xs = fs} w ws) = line_passes t x f (g f) (lines_answer t (suc x) fs (map g fs)) w ∙ accepted_lem t g (suc x) ws

@@ -13,7 +13,6 @@ use lib.Ieee.{Float}
 use Rattle.model.specs.declared.Outcome.{Outcome}
 use Rattle.std.specs.Prelude.{Ok, Err}
 use Rattle.model.specs.Answer.{Answer, accepted, refused_by}
-use Rattle.header_read.specs.Heads.{shape}
 use Rattle.model.specs.declared.Rule.TheVariants.{WrongEnd}
 use Rattle.model.specs.declared.FileRead.TheVariants.{ResultRead}
 use Rattle.model.specs.Lists.{below, joined, part}
@@ -31,7 +30,7 @@ use Rattle.round_trip.proofs.Lines.{Line, more, joined_lines, lines_of}
 use Rattle.round_trip.proofs.Grid.{grid, length_grid, grid_at, T_below}
 use Rattle.round_trip.proofs.Checks.{Fine, frame, tile_line, row_line, row_lined}
 use Rattle.round_trip.proofs.Ends.{header_line, header_lined, header_tiles, header_side, outcome_lined, outcome_fine, outcome_read, outcome_again}
-use Rattle.round_trip.proofs.Orders.{in_order, accepted}
+use Rattle.round_trip.proofs.Orders.{in_order, accepted_lem}
 use Rattle.round_trip.proofs.Tiles.{map_grid, joined_grid, each_grid, tile_written, tiles_again, wide}
 use Rattle.round_trip.proofs.Rows.{rising, listed, listed_none, listed_step, row_written, row_read, lists_read, rows_again}
 use Rattle.round_trip.proofs.Systems.{range, no_limit_lem, file_accepted, file_accepts, system_lines, lines_all, tiles_lined, tile_lines, tile_at_lem, length_tiles, matrix_read, tile_lines_fine, frame_at}
@@ -142,7 +141,7 @@ module _ (N t : ℕ) (m : List Float) (l : List ℕ) (o : Outcome) (shape : bad_
       let lined : Each Line ls = each_append Line (each_append Line (tiles_lined N t m) (each_grid Line rising (λ i j. row_line i j (rows N t l i j)) N (λ i j hi hj. row_lined i j (rows N t l i j)))) (cons (outcome_lined o) nil) in
       let cutted : lines_from [] (result_text (plan N t) (record { matrix = m; lists = l }) o) ≡ h ∷ ls =
       ap (lines_from []) (result_lines_lem N t m l o) ∙ lines_of (more (header_lined N t) (lines_all lined)) in
-      let lines : lines_answer t 2 (result_frames N) ls ≡ accepted = subst (λ (x : List (List ℕ)). lines_answer t 2 (result_frames N) x ≡ accepted) texts (accepted t text 2 all_fine) in
+      let lines : lines_answer t 2 (result_frames N) ls ≡ accepted = subst (λ (x : List (List ℕ)). lines_answer t 2 (result_frames N) x ≡ accepted) texts (accepted_lem t text 2 all_fine) in
       ap (λ (x : List (List ℕ)). result_reading (file_answer no_limit result_frames bad x) x m₀ l₀) cutted
       ∙ ap (λ (a : Answer). result_reading a (h ∷ ls) m₀ l₀) (file_accepted no_limit result_frames bad N t ls shape (no_limit_lem N t r) right lines)
       ∙ rw (header_tiles N t small_N, header_side N t small_t, outcome_there, outcome_read o place, matrix_read N t m shape wm ls (rw (length-append, length-append) (omega (arith, length_tiles N t m))) tile_there, lists_read N t l wl ls (λ i j hi hj. ap (entries_in t) (list_there i j hi hj) ∙ row_read N t l wl i j hi (omega arith) small_t))
@@ -225,7 +224,7 @@ module _ (m₀ : List Float) (l₀ : List ℕ) where
   text_back N t m l o (Err why) ls e q = let p : Err why ≡ Ok (ResultRead N t o) = ap (λ (r : ResultReading). r.answer) q in let z : ◌≡◌ {A = ℕ} 0 1 = cc in absurd (omega arith)
   text_back N t m l o (Ok _) [] e q = let p : refused_by WrongEnd 1 ≡ Ok (ResultRead N t o) = ap (λ (r : ResultReading). r.answer) q in let z : ◌≡◌ {A = ℕ} 0 1 = cc in absurd (omega arith)
   text_back N t m l o (Ok _) (h ∷ ls) e q =
-      let p : ResultRead (tiles_in h) (side_in h) (outcome_in (get_or ls (outcome_line (tiles_in h)) [])) ≡ Ok (ResultRead N t o) = ap (λ (r : ResultReading). r.answer) q in
+      let p : Ok (ResultRead (tiles_in h) (side_in h) (outcome_in (get_or ls (outcome_line (tiles_in h)) []))) ≡ Ok (ResultRead N t o) = ap (λ (r : ResultReading). r.answer) q in
       let eN : tiles_in h ≡ N = cc in
       let et : side_in h ≡ t = cc in
       let eo : outcome_in (get_or ls (outcome_line (tiles_in h)) []) ≡ o = cc in

@@ -13,7 +13,6 @@ use lib.Ieee.{Float}
 use borrow.Author.Tests.{eqb-true, le-ltb, not-false}
 use Rattle.std.specs.Prelude.{Ok, Err}
 use Rattle.model.specs.Answer.{Answer, accepted, refused_by}
-use Rattle.header_read.specs.Heads.{shape}
 use Rattle.model.specs.declared.Rule.TheVariants.{BadSizes, BadLengths, Malformed, WrongFrame, WrongEnd}
 use Rattle.model.specs.declared.FileRead.TheVariants.{SystemRead}
 use Rattle.model.specs.Lists.{joined}
@@ -32,7 +31,7 @@ use Rattle.round_trip.proofs.Lines.{Line, Lines, none, more, joined_lines, lines
 use Rattle.round_trip.proofs.Grid.{grid, length_grid, grid_at}
 use Rattle.round_trip.proofs.Checks.{Fine, frame, tile_line, tile_lined}
 use Rattle.round_trip.proofs.Ends.{header_line, header_lined, header_kind, header_tiles, header_side, header_fine, header_again}
-use Rattle.round_trip.proofs.Orders.{InOrder, in_order, accepted}
+use Rattle.round_trip.proofs.Orders.{InOrder, in_order, accepted_lem}
 use Rattle.round_trip.proofs.Tiles.{map_grid, joined_grid, each_grid, wide, before, before_none, before_step, tile_written, tile_read, tiles_read, tiles_again}
 
 -- ---- the header's line
@@ -133,7 +132,7 @@ module _ (N t : ℕ) (m : List Float) (shape : bad_shape N t ≡ false) (w : Mat
       let r = range N t shape in
       let cutted : lines_from [] (system_text (plan N t) (record { matrix = m; lists = l })) ≡ h ∷ ls =
       ap (lines_from []) (system_lines N t m l) ∙ lines_of (more (header_lined N t) (lines_all (tiles_lined N t m))) in
-      let lines : lines_answer t 2 (tile_frames N) ls ≡ accepted = subst (λ (x : List (List ℕ)). lines_answer t 2 (tile_frames N) x ≡ accepted) tile_texts (accepted t (tile_text N t m) 2 tiles_fine) in
+      let lines : lines_answer t 2 (tile_frames N) ls ≡ accepted = subst (λ (x : List (List ℕ)). lines_answer t 2 (tile_frames N) x ≡ accepted) tile_texts (accepted_lem t (tile_text N t m) 2 tiles_fine) in
       ap (λ (x : List (List ℕ)). system_reading (file_answer no_limit system_frames bad x) x m₀) cutted
       ∙ ap (λ (a : Answer). system_reading a (h ∷ ls) m₀) (file_accepted no_limit system_frames bad N t ls shape (no_limit_lem N t r) b lines)
       ∙ rw (header_tiles N t (omega (arith, r.tiles)), header_side N t (omega (arith, r.side)), matrix_read ls (omega (arith, length_tiles N t m)) (tile_at_lem N t m))

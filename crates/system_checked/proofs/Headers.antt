@@ -10,19 +10,18 @@ use borrow.Author.Tests.{ltb-false}
 use Rattle.laws.proofs.Tests.{or_false_left}
 use Rattle.laws.proofs.Refusals.{shape_range}
 use Rattle.std.specs.Prelude.{Ok, Err}
-use Rattle.model.specs.Answer.{Answer, accepted, refused_by}
-use Rattle.model.specs.declared.Rule.{Rule}
-use Rattle.header_read.specs.Heads.{shape}
+use Rattle.model.specs.Answer.{Answer, accepted}
+use Rattle.model.specs.declared.Refusal.{Refusal}
 use Rattle.model.specs.declared.Rule.TheVariants.{BadSizes, BadLengths, Malformed, WrongFrame, WrongEnd}
 use Rattle.model.specs.Refusal.{refuse}
 use Rattle.model.specs.Text.{bad_shape}
 use Rattle.model.specs.Read.{Frame, kind_in, tiles_in, side_in, lines_from, file_answer}
 use Rattle.lines_read.specs.Line.{malformed}
 use Rattle.lines_read.proofs.Tested.{well_formed}
-use Rattle.header_read.specs.Heads.{Header}
 use Rattle.cursors.specs.Steps.{CursorFits}
 use Rattle.frames_read.specs.Follow.{follow, text_end}
-use Rattle.header_read.specs.Heads.{header_line, header_answer, shaped, header_of}
+use Rattle.header_read.specs.declared.Shape.{Shape}
+use Rattle.header_read.specs.Heads.{Header, shape, header_line, header_answer, shaped, header_of}
 use Rattle.frames_read.proofs.Lines.{whole_line}
 use Rattle.frames_read.proofs.Followed.{passed, lines_followed}
 use Rattle.header_read.proofs.Heads.{behind_header, file_headed}
@@ -67,16 +66,18 @@ unfolding header_of
 shape_read limit text r N t e q = go (header_answer limit text) refl (sym q ∙ e)
   where
     go : (a : Answer) → header_answer limit text ≡ a → Ok (shape N t) ≡ shaped a (header_line text) → Headed limit text N t
-    go (Ok _) p e = record { accepted = p; tiles_told = cc; side_told = cc }
+    go (Ok _) p e =
+        let s : shape N t ≡ shape (tiles_in (header_line text)) (side_in (header_line text)) = cc in
+        record { accepted = p; tiles_told = ap (λ (z : Shape). z.tiles) s; side_told = ap (λ (z : Shape). z.side) s }
     go (Err why) p e = let z : ◌≡◌ {A = ℕ} 0 1 = cc in absurd (omega arith)
 
-pub refusal_read : (limit : ℕ) (text : List ℕ) (r : Header) (n : Rule) (x : ℕ) → r ≡ header_of limit text → r ≡ refused_by n x → header_answer limit text ≡ refused_by n x
+pub refusal_read : (limit : ℕ) (text : List ℕ) (r : Header) (why : Refusal) → r ≡ header_of limit text → r ≡ Err why → header_answer limit text ≡ Err why
 unfolding header_of
-refusal_read limit text r n x e q = go (header_answer limit text) refl (sym q ∙ e)
+refusal_read limit text r why e q = go (header_answer limit text) refl (sym q ∙ e)
   where
-    go : (a : Answer) → header_answer limit text ≡ a → refused_by n x ≡ shaped a (header_line text) → header_answer limit text ≡ refused_by n x
+    go : (a : Answer) → header_answer limit text ≡ a → Err why ≡ shaped a (header_line text) → header_answer limit text ≡ Err why
     go (Ok _) p e = let z : ◌≡◌ {A = ℕ} 0 1 = cc in absurd (omega arith)
-    go (Err why) p e = cc
+    go (Err w) p e = cc
 
 pub start_placed : (text : List ℕ) → 7 ≤ length text → CursorFits text start
 start_placed text h = record { within = h; counted = omega arith }
@@ -84,8 +85,8 @@ start_placed text h = record { within = h; counted = omega arith }
 -- ---- the whole file
 
 module _ (limit : ℕ) (frames : ℕ → List Frame) (lengths : ℕ → ℕ → Bool) (text : List ℕ) where
-  pub file_refused : (n : Rule) (x : ℕ) → header_answer limit text ≡ refused_by n x → file_answer limit frames lengths (lines_from [] text) ≡ refused_by n x
-  file_refused n x e = file_headed limit frames lengths text ∙ ap (λ (a : Answer). passed a (behind_header limit frames lengths (header_line text) (lines_from [] (drop 7 text)))) e
+  pub file_refused : (why : Refusal) → header_answer limit text ≡ Err why → file_answer limit frames lengths (lines_from [] text) ≡ Err why
+  file_refused why e = file_headed limit frames lengths text ∙ ap (λ (a : Answer). passed a (behind_header limit frames lengths (header_line text) (lines_from [] (drop 7 text)))) e
 
   module _ (N t : ℕ) (h : Headed limit text N t) where
     pub file_followed : file_answer limit frames lengths (lines_from [] text) ≡ refuse BadLengths 0 (lengths N t) (text_end text (follow t text (frames N) start))

@@ -23,8 +23,7 @@ use Rattle.model.specs.Refusal.{refuse}
 use Rattle.model.specs.Read.{Frame, field, line_length, lines_from, last_line, numbers_in, tile_frames, tiles_of}
 use Rattle.lines_read.proofs.Tested.{line_of_digits}
 use Rattle.cursors.specs.declared.Cursor.{Cursor}
-use Rattle.cursors.specs.Steps.{Step}
-use Rattle.cursors.specs.Steps.{CursorFits}
+use Rattle.cursors.specs.Steps.{Step, CursorFits}
 use Rattle.frames_read.specs.Follow.{onward, follow, row_frames, text_end}
 use Rattle.frames_read.proofs.Rows.{follow_append, follow_placed}
 use Rattle.numbers_read.specs.Decoded.{line_at, tile_size, numbers_of, TileLine, TileLines, tiles_from}

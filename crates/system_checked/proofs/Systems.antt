@@ -4,9 +4,9 @@ use mathlib.Core.Path.{◌≡◌, refl, sym, ap, ◌∙◌}
 use mathlib.Core.Bool.{Bool, false}
 use mathlib.Core.List.{List, []}
 use lib.Ieee.{Float}
-use Rattle.std.specs.Prelude.{Ok}
-use Rattle.model.specs.Answer.{accepted, refused_by}
-use Rattle.model.specs.declared.Rule.{Rule}
+use Rattle.std.specs.Prelude.{Ok, Err}
+use Rattle.model.specs.Answer.{accepted}
+use Rattle.model.specs.declared.Refusal.{Refusal}
 use Rattle.model.specs.declared.Rule.TheVariants.{BadLengths}
 use Rattle.model.specs.declared.FileRead.TheVariants.{SystemRead}
 use Rattle.model.specs.Refusal.{refuse}
@@ -24,18 +24,18 @@ module _ (lengths : ℕ → ℕ → Bool) (limit : ℕ) (text : List ℕ) (m : L
   unfoldable pub reading : SystemReading
   reading = system_reading (file_answer limit system_frames lengths (lines_from [] text)) (lines_from [] text) m
 
-  pub refused : (n : Rule) (x : ℕ) → file_answer limit system_frames lengths (lines_from [] text) ≡ refused_by n x → record { answer = refused_by n x; matrix = m } ≡ reading
+  pub refused : (why : Refusal) → file_answer limit system_frames lengths (lines_from [] text) ≡ Err why → record { answer = Err why; matrix = m } ≡ reading
   unfolding reading system_reading
-  refused n x e = rw e
+  refused why e = rw e
 
   module _ (N t : ℕ) (h : Headed limit text N t) (l : lengths N t ≡ false) where
     pub by_frames : file_answer limit system_frames lengths (lines_from [] text) ≡ text_end text (follow t text (system_frames N) start)
     unfolding refuse
     by_frames = file_followed limit system_frames lengths text N t h ∙ ap (λ (b : Bool). refuse BadLengths 0 b (text_end text (follow t text (system_frames N) start))) l
 
-    pub accepted : text_end text (follow t text (system_frames N) start) ≡ accepted → record { answer = Ok (SystemRead N t); matrix = tiles_from (t * t) (N * N) 7 text } ≡ reading
+    pub accepted_lem : text_end text (follow t text (system_frames N) start) ≡ accepted → record { answer = Ok (SystemRead N t); matrix = tiles_from (t * t) (N * N) 7 text } ≡ reading
     unfolding reading system_reading system_frames
-    accepted e =
+    accepted_lem e =
         let z = to_end t text (tile_frames N) start e in
         let tiles = tiles_read t N text start z.end (start_placed text (facts h).long) z.followed in
         rw (by_frames ∙ e, (facts h).lines, ← h.tiles_told, ← h.side_told) (ap (λ (f : List Float). record { answer = Ok (SystemRead N t); matrix = f }) (sym tiles))
@@ -43,15 +43,15 @@ module _ (lengths : ℕ → ℕ → Bool) (limit : ℕ) (text : List ℕ) (m : L
 -- ---- checked alone
 
 module _ (limit : ℕ) (text : List ℕ) where
-  pub check_header_refused : (n : Rule) (x : ℕ) → header_answer limit text ≡ refused_by n x → refused_by n x ≡ checked_system limit text
+  pub check_header_refused : (why : Refusal) → header_answer limit text ≡ Err why → Err why ≡ checked_system limit text
   unfolding checked_system reading
-  check_header_refused n x e = ap (λ (r : SystemReading). r.answer) (refused (λ N t. false) limit text [] n x (file_refused limit system_frames (λ N t. false) text n x e))
+  check_header_refused why e = ap (λ (r : SystemReading). r.answer) (refused (λ N t. false) limit text [] why (file_refused limit system_frames (λ N t. false) text why e))
 
   module _ (N t : ℕ) (h : Headed limit text N t) where
-    pub check_refused : (n : Rule) (x : ℕ) → text_end text (follow t text (system_frames N) start) ≡ refused_by n x → refused_by n x ≡ checked_system limit text
+    pub check_refused : (why : Refusal) → text_end text (follow t text (system_frames N) start) ≡ Err why → Err why ≡ checked_system limit text
     unfolding checked_system reading
-    check_refused n x e = ap (λ (r : SystemReading). r.answer) (refused (λ N t. false) limit text [] n x (by_frames (λ N t. false) limit text [] N t h refl ∙ e))
+    check_refused why e = ap (λ (r : SystemReading). r.answer) (refused (λ N t. false) limit text [] why (by_frames (λ N t. false) limit text [] N t h refl ∙ e))
 
     pub check_accepted : text_end text (follow t text (system_frames N) start) ≡ accepted → Ok (SystemRead N t) ≡ checked_system limit text
     unfolding checked_system reading
-    check_accepted e = ap (λ (r : SystemReading). r.answer) (accepted (λ N t. false) limit text [] N t h refl e)
+    check_accepted e = ap (λ (r : SystemReading). r.answer) (accepted_lem (λ N t. false) limit text [] N t h refl e)

@@ -18,8 +18,7 @@ use Rattle.model.specs.Refusal.{refuse, inside}
 use Rattle.model.specs.Read.{Frame, kind_in, line_length, lines_from, not_digits, bad_content, bad_line, wrong_frame, not_finite_in, numbers_in, line_answer}
 use Rattle.lines_read.proofs.Tested.{length_above}
 use Rattle.cursors.specs.declared.Cursor.{Cursor}
-use Rattle.cursors.specs.Steps.{Step}
-use Rattle.cursors.specs.Steps.{step_of}
+use Rattle.cursors.specs.Steps.{Step, step_of}
 use Rattle.frames_read.specs.Follow.{onward, follow}
 use Rattle.frames_read.proofs.Lines.{whole_line}
 use Rattle.frames_read.proofs.Followed.{due_good}

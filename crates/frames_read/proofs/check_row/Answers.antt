@@ -3,6 +3,7 @@ use Prim.Native.Nat.{ℕ}
 use mathlib.Core.Path.{◌≡◌, sym, ap, ◌∙◌}
 use mathlib.Core.List.{List, map}
 use native.Mathlib.Omega.{arith}
+use Rattle.laws.proofs.Refusals.{passed_on}
 use Rattle.model.specs.Lists.{below, run}
 use Rattle.lines_read.specs.Line.{kind_number}
 use Rattle.lines_read.proofs.Runs.{up_to}
@@ -21,16 +22,16 @@ pub loop-j-init : goal.loop-j-init
 loop-j-init c =
     (c.requires.cursor_fits, whole _ _ _ _ _ _)
 
-pub returns-in-Stopped : goal.returns-in-Stopped
-returns-in-Stopped c =
+pub returns-in_err-here : goal.returns-in_err-here
+returns-in_err-here c =
     let l = c.loop-j in
-    row_stops _ _ c.args.count l.j l.here c.loop-j-test.true (frame (kind_number c.args.kind) c.args.i) l.invariant.1 c.check_line.ensures c.in-Stopped.is
+    passed_on _ _ _ c.from_residual.ensures.1 c.in_err-here.was ∙ row_stops _ _ c.args.count l.j l.here c.loop-j-test.true (frame (kind_number c.args.kind) c.args.i) l.invariant.1 c.check_line.ensures _ c.in_err-here.was
 
 pub loop-j-preserved : goal.loop-j-preserved
 loop-j-preserved c =
     let l = c.loop-j in (
-      step_placed _ _ _ _ _ l.invariant.0 (sym c.check_line.ensures ∙ c.in-Next.is),
-      row_goes_on _ _ c.args.count l.j l.here c.loop-j-test.true (frame (kind_number c.args.kind) c.args.i) l.invariant.1 c.check_line.ensures c.in-Next.is,
+      step_placed _ _ _ _ _ l.invariant.0 (sym c.check_line.ensures ∙ c.in_ok-here.was),
+      row_goes_on _ _ c.args.count l.j l.here c.loop-j-test.true (frame (kind_number c.args.kind) c.args.i) l.invariant.1 c.check_line.ensures c.in_ok-here.was,
     )
 
 pub returns : goal.returns

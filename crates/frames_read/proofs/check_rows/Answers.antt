@@ -3,6 +3,7 @@ use Prim.Native.Nat.{ℕ}
 use mathlib.Core.Path.{◌≡◌, sym, ap, ◌∙◌}
 use mathlib.Core.List.{List, map}
 use native.Mathlib.Omega.{arith}
+use Rattle.laws.proofs.Refusals.{passed_on}
 use Rattle.model.specs.Lists.{below, run, joined}
 use Rattle.model.specs.Read.{Frame}
 use Rattle.lines_read.specs.Line.{kind_number}
@@ -21,20 +22,20 @@ pub loop-i-init : goal.loop-i-init
 loop-i-init g c =
     (c.requires.1.0, whole _ _ _ _ _)
 
-pub returns-in-Stopped : goal.returns-in-Stopped
-returns-in-Stopped g c =
+pub returns-in_err-here : goal.returns-in_err-here
+returns-in_err-here g c =
     let l = c.loop-i in
     let k = kind_number c.args.kind in
     let e = c.check_row.ensures ∙ ap (λ (n : ℕ). follow c.args.t c.args.text.now (row_frames k n l.i) l.here) (c.requires.1.1.1.1 l.i _ c.width.ensures) in
-    rows_stop _ _ c.args.tiles l.i l.here c.loop-i-test.true (row k g.widths) l.invariant.1 e c.in-Stopped.is
+    passed_on _ _ _ c.from_residual.ensures.1 c.in_err-here.was ∙ rows_stop _ _ c.args.tiles l.i l.here c.loop-i-test.true (row k g.widths) l.invariant.1 e _ c.in_err-here.was
 
 pub loop-i-preserved : goal.loop-i-preserved
 loop-i-preserved g c =
     let l = c.loop-i in
     let k = kind_number c.args.kind in
     let e = c.check_row.ensures ∙ ap (λ (n : ℕ). follow c.args.t c.args.text.now (row_frames k n l.i) l.here) (c.requires.1.1.1.1 l.i _ c.width.ensures) in (
-      follow_placed _ _ _ _ _ l.invariant.0 (sym c.check_row.ensures ∙ c.in-Next.is),
-      rows_go_on _ _ c.args.tiles l.i l.here c.loop-i-test.true (row k g.widths) l.invariant.1 e c.in-Next.is,
+      follow_placed _ _ _ _ _ l.invariant.0 (sym c.check_row.ensures ∙ c.in_ok-here.was),
+      rows_go_on _ _ c.args.tiles l.i l.here c.loop-i-test.true (row k g.widths) l.invariant.1 e c.in_ok-here.was,
     )
 
 pub returns : goal.returns

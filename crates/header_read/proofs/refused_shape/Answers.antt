@@ -5,14 +5,6 @@ use native.Mathlib.Omega.{arith}
 use Rattle.laws.proofs.Refusals.{shape_range}
 use Rattle.header_read.proofs.refused_shape.Goals as goal
 
-pub returns-then-bad_shape : goal.returns-then-bad_shape
-returns-then-bad_shape c =
-    rw (sym c.bad_shape.ensures ∙ c.if-bad_shape.true)
-
 pub overflow_mul-result : goal.overflow_mul-result
 overflow_mul-result c =
     let (n, s) = shape_range _ _ (sym c.bad_shape.ensures ∙ c.if-bad_shape.false) in omega (arith, mul-le-mul n.1 s.1)
-
-pub returns : goal.returns
-returns c =
-    rw (sym c.bad_shape.ensures ∙ c.if-bad_shape.false)

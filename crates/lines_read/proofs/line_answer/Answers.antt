@@ -1,6 +1,7 @@
 -- `lines_read::line_answer` meets its contract: the three refusals in turn. Assumes nothing.
-use mathlib.Core.Path.{sym, ◌∙◌}
+use mathlib.Core.Path.{sym, ap, ◌∙◌}
 use native.Mathlib.Omega.{arith}
+use Rattle.std.specs.Prelude.{Err}
 use Rattle.lines_read.specs.Line.{kind_number}
 use Rattle.lines_read.proofs.Tested.{line_of_digits, length_above, well_formed, answer_12, answer_13, answer_3, answer_accepted}
 use Rattle.lines_read.proofs.line_answer.Goals as goal
@@ -11,7 +12,7 @@ is_malformed-requires-clause-in_bounds c =
 
 pub returns-then-is_malformed : goal.returns-then-is_malformed
 returns-then-is_malformed c =
-    answer_12 _ _ _ _ c.requires.line_len (sym c.is_malformed.ensures ∙ c.if-is_malformed.true)
+    ap Err c.at.ensures ∙ answer_12 _ _ _ _ c.requires.line_len (sym c.is_malformed.ensures ∙ c.if-is_malformed.true)
 
 pub wrong_frame-requires : goal.wrong_frame-requires
 wrong_frame-requires c =
@@ -19,7 +20,7 @@ wrong_frame-requires c =
 
 pub returns-then-wrong_frame : goal.returns-then-wrong_frame
 returns-then-wrong_frame c =
-    answer_13 _ _ _ _ c.requires.line_len (sym c.is_malformed.ensures ∙ c.if-is_malformed.false) (sym c.wrong_frame.ensures ∙ c.if-wrong_frame.true)
+    ap Err c.at-then-wrong_frame.ensures ∙ answer_13 _ _ _ _ c.requires.line_len (sym c.is_malformed.ensures ∙ c.if-is_malformed.false) (sym c.wrong_frame.ensures ∙ c.if-wrong_frame.true)
 
 pub not_finite-requires-clause-line_of_digits : goal.not_finite-requires-clause-line_of_digits
 not_finite-requires-clause-line_of_digits c =
@@ -27,7 +28,7 @@ not_finite-requires-clause-line_of_digits c =
 
 pub returns-then-not_finite : goal.returns-then-not_finite
 returns-then-not_finite c =
-    answer_3 _ _ _ _ c.requires.line_len (sym c.is_malformed.ensures ∙ c.if-is_malformed.false) (sym c.wrong_frame.ensures ∙ c.if-wrong_frame.false) (sym c.not_finite.ensures ∙ c.if-not_finite.true)
+    ap Err c.at-then-not_finite.ensures ∙ answer_3 _ _ _ _ c.requires.line_len (sym c.is_malformed.ensures ∙ c.if-is_malformed.false) (sym c.wrong_frame.ensures ∙ c.if-wrong_frame.false) (sym c.not_finite.ensures ∙ c.if-not_finite.true)
 
 pub returns : goal.returns
 returns c =

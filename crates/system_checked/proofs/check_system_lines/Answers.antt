@@ -2,12 +2,7 @@
 use mathlib.Core.Path.{ap, ◌∙◌}
 use Rattle.model.specs.Read.{system_frames}
 use Rattle.frames_read.specs.Follow.{text_end}
-use Rattle.system_checked.proofs.Headers.{start_placed}
 use Rattle.system_checked.proofs.check_system_lines.Goals as goal
-
-pub check_tiles-requires : goal.check_tiles-requires
-check_tiles-requires c =
-    record { cursor_fits = start_placed c.args.text.now c.requires.0; t_le_most_side = c.requires.1 }
 
 pub returns : goal.returns
 unfolding system_frames

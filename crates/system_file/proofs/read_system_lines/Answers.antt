@@ -2,10 +2,10 @@
 use mathlib.Core.Path.{sym, ◌∙◌}
 use native.Mathlib.Nat.{mul-le-mul}
 use native.Mathlib.Omega.{arith}
+use Rattle.laws.proofs.Refusals.{passed_on}
 use Rattle.system_checked.proofs.Headers.{facts}
 use Rattle.system_file.proofs.Systems.{length_refused, lines_refused, system_read, system_lines}
 use Rattle.system_file.proofs.read_system_lines.Goals as goal
-use Rattle.std.specs.Prelude.{Ok, Err}
 
 pub overflow_mul-order : goal.overflow_mul-order
 overflow_mul-order c =
@@ -17,7 +17,7 @@ overflow_mul-order-2 c =
 
 pub returns-then-matrix-order : goal.returns-then-matrix-order
 returns-then-matrix-order c =
-    length_refused _ _ _ _ c.requires c.if-matrix-order.true
+    rw c.at.ensures (length_refused _ _ _ _ c.requires c.if-matrix-order.true)
 
 pub check_system_lines-requires : goal.check_system_lines-requires
 check_system_lines-requires c =
@@ -33,12 +33,13 @@ overflow_mul-tiles c =
 
 pub load_tiles-requires : goal.load_tiles-requires
 load_tiles-requires c =
-    let f = facts c.requires in record { tile_lines = system_lines _ _ _ c.requires (sym c.check_system_lines.ensures ∙ c.in-Ok.is); matrix_len = omega (arith, c.if-matrix-order.false); s_bound = (mul-le-mul f.side.1 f.side.1, mul-le-mul f.tiles.1 f.tiles.1) }
+    let f = facts c.requires in record { tile_lines = system_lines _ _ _ c.requires (sym c.check_system_lines.ensures ∙ c.in_ok-check_system_lines.was); matrix_len = omega (arith, c.if-matrix-order.false); s_bound = (mul-le-mul f.side.1 f.side.1, mul-le-mul f.tiles.1 f.tiles.1) }
 
-pub returns-in-Err : goal.returns-in-Err
-returns-in-Err c =
-    lines_refused _ _ _ _ c.requires c.if-matrix-order.false _ _ (sym c.check_system_lines.ensures ∙ c.in-Err.is)
+pub returns-in_err-check_system_lines : goal.returns-in_err-check_system_lines
+returns-in_err-check_system_lines c =
+    rw (passed_on _ _ _ c.from_residual.ensures.1 c.in_err-check_system_lines.was)
+    (lines_refused _ _ _ _ c.requires c.if-matrix-order.false _ (sym c.check_system_lines.ensures ∙ c.in_err-check_system_lines.was))
 
-pub returns-in-Ok : goal.returns-in-Ok
-returns-in-Ok c =
-    system_read _ _ _ _ c.requires c.if-matrix-order.false _ (sym c.check_system_lines.ensures ∙ c.in-Ok.is) c.load_tiles.ensures
+pub returns : goal.returns
+returns c =
+    system_read _ _ _ _ c.requires c.if-matrix-order.false _ (sym c.check_system_lines.ensures ∙ c.in_ok-check_system_lines.was) c.load_tiles.ensures
