@@ -10,6 +10,7 @@ ghost use Rattle.model.specs.Loops.{failed_tasks, zero_rows, outcome as outcome_
 ghost use Rattle.records.specs.Records.{marks_from, ties_from};
 ghost use Rattle.checks.specs.Checks.{Sized};
 
+use marks::FAILED;
 use model::{Outcome, Sizes};
 use records::{Record, mark_of};
 
@@ -18,7 +19,7 @@ fn first_failed(records: &[Record]) -> Option<usize>
     ensures { result ≡ first_or (failed_tasks (marks_from records.now)) Some None }
 {
     for p in 0..records.len() {
-        if mark_of(records, p) == 3 {
+        if mark_of(records, p) == FAILED {
             return Some(p);
         }
     }

@@ -11,6 +11,7 @@ ghost use Rattle.checks.specs.Checks.{Sized, Inside, task_from};
 use fills::fill_part;
 use model::{Sizes, TaskRecord};
 use places::{list_start, tile_start};
+use steps::{Step, step_of};
 use upper_fills::fill_upper;
 
 // Fills tile (i,j).
@@ -49,21 +50,18 @@ pub fn fill_task(z: Sizes, matrix: &mut [f64], lists: &mut [u8], task: TaskRecor
     ensures { record { matrix = matrix.new; lists = lists.new }
         ≡ filled (plan_of z) (task_from task) (record { matrix = matrix.old; lists = lists.old }) }
 {
-    let k = usize::from(task.k);
-    let i = usize::from(task.i);
-    let j = usize::from(task.j);
-    match task.kind {
-        1 => {
+    match step_of(task) {
+        Step::Factor { k } => {
             fill_tile(z, matrix, k, k);
             fill_list(z, lists, k, k);
         }
-        2 => fill_tile(z, matrix, k, j),
-        3 => {
+        Step::Apply { k, j } => fill_tile(z, matrix, k, j),
+        Step::Couple { k, i } => {
             fill_tile(z, matrix, i, k);
             fill_upper_part(z, matrix, k);
             fill_list(z, lists, i, k);
         }
-        _ => {
+        Step::Pair { k, i, j } => {
             fill_tile(z, matrix, i, j);
             fill_tile(z, matrix, k, j);
         }
