@@ -2,13 +2,12 @@
 use Prim.Native.Nat.{ℕ, ◌+◌, ◌-◌, ◌≤◌, ◌<◌}
 use mathlib.Core.Bool.{Bool, false}
 use mathlib.Core.List.{List}
-use mathlib.Core.Path.{◌≡◌, refl, sym, ap, ◌∙◌, subst}
+use mathlib.Core.Path.{◌≡◌, refl, sym, ap, ◌∙◌}
 use native.Mathlib.Omega.{arith}
 use lib.ListN.{length, get_or}
 use Rattle.model.specs.declared.TaskRecord.{TaskRecord}
 use Rattle.model.specs.Task.{Task, tasks, k_of, j_of}
 use Rattle.model.specs.Links.{task, mark, finished, ready}
-use Rattle.laws.proofs.Tests.{Order, less, equal, more, order}
 use Rattle.links.specs.Closed.{Key, key_of, key_at}
 use Rattle.links.proofs.Order.{key_at_lem, Within, within_1, within_2, within_3, within_4}
 use Rattle.links.proofs.Summary.{number_back, fields_within, row_fits, row_waits}
@@ -26,9 +25,6 @@ first N t (within_3 k i h l) e = (refl, refl)
 first N t (within_4 k i j h l g m) e = absurd (omega arith)
 
 module _ (n p : ℕ) (records : List (List ℕ)) (h : Recorded n records p) where
-  pub none_passed : NoneBetween n records p (p + 1)
-  none_passed = record { onward = omega arith; none = λ q a b. absurd (omega arith); within = omega (arith, h.long, h.below) }
-
   -- r is record p, and has no j
   module _ (r : TaskRecord) (hr : r ≡ get_or (records_from records) p blank) (z : r.j ≡ 0) where
     abbrev a : Key
@@ -54,16 +50,3 @@ module _ (n p : ℕ) (records : List (List ℕ)) (h : Recorded n records p) wher
 
         none : (q : ℕ) → p < q → q < p + (n - r.k) → ready (tasks n) (marks_from records) q ≡ false
         none q = let (v, s) = number_back n p h.below in let (k, f) = first_here in rw (s, k) at (row_waits n (marks_from records) a v f (rw s unfinished) q)
-
--- where none below p is ready, nor p, nor any task between p and r, none below r is
-module _ (n p r : ℕ) (records : List (List ℕ)) where
-  abbrev Not : ℕ → Type 0
-  Not q = ready (tasks n) (marks_from records) q ≡ false
-
-  pub passed_over : ((q : ℕ) → q < p → Not q) → Not p → NoneBetween n records p r → (q : ℕ) → q < r → Not q
-  passed_over below here between q l = go (order q p)
-    where
-      go : Order q p → Not q
-      go (less h) = below q h
-      go (equal e) = subst Not (sym e) here
-      go (more h) = between.none q h l

@@ -11,7 +11,7 @@ ghost use Rattle.next_task.specs.NextTask.{NoneBelow, LowestReady, NoneBetween};
 use marks::is_finished;
 use readiness::is_ready;
 use record_changes::take_record;
-use records::Record;
+use records::{Record, record_at};
 use worker::Worker;
 
 // The next task after p that may be ready: while the first task of a row hasn't finished, no other of the row is. The first, T-1 or T-3, has no j.
@@ -19,11 +19,9 @@ fn candidate_after(n: usize, records: &[Record], p: usize) -> usize
     requires { Recorded n records.now p }
     ensures { NoneBetween n records.now p result }
 {
-    let r = records::record_at(records, p);
-    if r.j == 0 {
-        if !is_finished(r.mark) {
-            return p + (n - r.k as usize);
-        }
+    let r = record_at(records, p);
+    if r.j == 0 && !is_finished(r.mark) {
+        return p + (n - r.k as usize);
     }
     p + 1
 }
@@ -34,6 +32,7 @@ pub fn lowest_ready(n: usize, records: &[Record], from: usize) -> usize
     ensures { LowestReady n records.now result }
 {
     let mut p = from;
+    // No `for`: how far the next candidate is differs from task to task.
     while p < records.len() {
         if is_ready(n, records, p) {
             return p;
@@ -59,11 +58,5 @@ pub fn search_start(from: usize, busy: bool, p: usize) -> usize
     requires { p < 65536 }
     ensures { result ≡ cond busy from (min from (suc p)) }
 {
-    if busy {
-        return from;
-    }
-    if p < from {
-        return p + 1;
-    }
-    from
+    if busy { from } else { from.min(p + 1) }
 }

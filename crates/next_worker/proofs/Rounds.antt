@@ -1,23 +1,15 @@
--- Counting workers round, and the next busy one. Assumes nothing.
-use Prim.Native.Nat.{ℕ, suc, ◌+◌, ◌-◌, ◌%◌, ◌≤◌, ◌<◌}
+-- The next busy worker, counting round. Assumes nothing.
+use Prim.Native.Nat.{ℕ, ◌+◌, ◌-◌, ◌%◌, ◌≤◌, ◌<◌}
 use mathlib.Core.Bool.{true, false}
 use mathlib.Core.Path.{◌≡◌, sym, ap, ◌∙◌, subst}
 use mathlib.Core.Logic.{⊎_elim}
 use mathlib.Core.List.{List}
-use native.Mathlib.Nat.{mod-eq_of_lt, mod_self, add-mod_right}
+use native.Mathlib.Nat.{mod-eq_of_lt, add-mod_right}
 use native.Mathlib.Omega.{arith}
 use lib.ListN.{get_or}
 use Rattle.worker.specs.declared.Worker.{Worker}
 use Rattle.worker.specs.Holding.{idle}
 use Rattle.laws.proofs.Tests.{lt_or_le}
-
--- ---- the worker after v
-
-pub after_inside : (W v : ℕ) → v + 1 < W → v + 1 ≡ suc v % W
-after_inside W v h = let e : v + 1 ≡ suc v = omega arith in e ∙ sym (mod-eq_of_lt (subst (λ (k : ℕ). k < W) e h))
-
-pub after_last : (W v : ℕ) → v < W → W ≤ v + 1 → 0 ≡ suc v % W
-after_last W v h l = let e : suc v ≡ W = omega arith in sym (ap (λ (k : ℕ). k % W) e ∙ mod_self W)
 
 -- ---- the next busy worker
 

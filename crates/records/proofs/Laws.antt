@@ -11,11 +11,11 @@ use Rattle.worker.specs.declared.Worker.{Worker}
 use Rattle.worker.specs.declared.Workers.{Workers}
 use Rattle.worker.specs.contracts.Workers as Ws
 use Rattle.worker.specs.Holding.{idle}
-use Rattle.model.specs.Lists.{below, table, some, keep}
+use Rattle.model.specs.Lists.{below, table, keep}
 use Rattle.model.specs.Links.{mark}
 use Rattle.model.specs.Calls.{marks_of, ties_of}
 use Rattle.laws.proofs.Blocks.{length_table, get_or_table}
-use Rattle.laws.proofs.Searches.{some_map, keep_map, by_places}
+use Rattle.laws.proofs.Searches.{keep_map, by_places}
 use Rattle.records.specs.Records.{record_from, records_from, marks_from, ties_from, blank, crew, lent}
 
 pub length_records : (l : List (List ℕ)) → length (records_from l) ≡ length l
@@ -63,10 +63,6 @@ module _ (slots : List Worker) (W : ℕ) where
   -- beyond the workers there is none, and it reads as idle
   pub no_worker_lem : (w : ℕ) → W ≤ w → get_or (crew slots W) w idle ≡ idle
   no_worker_lem w h = get_or-eq_default (crew slots W) idle (omega (arith, length_crew))
-
-  pub some_worker : (p : Worker → Bool) → some p (crew slots W) ≡ some (λ w. p (get_or slots w idle)) (below W)
-  unfolding crew table
-  some_worker p = some_map (λ w. get_or slots w idle) p (below W)
 
   pub keep_workers : (p : Worker → Bool) → length (keep p (crew slots W)) ≡ length (keep (λ w. p (get_or slots w idle)) (below W))
   unfolding crew table

@@ -1,6 +1,6 @@
 -- Nothing is passed over but the rest of a row whose first task hasn't finished. Assumes nothing.
 use native.Mathlib.Omega.{arith}
-use Rattle.next_task.proofs.Passed.{none_passed, row_ends, row_passed}
+use Rattle.next_task.proofs.Passed.{row_ends, row_passed}
 use Rattle.next_task.proofs.candidate_after.Goals as goal
 
 pub overflow_sub-result : goal.overflow_sub-result
@@ -11,7 +11,3 @@ pub returns-then-not-is_finished : goal.returns-then-not-is_finished
 returns-then-not-is_finished c =
     row_passed _ _ _ c.requires _ c.record_at-r.ensures
     c.if-r-eq0.true _ c.is_finished.ensures c.if-not-is_finished.true
-
-pub returns : goal.returns
-returns c =
-    none_passed _ _ _ c.requires
