@@ -10,8 +10,7 @@ use Rattle.std.specs.Prelude.{Ok, Err}
 use Rattle.model.specs.Answer.{Answer, accepted}
 use Rattle.model.specs.Read.{Frame, line_length, line_answer}
 use Rattle.cursors.specs.declared.Cursor.{Cursor}
-use Rattle.cursors.specs.Steps.{Step}
-use Rattle.cursors.specs.Steps.{landed, step_of}
+use Rattle.cursors.specs.Steps.{Step, landed, step_of}
 use Rattle.frames_read.specs.Follow.{onward, follow}
 use Rattle.cursors.proofs.Steps.{stepped}
 use Rattle.frames_read.proofs.Followed.{due_good}

@@ -13,8 +13,8 @@ use borrow.Author.Tests.{lt-ltb, ltb-false}
 use Rattle.laws.proofs.Tests.{lt_or_le, or_false_right}
 use Rattle.laws.proofs.Texts.{length_tile_frames}
 use Rattle.std.specs.Prelude.{Ok, Err}
-use Rattle.model.specs.Answer.{Answer, refused_by}
-use Rattle.model.specs.declared.Rule.{Rule}
+use Rattle.model.specs.Answer.{Answer, refusal, refused_by, rule_number}
+use Rattle.model.specs.declared.Refusal.{Refusal}
 use Rattle.model.specs.declared.Rule.TheVariants.{BadSizes, Malformed, WrongFrame, WrongEnd}
 use Rattle.model.specs.Refusal.{refuse}
 use Rattle.model.specs.Text.{bad_shape, refusal_frame}
@@ -63,20 +63,20 @@ limits {text} {N} {t} h =
 abbrev answer_of : List ℕ → Answer
 answer_of text = file_answer 48 system_frames (λ N t. false) (lines_from [] text)
 
-prints_refusal : (text : List ℕ) (n : Rule) (x : ℕ) → answer_of text ≡ refused_by n x → program text ≡ refusal_frame n x
+prints_refusal : (text : List ℕ) (why : Refusal) → answer_of text ≡ Err why → program text ≡ refusal_frame (rule_number why.rule) why.place
 unfolding program printed
-prints_refusal text n x e = ap (λ (a : Answer). printed a (lines_from [] text)) e
+prints_refusal text why e = ap (λ (a : Answer). printed a (lines_from [] text)) e
 
-both_refused : (text other : List ℕ) (n : Rule) (x : ℕ) → answer_of text ≡ refused_by n x → answer_of other ≡ refused_by n x → program text ≡ program other
-both_refused text other n x a b = prints_refusal text n x a ∙ sym (prints_refusal other n x b)
+both_refused : (text other : List ℕ) (why : Refusal) → answer_of text ≡ Err why → answer_of other ≡ Err why → program text ≡ program other
+both_refused text other why a b = prints_refusal text why a ∙ sym (prints_refusal other why b)
 
 -- ---- a refused header
 
-pub seven_decide : (text front : List ℕ) (n : Rule) (x : ℕ) → take 7 text ≡ take 7 front → header_answer 48 front ≡ refused_by n x → program (take 7 text) ≡ program text
-seven_decide text front n x e r =
+pub seven_decide : (text front : List ℕ) (why : Refusal) → take 7 text ≡ take 7 front → header_answer 48 front ≡ Err why → program (take 7 text) ≡ program text
+seven_decide text front why e r =
     let all = same_header 48 text front e ∙ r in
     let seven = same_header 48 (take 7 text) front (take-take 7 7 text (omega arith) ∙ e) ∙ r in
-    both_refused (take 7 text) text n x (file_refused 48 system_frames (λ N t. false) (take 7 text) n x seven) (file_refused 48 system_frames (λ N t. false) text n x all)
+    both_refused (take 7 text) text why (file_refused 48 system_frames (λ N t. false) (take 7 text) why seven) (file_refused 48 system_frames (λ N t. false) text why all)
 
 -- ---- an accepted header
 
@@ -103,9 +103,9 @@ module _ (N t : ℕ) (text : List ℕ) (headed : Headed 48 text N t) (long : sys
   unfolding text_end refuse
   more_behind k d h = rw (lt-ltb d.at (length k) h)
 
-  stops : (k : List ℕ) (n : Rule) (x : ℕ) → text_end k (refused_by n x) ≡ refused_by n x
+  stops : (k : List ℕ) (why : Refusal) → text_end k (Err why) ≡ Err why
   unfolding text_end
-  stops k n x = refl
+  stops k why = refl
 
   pub cut_decides : program short ≡ program text
   unfolding system_frames line_length
@@ -115,13 +115,13 @@ module _ (N t : ℕ) (text : List ℕ) (headed : Headed 48 text N t) (long : sys
       go (Ok d) q =
           let at-is = tiles_end t N text start d (start_placed text (facts headed).long) q in
           let below : d.at < L = omega (arith, at-is, tiles_size N t) in
-          both_refused short text 14 d.line
+          both_refused short text (refusal WrongEnd d.line)
           (by_frames short short_headed ∙ ap (text_end short) (alike ∙ q) ∙ more_behind short d (omega (arith, length-take-le L text long)))
           (by_frames text headed ∙ ap (text_end text) q ∙ more_behind text d (omega arith))
       go (Err why) q =
-          both_refused short text n x
-          (by_frames short short_headed ∙ ap (text_end short) (alike ∙ q) ∙ stops short n x)
-          (by_frames text headed ∙ ap (text_end text) q ∙ stops text n x)
+          both_refused short text why
+          (by_frames short short_headed ∙ ap (text_end short) (alike ∙ q) ∙ stops short why)
+          (by_frames text headed ∙ ap (text_end text) q ∙ stops text why)
 
 pub due_decides : (N t : ℕ) (text front : List ℕ) → take 7 text ≡ take 7 front → Headed 48 front N t → program (take (system_due N t) text) ≡ program text
 due_decides N t text front e h = go (lt_or_le (length text) (system_due N t))

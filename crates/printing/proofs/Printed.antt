@@ -6,7 +6,7 @@ use native.Mathlib.Omega.{arith}
 use lib.Dec.{ltb}
 use lib.ListN.{length, drop, length-append}
 use Rattle.std.specs.Prelude.{Ok, Err}
-use Rattle.model.specs.Answer.{Answer, WriteAnswer, accepted, refused_by}
+use Rattle.model.specs.Answer.{Answer, WriteAnswer, accepted}
 use Rattle.model.specs.declared.Rule.TheVariants.{NoRoom}
 use Rattle.model.specs.Refusal.{refuse}
 use Rattle.model.specs.Text.{Writing, writing}
@@ -24,6 +24,6 @@ printed_within text out out' r k e q = go (refuse NoRoom 0 (ltb (length out) (le
         let c : out' ≡ program text ++ drop (length (program text)) out = ap (λ (w : Writing). w.left) e in
         rw (b, c, length-append) (omega arith)
     go (Err why) e =
-        let a : r ≡ refused_by n x = ap (λ (w : Writing). w.answer) e in
+        let a : r ≡ Err why = ap (λ (w : Writing). w.answer) e in
         let z : ◌≡◌ {A = ℕ} 0 1 = cc in
         absurd (omega arith)

@@ -2,9 +2,9 @@
 use Rattle.std.proofs.Common.{◌≡◌, ℕ, ◌≤◌, List, ◌++◌, length, take, drop, sym, ap, ◌∙◌, arith}
 use lib.Seq.{take-append_seam}
 use Rattle.std.proofs.lemmas.Bool.{le-ltb}
-use Rattle.std.specs.Prelude.{Ok}
-use Rattle.model.specs.Answer.{WriteAnswer, accepted, refused_by}
-use Rattle.model.specs.declared.Rule.{Rule}
+use Rattle.std.specs.Prelude.{Ok, Err}
+use Rattle.model.specs.Answer.{WriteAnswer, accepted}
+use Rattle.model.specs.declared.Refusal.{Refusal}
 use Rattle.model.specs.declared.Rule.TheVariants.{NoRoom}
 use Rattle.model.specs.Refusal.{refuse, ◌otherwise◌}
 use Rattle.model.specs.Text.{Writing, writing}
@@ -23,8 +23,8 @@ module _ (text out out' : List ℕ) (r : WriteAnswer) (e : record { answer = r; 
       let c : out' ≡ program text ++ drop (length (program text)) out = ap (λ (w : Writing). w.left) whole in
       ap (λ n. take n out') b ∙ ap (take (length (program text))) c ∙ take-append_seam (program text) _
 
-  pub never_refused : {A : Type 0} (n : Rule) (x : ℕ) → r ≡ refused_by n x → A
-  never_refused n x q =
+  pub never_refused : {A : Type 0} (why : Refusal) → r ≡ Err why → A
+  never_refused why q =
       let a : r ≡ Ok (length (program text)) = ap (λ (w : Writing). w.answer) whole in
       let z : ◌≡◌ {A = ℕ} 0 1 = cc in
       absurd (omega arith)

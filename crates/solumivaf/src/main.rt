@@ -9,17 +9,9 @@ ghost use Rattle.model.specs.Read.{program};
 ghost use Rattle.solumivaf.specs.Input.{Decides, Filled, QuietWhereUnread, Took, Within};
 
 use input_due::bytes_due;
-use model::WriteAnswer;
 use printing::print_result;
 use std::io::{ErrorKind, Read, Write};
 use std::{io, str};
-
-// What was read: how many bytes, or why a read failed.
-#[derive(Clone, Copy)]
-pub enum Input {
-    Bytes(usize),
-    Lost(io::Error),
-}
 
 // Why no result, or not all of one, was printed: a read or a write failed.
 #[derive(Clone, Copy)]
@@ -30,68 +22,48 @@ pub enum Failure {
 
 // One read, of at least a byte unless the input ends. A read that a signal interrupts is tried again; a proved loop ends, so this one counts its
 // turns, up to more than a run can use up.
-fn read_some<R: Read>(from: &mut R, part: &mut [u8]) -> Input
+fn read_some<R: Read>(from: &mut R, part: &mut [u8]) -> io::Result<usize>
     ensures within { Within (length part.old) result }
     ensures bytes { Took (R.remaining from.old) (R.remaining from.new) part.new result }
 {
     for _ in 0..u64::MAX {
         match from.read(part) {
-            Ok(n) => {
-                return Input::Bytes(n);
-            }
-            Err(why) => {
-                if why.kind() != ErrorKind::Interrupted {
-                    return Input::Lost(why);
-                }
-            }
+            Err(why) if why.kind() == ErrorKind::Interrupted => {}
+            read => return read,
         }
     }
-    Input::Lost(io::Error::from(ErrorKind::Interrupted))
+    Err(io::Error::from(ErrorKind::Interrupted))
 }
 
-// Reads until the part is full or the input ends.
-#[tactic(auto, using(crate::proofs::Inputs::bytes_within))]
-fn read_full<R: Read>(from: &mut R, part: &mut [u8]) -> Input
+// Reads until the part is full or the input ends: a turn goes on by as many bytes as were read.
+fn read_full<R: Read>(from: &mut R, part: &mut [u8]) -> io::Result<usize>
     ensures within { Within (length part.new) result }
     ensures bytes { Filled (R.remaining from.old) (R.remaining from.new) part.new result }
 {
     let mut done = 0;
     while done < part.len() {
-        match read_some(from, &mut part[done..]) {
-            Input::Bytes(n) => {
-                if n == 0 {
-                    return Input::Bytes(done);
-                }
-                done += n;
-            }
-            Input::Lost(why) => {
-                return Input::Lost(why);
-            }
+        let n = read_some(from, &mut part[done..])?;
+        if n == 0 {
+            return Ok(done);
         }
+        done += n;
     }
-    Input::Bytes(done)
+    Ok(done)
 }
 
 // Reads the input as far as it decides what is printed.
-#[tactic(auto, using(crate::proofs::Inputs::bytes_within))]
-fn read_due<R: Read>(from: &mut R, buffer: &mut [u8]) -> Input
+fn read_due<R: Read>(from: &mut R, buffer: &mut [u8]) -> io::Result<usize>
     requires { 38664 ≤ length buffer.old }
     ensures within { Within (length buffer.old) result }
     ensures decides { Decides (R.remaining from.old) buffer.new result }
 {
-    match read_full(from, &mut buffer[..7]) {
-        Input::Bytes(front) => {
-            if front < 7 {
-                return Input::Bytes(front);
-            }
-            let due = bytes_due(&buffer[..7]);
-            match read_full(from, &mut buffer[7..due]) {
-                Input::Bytes(n) => Input::Bytes(7 + n),
-                Input::Lost(why) => Input::Lost(why),
-            }
-        }
-        Input::Lost(why) => Input::Lost(why),
+    let front = read_full(from, &mut buffer[..7])?;
+    if front < 7 {
+        return Ok(front);
     }
+    let due = bytes_due(&buffer[..7]);
+    let n = read_full(from, &mut buffer[7..due])?;
+    Ok(7 + n)
 }
 
 // One write, of at least a byte unless it fails, tried again like a read.
@@ -101,20 +73,14 @@ fn write_some<W: Write>(to: &mut W, part: &[u8]) -> io::Result<usize>
 {
     for _ in 0..u64::MAX {
         match to.write(part) {
-            Ok(n) => {
-                return Ok(n);
-            }
-            Err(why) => {
-                if why.kind() != ErrorKind::Interrupted {
-                    return Err(why);
-                }
-            }
+            Err(why) if why.kind() == ErrorKind::Interrupted => {}
+            put => return put,
         }
     }
     Err(io::Error::from(ErrorKind::Interrupted))
 }
 
-// Writes all of the text, or tells why it could not.
+// Writes all of the text, or tells why it could not: a turn goes on by as many bytes as were written.
 fn write_full<W: Write>(to: &mut W, text: &[u8]) -> io::Result<()>
     ensures { OnOk result (Appends (W.contents to.old) (W.contents to.new) text.now) }
 {
@@ -137,24 +103,18 @@ fn print<W: Write>(to: &mut W, text: &[u8]) -> io::Result<()>
     match print_result(text, &mut output) {
         Ok(k) => write_full(to, &output[..k]),
         // Never: the buffer has room for all that is printed.
-        WriteAnswer::WriteRefused(_, _) => Ok(()),
+        Err(_) => Ok(()),
     }
 }
 
 // Reads a text as far as is due, and prints what it gives.
-#[tactic(auto, using(crate::proofs::Inputs::bytes_within))]
 pub fn answer<R: Read, W: Write>(from: &mut R, to: &mut W) -> Result<(), Failure>
     ensures printed { OnOk result (IfSome (R.remaining from.old) (λ text. Appends (W.contents to.old) (W.contents to.new) (program text))) }
     ensures quiet { IfErr result (QuietWhereUnread (W.contents to.old) (W.contents to.new)) }
 {
     let mut input = [0; 65536];
-    match read_due(from, &mut input) {
-        Input::Bytes(n) => match print(to, &input[..n]) {
-            Ok(()) => Ok(()),
-            Err(why) => Err(Failure::Incomplete(why)),
-        },
-        Input::Lost(why) => Err(Failure::Unread(why)),
-    }
+    let n = read_due(from, &mut input).map_err(Failure::Unread)?;
+    print(to, &input[..n]).map_err(Failure::Incomplete)
 }
 
 // Says in one line on standard error what went wrong, and why in the system's words, without the number that the system gives it.

@@ -14,7 +14,6 @@ use Rattle.laws.proofs.Every.{every_both}
 use Rattle.laws.proofs.Texts.{length_tile_frames}
 use Rattle.std.specs.Prelude.{Ok, Err}
 use Rattle.model.specs.Answer.{Answer, accepted}
-use Rattle.header_read.specs.Heads.{shape}
 use Rattle.model.specs.declared.Rule.TheVariants.{BadSizes, BadLengths, NotFinite, Malformed, WrongFrame}
 use Rattle.model.specs.declared.FileRead.TheVariants.{SystemRead}
 use Rattle.model.specs.Lists.{every, joined}
@@ -56,7 +55,7 @@ pub record Checked (text : List ℕ) (N t : ℕ) : Type 0 where
 abbrev pub answer_in : List (List ℕ) → Answer
 answer_in ls = file_answer 48 system_frames (λ N t. false) ls
 
-module _ (text h : List ℕ) (ls : List (List ℕ)) (lines : lines_from [] text ≡ h ∷ ls) (accepted : answer_in (h ∷ ls) ≡ accepted) where
+module _ (text h : List ℕ) (ls : List (List ℕ)) (lines : lines_from [] text ≡ h ∷ ls) (good : answer_in (h ∷ ls) ≡ accepted) where
   abbrev N : ℕ
   N = tiles_in h
 
@@ -73,7 +72,7 @@ module _ (text h : List ℕ) (ls : List (List ℕ)) (lines : lines_from [] text 
   all_passed : Passed
   unfolding file_answer
   all_passed =
-      let p = passed Malformed 1 (bad_line 0 1 h) _ accepted in
+      let p = passed Malformed 1 (bad_line 0 1 h) _ good in
       let q = passed WrongFrame 1 (not (eqb (kind_in h) 1)) _ p.1 in
       let r = passed BadSizes 1 (bad_shape N t || ltb 48 (N * t)) _ q.1 in
       let s = or_false (bad_shape N t) (ltb 48 (N * t)) r.0 in
@@ -95,7 +94,7 @@ module _ (text h : List ℕ) (ls : List (List ℕ)) (lines : lines_from [] text 
     small = all_passed.small;
     numbers = tiles_of N t ls;
     finite_all = rw (length_tile_frames N) at (finite_tiles t 2 (tile_frames N) ls (tiles_kind N) all_passed.behind);
-    prints = ap (λ (ks : List (List ℕ)). printed (answer_in ks) ks) lines ∙ ap (λ (a : Answer). printed a (h ∷ ls)) accepted;
+    prints = ap (λ (ks : List (List ℕ)). printed (answer_in ks) ks) lines ∙ ap (λ (a : Answer). printed a (h ∷ ls)) good;
     reads = λ m e.
         ap (λ (ks : List (List ℕ)). system_reading (file_answer no_limit system_frames (λ N t. bad_matrix N t m) ks) ks m) lines
         ∙ ap (λ (a : Answer). system_reading a (h ∷ ls) m) (accepted_lent m e);

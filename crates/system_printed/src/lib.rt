@@ -1,7 +1,7 @@
 // What the program prints for a checked system: the result of one worker's whole run.
 #![tactic(auto)]
 
-ghost use Rattle.std.specs.Prelude.{◌≡◌, ◌≤◌, length};
+ghost use Rattle.std.specs.Prelude.{◌≡◌, ◌≤◌, Ok, length};
 ghost use Rattle.model.specs.Plan.{sizes};
 ghost use Rattle.model.specs.Lengths.{LentFits};
 ghost use Rattle.model.specs.Limits.{program_order, most_tasks};
@@ -51,7 +51,7 @@ fn print_worked(
     records: &mut [Record],
     out: &mut [u8],
 ) -> WriteAnswer
-    requires side_value { SystemRead tiles side ≡ checked_system program_order text.now }
+    requires side_value { Ok (SystemRead tiles side) ≡ checked_system program_order text.now }
     requires lent_fits { LentFits (sizes tiles side 1) matrix.old lists.old records.old }
     ensures out_after { record { answer = result; left = out.new } ≡ print_result text.now out.old }
     ensures text_len_bound { length (program text.now) ≤ 65536 }
@@ -63,7 +63,7 @@ fn print_worked(
 
 // Prints the result of a checked system.
 pub fn print_system(text: &[u8], tiles: usize, side: usize, out: &mut [u8]) -> WriteAnswer
-    requires { SystemRead tiles side ≡ checked_system program_order text.now }
+    requires { Ok (SystemRead tiles side) ≡ checked_system program_order text.now }
     ensures out_after { record { answer = result; left = out.new } ≡ print_result text.now out.old }
     ensures text_len_bound { length (program text.now) ≤ 65536 }
 {

@@ -5,7 +5,6 @@ use Rattle.system_checked.proofs.Headers.{shape_read, refusal_read}
 use Rattle.input_due.specs.Due.{due_behind, bytes_due}
 use Rattle.input_due.proofs.Decided.{limits, seven_decide, due_decides}
 use Rattle.input_due.proofs.bytes_due.Goals as goal
-use Rattle.std.specs.Prelude.{Ok, Err}
 
 pub overflow_mul-result : goal.overflow_mul-result
 overflow_mul-result c =
@@ -42,5 +41,5 @@ pub returns-in-Err : goal.returns-in-Err
 unfolding bytes_due
 returns-in-Err c =
     let e = sym c.check_header.ensures ∙ c.in-Err.is in
-    let r = refusal_read _ _ _ _ _ c.check_header.ensures c.in-Err.is in
-    record { value = sym (ap due_behind e); by_index = (λ text same. seven_decide text _ _ _ same r); lower_bound = (omega arith, omega arith) }
+    let r = refusal_read _ _ _ _ c.check_header.ensures c.in-Err.is in
+    record { value = sym (ap due_behind e); by_index = (λ text same. seven_decide text _ _ same r); lower_bound = (omega arith, omega arith) }

@@ -1,9 +1,8 @@
 -- `printing::print_result` meets its contract. Assumes nothing.
-use mathlib.Core.Path.{sym, ◌∙◌}
+use mathlib.Core.Path.{sym, ap, ◌∙◌}
+use Prim.Native.Nat.{ℕ}
 use Rattle.printing.proofs.Refused.{no_result, refusal_printed, refusal_short}
 use Rattle.printing.proofs.print_result.Goals as goal
-use Rattle.std.specs.Prelude.{Err}
-use Rattle.model.specs.declared.FileRead.TheVariants.{SystemRead, ResultRead}
 
 pub print_system-requires : goal.print_system-requires
 print_system-requires c =
@@ -12,7 +11,7 @@ print_system-requires c =
 pub returns-in-Err : goal.returns-in-Err
 returns-in-Err c =
     let e = sym c.in-Err.is ∙ c.check_system.ensures in
-    record { out_after = c.write_refusal.ensures ∙ refusal_printed _ _ _ _ e; text_len_bound = refusal_short _ _ _ e }
+    record { out_after = c.write_refusal.ensures ∙ refusal_printed _ _ e _; text_len_bound = refusal_short _ _ e }
 
 pub returns-in-ResultRead : goal.returns-in-ResultRead
 returns-in-ResultRead c =
