@@ -17,17 +17,17 @@ pub loop-p-init : goal.loop-p-init
 loop-p-init c =
     first_begins _ _
 
-pub returns-then-mark_of-FAILED : goal.returns-then-mark_of-FAILED
+pub returns-then-mark_of-eq-FAILED : goal.returns-then-mark_of-eq-FAILED
 unfolding failed_tasks
-returns-then-mark_of-FAILED c =
+returns-then-mark_of-eq-FAILED c =
     first_stops _ _ _ _ c.loop-p.invariant c.loop-p-test.true
-    (ap (λ (x : ℕ). eqb x failed) (sym c.mark_of.ensures) ∙ eq-eqb _ 3 c.if-mark_of-FAILED.true)
+    (ap (λ (x : ℕ). eqb x failed) (sym c.mark_of.ensures) ∙ eq-eqb _ 3 c.if-mark_of-eq-FAILED.true)
     ∙ ap (λ (k : ℕ). first_or (keep (λ q. eqb (mark (marks_from c.args.records.now) q) failed) (below k)) Some None) (sym (length_marks c.args.records.now))
 
 pub loop-p-preserved : goal.loop-p-preserved
 loop-p-preserved c =
     first_goes_on _ _ _ _ c.loop-p.invariant c.loop-p-test.true
-    (ap (λ (x : ℕ). eqb x failed) (sym c.mark_of.ensures) ∙ ne_eqb _ 3 c.if-mark_of-FAILED.false)
+    (ap (λ (x : ℕ). eqb x failed) (sym c.mark_of.ensures) ∙ ne_eqb _ 3 c.if-mark_of-eq-FAILED.false)
 
 pub returns : goal.returns
 unfolding failed_tasks
