@@ -47,7 +47,7 @@ use Rattle.task_columns.specs.Due.{ColumnDue}
 use Rattle.advancing.specs.Advancing.{Advanced}
 use Rattle.advancing.proofs.Laws.{due, state_after}
 use Rattle.turns_from.specs.Underway.{Underway}
-use Rattle.next_worker.proofs.Rounds.{NextBusy, busy_after}
+use Rattle.turns_from.specs.NextBusy.{NextBusy, busy_after}
 use Rattle.next_worker.proofs.Steps.{takes, works, passes, over, finishes, ends}
 
 pub record Going (z : Sizes) (budget : ℕ) (all : RunEnd) (ws₀ : List Worker) (m : List Float) (l : List ℕ) (r : List (List ℕ)) (ws : List Worker) (number n w from : ℕ) : Type 0 where
@@ -55,10 +55,16 @@ pub record Going (z : Sizes) (budget : ℕ) (all : RunEnd) (ws₀ : List Worker)
   pub none : NoneReady (tasks z.tiles) (marks_from r) from
   pub reached : from ≤ length r
   pub slots : length ws ≡ 32
+  pub few : z.workers ≤ 32
   pub turn_of : w < z.workers
   pub within : n ≤ budget
   pub left_to_do : run_from (plan_of z) z.workers (budget - n) n w (lent m l r ws z.workers number) ≡ all
   pub others : drop z.workers ws ≡ drop z.workers ws₀
+
+-- and worker w is busy
+pub record OnTurn (z : Sizes) (budget : ℕ) (all : RunEnd) (ws₀ : List Worker) (m : List Float) (l : List ℕ) (r : List (List ℕ)) (ws : List Worker) (number n w from : ℕ) : Type 0 where
+  pub going : Going z budget all ws₀ m l r ws number n w from
+  pub busy : (get_or ws w idle).busy ≡ true
 
 -- ---- lengths
 
@@ -141,6 +147,9 @@ module _ {z : Sizes} {budget : ℕ} {all : RunEnd} {ws₀ : List Worker} {m : Li
   stored : (h : Worker) → crew (set ws w h) W ≡ set (crew ws W) w h
   stored h = crew_set ws W w h long g.turn_of
 
+  pub keep_turn : (get_or ws w idle).busy ≡ true → (w' f' : ℕ) → w' ≡ w → f' ≡ from → OnTurn z budget all ws₀ m l r ws number n w' f'
+  keep_turn b w' f' e f = rw (e, f) (record { going = g; busy = b })
+
   -- ---- an idle worker takes a task
 
   pub few_records : length r ≤ 1496
@@ -180,6 +189,7 @@ module _ {z : Sizes} {budget : ℕ} {all : RunEnd} {ws₀ : List Worker} {m : Li
               (none_after_take (tasks z.tiles) (marks_from r) p (subst (λ (x : ℕ). p < x) (sym (length_marks r)) hp) low.none));
           reached = omega arith;
           slots = length-set ws w h ∙ g.slots;
+          few = g.few;
           turn_of = subst (λ (x : ℕ). x < W) (sym f) (mod-lt (suc w) (omega (arith, g.turn_of)));
           within = omega arith;
           left_to_do = onward z budget n w u (suc w % W) s _ _ _ hn t f
@@ -204,12 +214,19 @@ module _ {z : Sizes} {budget : ℕ} {all : RunEnd} {ws₀ : List Worker} {m : Li
             none = low.none;
             reached = low.within;
             slots = g.slots;
+            few = g.few;
             turn_of = inside d;
             within = g.within;
             left_to_do = passes z s g.whole no_task (budget - n) n w d h (as_lent ((w + d) % W) true (inside d) b) (inside d)
                 (λ k j. as_lent ((w + k) % W) false (inside k) (before k j)) ∙ g.left_to_do;
             others = g.others;
           }
+
+      pub pass_turn : (v : ℕ) → NextBusy ws W w v → (w' f' : ℕ) → w' ≡ v → f' ≡ p → OnTurn z budget all ws₀ m l r ws number n w' f'
+      pass_turn v q w' f' e f = rw (e, f) (record { going = pass_goes v q; busy = busy_next q })
+        where
+          busy_next : {x : ℕ} → NextBusy ws W w x → (get_or ws x idle).busy ≡ true
+          busy_next (busy_after d h b before) = b
 
       -- ---- or the run is over
 
@@ -301,6 +318,7 @@ module _ {z : Sizes} {budget : ℕ} {all : RunEnd} {ws₀ : List Worker} {m : Li
             none = x.1;
             reached = omega (arith, x.0, g.reached, records_long z m l r ws number g.whole, records_long z m' l' r' (set ws w k) (number + 1) i);
             slots = length-set ws w k ∙ g.slots;
+            few = g.few;
             turn_of = subst (λ (x : ℕ). x < W) (sym q) (mod-lt (suc w) (omega (arith, g.turn_of)));
             within = omega arith;
             left_to_do = onward z budget n w u (suc w % W) s _ _ _ hn advanced_is q (λ b. works z s g.whole b n w g.turn_of busy_now) g.left_to_do;
@@ -309,12 +327,13 @@ module _ {z : Sizes} {budget : ℕ} {all : RunEnd} {ws₀ : List Worker} {m : Li
 
   -- ---- the budget is spent
 
-  pub run_ends : budget ≤ n → (a : RunAnswer) → a ≡ cond (every finished (marks_from r)) (Ok (Finished n)) (Ok (Spent n))
+  pub run_ends : budget ≤ n → (a : RunAnswer) → a ≡ cond (every finished (marks_from r)) (Ok (Finished budget)) (Ok (Spent budget))
       → ◌≡◌ {A = RunEnd} (record { answer = a; left = s }) all
   unfolding all_finished
   run_ends h a e =
       let k : 0 ≡ budget - n = omega arith in
-      (λ i. record { answer = e i; left = s })
+      let q : budget ≡ n = omega (arith, g.within) in
+      (λ i. record { answer = (rw q at e) i; left = s })
       ∙ sym (ends z s n w (every finished (marks_from r)) (ap (every finished) (sym (marks_lent m l r ws W number))))
       ∙ ap (λ (x : ℕ). run_from (plan_of z) W x n w s) k ∙ g.left_to_do
 
@@ -337,13 +356,14 @@ starts z budget m l r ws n w from h d = record {
   none = d.none;
   reached = d.reached;
   slots = h;
+  few = (sized z (whole_then z m l r ws d.accepted).fit).few_workers;
   turn_of = d.turn_of;
   within = d.within;
   left_to_do = refl;
   others = refl;
 }
 
--- ---- lengths stay, and the loop ends: with each call the budget left gets smaller, and a turn that passes goes from an idle worker to a busy one
+-- ---- lengths stay
 
 module _ {z : Sizes} {budget : ℕ} {all : RunEnd} (m₀ : List Float) (l₀ : List ℕ) (r₀ : List (List ℕ)) (ws₀ : Workers) (a : run_answer z (all_lent m₀ l₀ r₀ ws₀) ≡ accepted)
     {m : List Float} {l : List ℕ} {r : List (List ℕ)} {ws : List Worker} {number n w from : ℕ}
@@ -370,19 +390,3 @@ module _ {z : Sizes} {budget : ℕ} {all : RunEnd} (m₀ : List Float) (l₀ : L
     same_count = refl;
     same_slots = subst (λ (k : ℕ). drop k ws ≡ drop k ws₀.slots) (sym (counted z m₀ l₀ r₀ ws₀ a)) g.others;
   }
-
--- the turns left at most
-unfoldable pub turns_left : ℕ → ℕ → List Worker → ℕ → ℕ
-turns_left budget n ws w = 2 * (budget - n) + cond (get_or ws w idle).busy 0 1
-
-few : (b : Bool) → cond b 0 1 ≤ 1
-few true = omega arith
-few false = omega arith
-
-pub call_less : (budget n w u : ℕ) (ws ws' : List Worker) → n < budget → turns_left budget (n + 1) ws' u < turns_left budget n ws w
-unfolding turns_left
-call_less budget n w u ws ws' h = omega (arith, few (get_or ws' u idle).busy)
-
-pub pass_less : (budget n w v : ℕ) (ws : List Worker) → (get_or ws w idle).busy ≡ false → (get_or ws v idle).busy ≡ true → turns_left budget n ws v < turns_left budget n ws w
-unfolding turns_left
-pass_less budget n w v ws e f = rw (e, f) (omega arith)

@@ -1,1 +1,2 @@
+pub mod NextBusy
 pub mod Underway

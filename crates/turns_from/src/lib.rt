@@ -1,7 +1,10 @@
 // The turns of a run, from any of them on.
 #![tactic(auto)]
 
-ghost use Rattle.std.specs.Prelude.{◌≡◌, ◌-◌};
+ghost use Rattle.std.specs.Prelude.{◌≡◌, ◌-◌, ℕ, ◌≤◌, ◌<◌, get_or, false, MatchOption, IfSome};
+ghost use Rattle.worker.specs.Holding.{idle};
+ghost use Rattle.model.specs.Limits.{most_workers};
+ghost use Rattle.turns_from.specs.NextBusy.{NextBusy};
 ghost use Rattle.model.specs.Plan.{plan_of};
 ghost use Rattle.model.specs.Calls.{run_from};
 ghost use Rattle.records.specs.Records.{all_lent, OthersKept};
@@ -13,10 +16,21 @@ use next_task::{lowest_ready, search_start, take_task};
 use next_worker::worker_after;
 use records::Record;
 use unfinished::answer_after;
-use worker::{Worker, Workers};
+use worker::{Slots, Workers};
+
+// The next busy worker from w on, counting `count` workers round.
+fn next_busy(workers: &Slots, count: usize, w: usize) -> Option<usize>
+    requires { (w < count) × (count ≤ most_workers) }
+    ensures next { MatchOption result ((v : ℕ) → v < count → (get_or workers.now v idle).busy ≡ false) (NextBusy workers.now count w) }
+    ensures within { IfSome result (λ v. v < count) }
+{
+    let mut round = workers[w..count].iter().chain(workers[..w].iter());
+    let d = round.position(|h| h.busy)?;
+    Some((w + d) % count)
+}
 
 // Workers take turns until every task is finished or the budget is spent, once `made` calls are made and the turn is worker `turn`'s. `number` is the run's number. Below `low`,
-// and then below `from`, no task is ready, so a search begins there. The search for the next busy worker stands here, since a call would copy all workers.
+// and then below `from`, no task is ready, so a search begins there.
 pub fn turns_from(
     z: Sizes,
     matrix: &mut [f64],
@@ -37,62 +51,39 @@ pub fn turns_from(
 {
     let mut left = workers.slots;
     let mut number = workers.number;
-    let mut n = made;
     let mut w = turn;
     let mut from = low;
-    'turns: while n < budget {
-        let h = left[w];
-        if h.busy {
-            number += 1;
-            let g = advance(z, matrix, lists, records, h, w, number);
-            left[w] = Worker {
-                busy: g.busy,
-                task: g.task,
-                column: g.column,
+    for n in made..budget {
+        if !left[w].busy {
+            from = lowest_ready(z.tiles, records, from);
+            if from < records.len() {
+                number += 1;
+                left[w] = take_task(records, left[w], from, number);
+                from += 1;
+                w = worker_after(z.workers, w);
+                continue;
+            }
+            let Some(v) = next_busy(&left, z.workers, w) else {
+                return CallReply {
+                    answer: Ok(RunStop::Finished(n)),
+                    workers: Workers {
+                        slots: left,
+                        count: workers.count,
+                        number,
+                    },
+                };
             };
-            from = search_start(from, g.busy, h.task as usize);
-            n += 1;
-            w = worker_after(z.workers, w);
-            continue;
+            w = v;
         }
-        from = lowest_ready(z.tiles, records, from);
-        if from < records.len() {
-            number += 1;
-            left[w] = take_task(records, h, from, number);
-            from += 1;
-            n += 1;
-            w = worker_after(z.workers, w);
-            continue;
-        }
-        let mut v = w;
-        while v < z.workers {
-            let g = left[v];
-            if g.busy {
-                w = v;
-                continue 'turns;
-            }
-            v += 1;
-        }
-        let mut u = 0;
-        while u < w {
-            let g = left[u];
-            if g.busy {
-                w = u;
-                continue 'turns;
-            }
-            u += 1;
-        }
-        return CallReply {
-            answer: Ok(RunStop::Finished(n)),
-            workers: Workers {
-                slots: left,
-                count: workers.count,
-                number,
-            },
-        };
+        let h = left[w];
+        number += 1;
+        let g = advance(z, matrix, lists, records, h, w, number);
+        left[w] = g;
+        from = search_start(from, g.busy, h.task as usize);
+        w = worker_after(z.workers, w);
     }
     CallReply {
-        answer: answer_after(records, n),
+        answer: answer_after(records, budget),
         workers: Workers {
             slots: left,
             count: workers.count,
