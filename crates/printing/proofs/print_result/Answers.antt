@@ -6,10 +6,6 @@ use Rattle.refusal_written.specs.Refusal.{write_refusal}
 use Rattle.printing.proofs.Refused.{no_result, refusal_printed, refusal_short}
 use Rattle.printing.proofs.print_result.Goals as goal
 
-pub print_system-requires : goal.print_system-requires
-print_system-requires c =
-    sym (c.in-Ok-SystemRead.is ∙ ap Ok c.in-Ok-SystemRead.field-0-is) ∙ c.check_system.ensures
-
 pub returns-in-Err : goal.returns-in-Err
 returns-in-Err c =
     let e = sym c.in-Err.is ∙ c.check_system.ensures in
