@@ -28,39 +28,35 @@ task_count-count-requires c =
 
 pub slice_bounds-numbers-end : goal.slice_bounds-numbers-end
 slice_bounds-numbers-end c =
-    let s = small_sizes (checked _ _ _ c.requires) in omega (arith, c.blank_numbers-numbers.ensures)
+    let s = small_sizes (checked _ _ _ c.requires) in s.size
 
 pub slice_bounds-print_worked-end : goal.slice_bounds-print_worked-end
 slice_bounds-print_worked-end c =
-    let s = small_sizes (checked _ _ _ c.requires) in sym (length-take-le _ _ (omega (arith, c.blank_numbers-numbers.ensures)))
+    let s = small_sizes (checked _ _ _ c.requires) in sym (length-take-le _ _ (omega arith))
 
 pub slice_bounds-entries-end : goal.slice_bounds-entries-end
 slice_bounds-entries-end c =
-    let s = small_sizes (checked _ _ _ c.requires) in omega (arith, c.blank_entries-entries.ensures)
+    let s = small_sizes (checked _ _ _ c.requires) in s.listed
 
 pub slice_bounds-print_worked-end-2 : goal.slice_bounds-print_worked-end-2
 slice_bounds-print_worked-end-2 c =
-    let s = small_sizes (checked _ _ _ c.requires) in sym (length-take-le _ _ (omega (arith, c.blank_entries-entries.ensures)))
+    let s = small_sizes (checked _ _ _ c.requires) in sym (length-take-le _ _ (omega arith))
 
 pub slice_bounds-records-end : goal.slice_bounds-records-end
 slice_bounds-records-end c =
-    let s = small_sizes (checked _ _ _ c.requires) in let k = few_tasks _ s.tiles.1 in omega (arith, c.blank_records-records.ensures, c.task_count-count.ensures)
+    let s = small_sizes (checked _ _ _ c.requires) in let k = few_tasks _ s.tiles.1 in omega (arith, c.task_count-count.ensures)
 
 pub slice_bounds-print_worked-end-3 : goal.slice_bounds-print_worked-end-3
 slice_bounds-print_worked-end-3 c =
-    let s = small_sizes (checked _ _ _ c.requires) in let k = few_tasks _ s.tiles.1 in sym (length-take-le _ _ (omega (arith, c.blank_records-records.ensures, c.task_count-count.ensures)))
+    let s = small_sizes (checked _ _ _ c.requires) in let k = few_tasks _ s.tiles.1 in sym (length-take-le _ _ (omega (arith, c.task_count-count.ensures)))
 
-pub print_worked-requires : goal.print_worked-requires
-print_worked-requires c =
-    let p = c.requires in
-    let s = small_sizes (checked _ _ _ p) in
+pub print_worked-requires-clause-lent_fits : goal.print_worked-requires-clause-lent_fits
+print_worked-requires-clause-lent_fits c =
+    let s = small_sizes (checked _ _ _ c.requires) in
     let k = few_tasks _ s.tiles.1 in record {
-      side_value = p;
-      lent_fits = record {
-        buffers = record {
-          matrix_fits = length-take-le _ _ (omega (arith, c.blank_numbers-numbers.ensures));
-          lists_fit = length-take-le _ _ (omega (arith, c.blank_entries-entries.ensures));
-        };
-        records_fit = length-take-le _ _ (omega (arith, c.blank_records-records.ensures, c.task_count-count.ensures)) ∙ c.task_count-count.ensures;
+      buffers = record {
+        matrix_fits = length-take-le _ _ (omega arith);
+        lists_fit = length-take-le _ _ (omega arith);
       };
+      records_fit = length-take-le _ _ (omega (arith, c.task_count-count.ensures)) ∙ c.task_count-count.ensures;
     }
