@@ -56,7 +56,7 @@ pub fn advance_worker(
     slots[w] = advance(z, matrix, lists, records, h, w, number);
     Workers {
         slots,
-        count: workers.count,
         number,
+        ..workers
     }
 }

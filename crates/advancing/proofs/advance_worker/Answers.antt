@@ -9,14 +9,6 @@ use Rattle.call_laws.proofs.Undamaged.{number_small}
 use Rattle.advancing.proofs.Laws.{due, state_after, recounted}
 use Rattle.advancing.proofs.advance_worker.Goals as goal
 
-pub offset_bounds-slots-w : goal.offset_bounds-slots-w
-offset_bounds-slots-w c =
-    let p = c.requires in omega (arith, p.0.exists, p.0.sound.sizes.few_workers)
-
-pub bounds-slots-w : goal.bounds-slots-w
-bounds-slots-w c =
-    let p = c.requires in omega (arith, p.0.exists, p.0.sound.sizes.few_workers)
-
 pub overflow_add-number : goal.overflow_add-number
 overflow_add-number c =
     omega (arith, number_small c.args.z _ _ _ c.args.workers.slots c.args.workers.number c.requires.0.sound.sizes c.requires.0.sound.undamaged)
@@ -24,14 +16,6 @@ overflow_add-number c =
 pub advance-requires : goal.advance-requires
 advance-requires c =
     (due _ _ _ _ _ c.args.workers.slots c.args.workers.number c.requires.0, omega (arith, c.requires.0.exists, c.requires.0.sound.sizes.few_workers))
-
-pub offset_bounds-slots-w-2 : goal.offset_bounds-slots-w-2
-offset_bounds-slots-w-2 c =
-    let p = c.requires in omega (arith, p.0.exists, p.0.sound.sizes.few_workers)
-
-pub bounds-slots-w-2 : goal.bounds-slots-w-2
-bounds-slots-w-2 c =
-    let p = c.requires in omega (arith, p.0.exists, p.0.sound.sizes.few_workers)
 
 pub returns : goal.returns
 returns c =
