@@ -4,7 +4,6 @@ use Rattle.std.specs.Io.KnownBytes.{Appends}
 use Rattle.printing.proofs.Printed.{printed_within}
 use Rattle.printing.proofs.Whole.{text_printed, never_refused}
 use Rattle.solumivaf.proofs.print.Goals as goal
-use Rattle.std.specs.Prelude.{Ok, Err}
 
 pub slice_bounds-output-end : goal.slice_bounds-output-end
 slice_bounds-output-end g c =
@@ -20,4 +19,4 @@ returns-in-Ok g c =
 
 pub returns-in-Err : goal.returns-in-Err
 returns-in-Err g c =
-    never_refused _ _ _ _ c.print_result.ensures.out_after (search rules) _ _ c.in-Err.is
+    never_refused _ _ _ _ c.print_result.ensures.out_after (search rules) _ c.in-Err.is

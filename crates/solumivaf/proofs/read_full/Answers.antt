@@ -5,4 +5,4 @@ use Rattle.solumivaf.proofs.read_full.Goals as goal
 
 pub loop-done-preserved : goal.loop-done-preserved
 loop-done-preserved g c =
-    (search rules, reads_on _ _ _ _ _ _ _ _ c.loop-done.invariant.0 (search rules) c.loop-done.invariant.1 c.in-Bytes.ensures.bytes.0)
+    (search rules, reads_on _ _ _ _ _ _ _ _ c.loop-done.invariant.0 (search rules) c.loop-done.invariant.1 c.in_ok-n.ensures.bytes.0)
