@@ -5,7 +5,7 @@ ghost use Rattle.std.specs.Prelude.{◌≡◌, ◌+◌, ◌<◌, length, get_or,
 ghost use Rattle.model.specs.Calls.{with_take, with_column, changed};
 ghost use Rattle.records.specs.Records.{records_from, ties_from};
 
-use marks::is_finished;
+use marks::{TAKEN, is_finished};
 use model::TaskRecord;
 use records::{Record, record_at};
 
@@ -49,7 +49,7 @@ pub fn take_record(records: &mut [Record], p: usize, number: u32)
         records,
         p,
         TaskRecord {
-            mark: 1,
+            mark: TAKEN,
             took: number,
             ..task
         },

@@ -363,20 +363,11 @@ starts z budget m l r ws n w from h d = record {
   others = refl;
 }
 
--- ---- lengths stay
+-- ---- what is handed back
 
 module _ {z : Sizes} {budget : ℕ} {all : RunEnd} (m₀ : List Float) (l₀ : List ℕ) (r₀ : List (List ℕ)) (ws₀ : Workers) (a : run_answer z (all_lent m₀ l₀ r₀ ws₀) ≡ accepted)
     {m : List Float} {l : List ℕ} {r : List (List ℕ)} {ws : List Worker} {number n w from : ℕ}
     (g : Going z budget all ws₀.slots m l r ws number n w from) where
-  pub matrix_kept : length m ≡ length m₀
-  matrix_kept = matrix_long z m l r ws number g.whole ∙ sym (matrix_long z m₀ l₀ r₀ ws₀.slots ws₀.number (whole_then z m₀ l₀ r₀ ws₀ a))
-
-  pub lists_kept : length l ≡ length l₀
-  lists_kept = lists_long z m l r ws number g.whole ∙ sym (lists_long z m₀ l₀ r₀ ws₀.slots ws₀.number (whole_then z m₀ l₀ r₀ ws₀ a))
-
-  pub records_kept : length r ≡ length r₀
-  records_kept = records_long z m l r ws number g.whole ∙ sym (records_long z m₀ l₀ r₀ ws₀.slots ws₀.number (whole_then z m₀ l₀ r₀ ws₀ a))
-
   -- what is left, told by the count of the workers
   pub recounted : (b n₀ w₀ : ℕ) (x : RunAnswer)
       → ◌≡◌ {A = RunEnd} (record { answer = x; left = lent m l r ws z.workers number }) (run_from (plan_of z) z.workers b n₀ w₀ (lent m₀ l₀ r₀ ws₀.slots z.workers ws₀.number))
