@@ -23,7 +23,7 @@ fn read_full(from: &mut impl Read, text: &mut [u8]) -> usize
 }
 
 // Reads the script to text, and plays it.
-fn play_script(from: &mut impl Read, text: &mut [u8], out: &mut impl Write) -> io::Result<()> {
+fn play_script(from: &mut impl Read, text: &mut [u8], out: &mut impl Write) {
     let n = read_full(from, text);
     let rooms = Rooms {
         matrix: &mut room::<f64, 65600>(0.0),
@@ -32,10 +32,10 @@ fn play_script(from: &mut impl Read, text: &mut [u8], out: &mut impl Write) -> i
         right: &mut room::<f64, 300>(0.0),
         answers: &mut room::<f64, 300>(0.0),
     };
-    play::play(&text[..n], rooms, out)
+    play::play(&text[..n], rooms, out);
 }
 
 fn main(rt: HostRuntime) {
     let mut text = room::<u8, 3700000>(0);
-    let _ = play_script(&mut rt.stdin(), &mut text, &mut io::writer(&rt));
+    play_script(&mut rt.stdin(), &mut text, &mut io::writer(&rt));
 }

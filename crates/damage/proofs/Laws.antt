@@ -21,7 +21,7 @@ use Rattle.model.specs.Refusal.{next_column, bad_record, bad_hold, tie_limit, ba
 use Rattle.laws.proofs.Every.{get_d_any}
 use borrow.Author.Tests.{lt-ltb, le-ltb}
 use Rattle.laws.proofs.Tests.{never, or_false, false_or, some_either, same_or_not}
-use Rattle.std.specs.Prelude.{Some, None}
+use Rattle.std.specs.Prelude.{Ok, Err}
 use Rattle.holds.specs.declared.Limits.{Limits}
 use Rattle.holds.specs.Allowed.{Allowed}
 use Rattle.records.specs.Records.{records_from, ties_from, blank, crew, lent, four_bytes}
@@ -133,12 +133,12 @@ module _ (z : Sizes) (r : List (List ℕ)) (h : List Worker) (n : ℕ) where
       found_is = f ∙ get_d_any (records_from r) p blank (record_of (task (tasks z.tiles) p)) (rw length_records l)
 
   -- a taken task that is not held by one worker
-  pub not_held : (p : ℕ) → Allowed z r h p None → bad_hold (plan_of z) state p ≡ true
+  pub not_held : (p : ℕ) (m : Limits) → Allowed z r h p (Err m) → bad_hold (plan_of z) state p ≡ true
   unfolding bad_hold lent marks_of
-  not_held p a = sym a.as_marked
+  not_held p m a = sym a.as_marked
 
   -- by the limits of task p
-  module _ (p : ℕ) (m : Limits) (a : Allowed z r h p (Some m)) where
+  module _ (p : ℕ) (m : Limits) (a : Allowed z r h p (Ok m)) where
     hold_by : false ≡ bad_hold (plan_of z) state p
     unfolding bad_hold lent marks_of
     hold_by = a.as_marked
@@ -169,20 +169,20 @@ module _ (z : Sizes) (r : List (List ℕ)) (h : List Worker) (n : ℕ) where
       let y = calls_bad p long found f w over in
       λ q. x q || y q
 
-  inner_tested : (p : ℕ) (m : Limits) → Allowed z r h p (Some m) → (found : TaskRecord) → found ≡ get_or (records_from r) p blank → ltb m.ties found.ties ≡ inner p
+  inner_tested : (p : ℕ) (m : Limits) → Allowed z r h p (Ok m) → (found : TaskRecord) → found ≡ get_or (records_from r) p blank → ltb m.ties found.ties ≡ inner p
   inner_tested p m a found f =
       let x = hold_by p m a in
       let y = ties_by p m a found f in
       λ q. x q || y q
 
-  pub inner_above : (p : ℕ) (m : Limits) → Allowed z r h p (Some m) → (found : TaskRecord) → found ≡ get_or (records_from r) p blank → m.ties < found.ties → inner p ≡ true
+  pub inner_above : (p : ℕ) (m : Limits) → Allowed z r h p (Ok m) → (found : TaskRecord) → found ≡ get_or (records_from r) p blank → m.ties < found.ties → inner p ≡ true
   inner_above p m a found f l = sym (inner_tested p m a found f) ∙ lt-ltb m.ties found.ties l
 
-  pub inner_within : (p : ℕ) (m : Limits) → Allowed z r h p (Some m) → (found : TaskRecord) → found ≡ get_or (records_from r) p blank → found.ties ≤ m.ties → inner p ≡ false
+  pub inner_within : (p : ℕ) (m : Limits) → Allowed z r h p (Ok m) → (found : TaskRecord) → found ≡ get_or (records_from r) p blank → found.ties ≤ m.ties → inner p ≡ false
   inner_within p m a found f l = sym (inner_tested p m a found f) ∙ le-ltb m.ties found.ties l
 
-  pub inner_not_held : (p : ℕ) → Allowed z r h p None → inner p ≡ true
-  inner_not_held p a = rw (not_held p a)
+  pub inner_not_held : (p : ℕ) (m : Limits) → Allowed z r h p (Err m) → inner p ≡ true
+  inner_not_held p m a = rw (not_held p m a)
 
   pub bad_outer : (p : ℕ) → outer p ≡ true → bad p ≡ true
   bad_outer p e = first_bad (bad_record (plan_of z) state p) (bad_hold (plan_of z) state p) (bad_ties (plan_of z) state p) (bad_calls (plan_of z) state p) e

@@ -78,14 +78,14 @@ fn bad_records(z: Sizes, records: &[Record], workers: Slots, number: u32) -> boo
         }
         let taken = found.mark == TAKEN;
         let most = if taken {
-            let Some(held) = held_limits(z, workers, p) else {
+            let Ok(held) = held_limits(z, workers, p) else {
                 return true;
             };
             held
         } else {
             free_limits(z, found.mark)
         };
-        if most.ties < found.ties as usize {
+        if found.ties != 0 && most.ties < found.ties as usize {
             return true;
         }
         calls += most.calls;

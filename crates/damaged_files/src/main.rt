@@ -7,8 +7,9 @@ use script::{Fields, room};
 use std::io;
 use std::io::{ErrorKind, Read, Write};
 
-// Judges a text as a system, or as a result. What it is read as stays a code: it is tested here alone, and an enum would be made for this one test.
-fn judge_bytes(what: u8, text: &[u8], out: &mut impl Write) -> io::Result<()> {
+// The line for a text that is read as a system, or as a result, at the front of out; its length. What it is read as stays a code: it is tested here
+// alone, and an enum would be made for this one test.
+fn judge_bytes(what: u8, text: &[u8], out: &mut [u8]) -> usize {
     let mut numbers = room::<f64, 65536>(0.0);
     if what == 0 {
         return judge_system(text, &mut numbers, out);
@@ -32,7 +33,9 @@ fn judge_text(
         .ok_or(ErrorKind::InvalidInput)?;
     let _ = from.read_exact(line);
     decode(line, text);
-    judge_bytes(what, text, out)
+    let n = judge_bytes(what, text, digits);
+    let answer = digits.get(..n).ok_or(ErrorKind::InvalidInput)?;
+    out.write_all(answer)
 }
 
 // Judges the next line. An error at the end of the input.

@@ -18,9 +18,10 @@ fn check_row(text: &[u8], c: Cursor, t: usize, kind: Kind, i: usize, count: usiz
     requires t_le_most_side { t ≤ most_side }
     ensures { result ≡ follow t text.now (row_frames (kind_number kind) count i) c }
 {
+    let number = kind.number();
     let mut here = c;
     for j in 0..count {
-        here = check_line(text, here, t, Due { kind, i, j })?;
+        here = check_line(text, here, t, Due { kind: number, i, j })?;
     }
     Ok(here)
 }

@@ -6,9 +6,8 @@ use mathlib.Core.List.{List, []}
 use native.Mathlib.Omega.{arith}
 use lib.Dec.{eqb}
 use lib.ListN.{length}
-use Rattle.std.specs.Prelude.{Some}
+use Rattle.std.specs.Prelude.{Ok, Err}
 use Rattle.std.proofs.lemmas.Bool.Decides.{nat_tests}
-use Rattle.std.specs.Bool.{then_some}
 use borrow.Author.Tests.{ne_eqb}
 use Rattle.model.specs.declared.Sizes.{Sizes}
 use Rattle.worker.specs.declared.Worker.{Worker}
@@ -39,24 +38,29 @@ module _ (z : Sizes) (r : List (List ℕ)) (h : List Worker) (p m : ℕ) (e : m 
   unfolding call_limit next_column lent marks_of marks_from plan
   calls_by = ap (λ (k : ℕ). cond (finished k) (suc z.side) (cond (eqb k taken) (suc (next_column (held [] h W) p)) 0)) (sym e)
 
-  -- its limits where b tells that it is held as its mark says
-  pub allowed_where : (b : Bool) (l : Limits) → not b ≡ bad_hold (plan_of z) (held r h W) p → Limited z r h p l → Allowed z r h p (then_some b l)
-  allowed_where true l q k = record { as_marked = q; limits = k }
-  allowed_where false l q k = record { as_marked = q; limits = tt }
-
 -- a taken task, which n workers hold, with c the sum of their columns
-pub allowed_held : (z : Sizes) (r : List (List ℕ)) (h : List Worker) (p : ℕ) → taken ≡ mark (marks_from r) p
-    → (n c : ℕ) → n ≡ length (keep (holds p) (crew h z.workers)) → c ≡ next_column (held [] h z.workers) p → c ≤ 8160
-    → Allowed z r h p (then_some (eqb n 1) (record { ties = z.side * c; calls = 1 + c }))
-unfolding finished
-allowed_held z r h p e n c f g l =
-    allowed_where z r h p 1 e (eqb n 1) _
-    (sym (hold_by z r h p 1 e ∙ ap (λ (k : ℕ). not (eqb k 1)) (sym f)))
-    (record {
-      ties = sym (ties_by z r h p 1 e ∙ ap (λ (k : ℕ). z.side * k) (sym g));
-      calls = sym (calls_by z r h p 1 e ∙ ap suc (sym g) ∙ omega arith);
-      few = omega arith;
-    })
+module _ (z : Sizes) (r : List (List ℕ)) (h : List Worker) (p : ℕ) (e : taken ≡ mark (marks_from r) p)
+    (n c : ℕ) (f : n ≡ length (keep (holds p) (crew h z.workers))) (g : c ≡ next_column (held [] h z.workers) p) (l : c ≤ 8160) where
+  abbrev by_columns : Limits
+  by_columns = record { ties = z.side * c; calls = 1 + c }
+
+  held_as : (b : Bool) → eqb n 1 ≡ b → not b ≡ bad_hold (plan_of z) (held r h z.workers) p
+  unfolding finished
+  held_as b t = sym (hold_by z r h p 1 e ∙ ap (λ (k : ℕ). not (eqb k 1)) (sym f) ∙ ap not t)
+
+  by_columns_limits : Limited z r h p by_columns
+  unfolding finished
+  by_columns_limits = record {
+    ties = sym (ties_by z r h p 1 e ∙ ap (λ (k : ℕ). z.side * k) (sym g));
+    calls = sym (calls_by z r h p 1 e ∙ ap suc (sym g) ∙ omega arith);
+    few = omega arith;
+  }
+
+  pub held_by_one : n ≡ 1 → Allowed z r h p (Ok by_columns)
+  held_by_one t = record { as_marked = held_as true (ap (λ (k : ℕ). eqb k 1) t); limits = by_columns_limits }
+
+  pub not_by_one : (n ≡ 1 → ⊥) → Allowed z r h p (Err by_columns)
+  not_by_one t = record { as_marked = held_as false (ne_eqb n 1 t); limits = by_columns_limits }
 
 -- what the tests of a mark tell of its limits, with t the side
 module _ (m t : ℕ) where
@@ -75,13 +79,14 @@ module _ (m t : ℕ) where
 -- any other
 pub allowed_free : (z : Sizes) (r : List (List ℕ)) (h : List Worker) (p m : ℕ) → m ≡ mark (marks_from r) p → (m ≡ taken → ⊥)
     → (x y : ℕ) → x ≡ cond (eqb m 2 || eqb m 3) (z.side * z.side) 0 → y ≡ cond (finished m) (suc z.side) 0 → y ≤ 8161
-    → Allowed z r h p (Some (record { ties = x; calls = y }))
+    → Allowed z r h p (Ok (record { ties = x; calls = y }))
 allowed_free z r h p m e d x y f g l =
     let n = ne_eqb m taken d in
-    allowed_where z r h p m e true _
-    (sym (hold_by z r h p m e ∙ ap (λ (b : Bool). b && not (eqb (length (keep (holds p) (crew h z.workers))) 1)) n))
-    (record {
-      ties = f ∙ sym (ties_by z r h p m e ∙ ap (λ (b : Bool). cond (eqb m 2 || eqb m 3) (z.side * z.side) (cond b (z.side * next_column (held [] h z.workers) p) 0)) n);
-      calls = g ∙ sym (calls_by z r h p m e ∙ ap (λ (b : Bool). cond (finished m) (suc z.side) (cond b (suc (next_column (held [] h z.workers) p)) 0)) n);
-      few = l;
-    })
+    record {
+      as_marked = sym (hold_by z r h p m e ∙ ap (λ (b : Bool). b && not (eqb (length (keep (holds p) (crew h z.workers))) 1)) n);
+      limits = record {
+        ties = f ∙ sym (ties_by z r h p m e ∙ ap (λ (b : Bool). cond (eqb m 2 || eqb m 3) (z.side * z.side) (cond b (z.side * next_column (held [] h z.workers) p) 0)) n);
+        calls = g ∙ sym (calls_by z r h p m e ∙ ap (λ (b : Bool). cond (finished m) (suc z.side) (cond b (suc (next_column (held [] h z.workers) p)) 0)) n);
+        few = l;
+      };
+    }

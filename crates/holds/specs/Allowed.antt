@@ -1,5 +1,5 @@
 -- What refusal 4 allows a task. Assumes nothing.
-use Rattle.std.specs.Prelude.{ℕ, ◌≤◌, ◌≡◌, not, List, Option, is_some, IfSome}
+use Rattle.std.specs.Prelude.{ℕ, ◌≤◌, ◌≡◌, not, List, Result, Ok, Err, is_ok}
 use Rattle.worker.specs.declared.Worker.{Worker}
 use Rattle.model.specs.declared.Sizes.{Sizes}
 use Rattle.model.specs.Plan.{plan_of}
@@ -13,7 +13,12 @@ pub record Limited (z : Sizes) (records : List (List ℕ)) (slots : List Worker)
   pub calls : l.calls ≡ call_limit (plan_of z) (held records slots z.workers) p
   pub few : l.calls ≤ 8161
 
--- l has its limits where it is held as its mark says, and none where it is not
-pub record Allowed (z : Sizes) (records : List (List ℕ)) (slots : List Worker) (p : ℕ) (l : Option Limits) : Type 0 where
-  pub as_marked : not (is_some l) ≡ bad_hold (plan_of z) (held records slots z.workers) p
-  pub limits : IfSome l (Limited z records slots p)
+-- the limits told, held or not
+abbrev pub limits_in : Result Limits Limits → Limits
+limits_in (Ok l) = l
+limits_in (Err l) = l
+
+-- l has its limits, as Ok where it is held as its mark says, and as Err where it is not
+pub record Allowed (z : Sizes) (records : List (List ℕ)) (slots : List Worker) (p : ℕ) (l : Result Limits Limits) : Type 0 where
+  pub as_marked : not (is_ok l) ≡ bad_hold (plan_of z) (held records slots z.workers) p
+  pub limits : Limited z records slots p (limits_in l)

@@ -1,7 +1,7 @@
 // Refusal 4's limits of a task, by its mark and the workers that hold it.
 #![tactic(auto)]
 
-ghost use Rattle.std.specs.Prelude.{◌≡◌, List, [], ℕ, ◌*◌, ◌≤◌, length, Some};
+ghost use Rattle.std.specs.Prelude.{◌≡◌, List, [], ℕ, ◌*◌, ◌≤◌, length, Ok};
 ghost use Rattle.worker.specs.declared.Worker.{Worker as SomeWorker};
 ghost use Rattle.model.specs.Limits.{most_workers};
 ghost use Rattle.model.specs.Lists.{keep};
@@ -45,22 +45,27 @@ fn held_by(workers: Slots, count: usize, p: usize) -> Holders
     Holders { count: n, column }
 }
 
-// The limits of task p, which is taken: none where it is not held by one worker.
-pub fn held_limits(z: Sizes, workers: Slots, p: usize) -> Option<Limits>
+// The limits of task p, which is taken: as an error where it is not held by one worker.
+pub fn held_limits(z: Sizes, workers: Slots, p: usize) -> Result<Limits, Limits>
     requires { Sized z }
     ensures { (records : List (List ℕ)) → taken ≡ markAt (marks_from records) p → Allowed z records workers p result }
 {
     let h = held_by(workers, z.workers, p);
-    (h.count == 1).then_some(Limits {
+    let limits = Limits {
         ties: z.side * h.column,
         calls: 1 + h.column,
-    })
+    };
+    if h.count == 1 {
+        Ok(limits)
+    } else {
+        Err(limits)
+    }
 }
 
 // The limits of a task with this mark, where that is not TAKEN: no worker counts for them.
 pub fn free_limits(z: Sizes, mark: u8) -> Limits
     requires { Sized z }
-    ensures { (records : List (List ℕ)) (slots : List SomeWorker) (p : ℕ) → mark ≡ markAt (marks_from records) p → (mark ≡ taken → ⊥) → Allowed z records slots p (Some result) }
+    ensures { (records : List (List ℕ)) (slots : List SomeWorker) (p : ℕ) → mark ≡ markAt (marks_from records) p → (mark ≡ taken → ⊥) → Allowed z records slots p (Ok result) }
 {
     let t = z.side;
     let (ties, calls) = match mark {

@@ -8,7 +8,6 @@ use host_answers::{ReadTold, tell_read};
 use model::MOST_ORDER;
 use result_file::read_result;
 use script::{Fields, mixed_bytes, mixed_numbers};
-use std::io;
 use std::io::Write;
 use system_file::read_system;
 
@@ -43,8 +42,8 @@ pub fn decode(digits: &[u8], text: &mut [u8]) {
     }
 }
 
-// Writes what a reading tells and the digest of what it left.
-fn write_read(out: &mut impl Write, told: ReadTold, digest: u64) -> io::Result<()> {
+// Writes what a reading tells and the digest of what it left to the front of out; the length of that.
+fn put_read(out: &mut [u8], told: ReadTold, digest: u64) -> usize {
     let ReadTold {
         number,
         place,
@@ -52,34 +51,32 @@ fn write_read(out: &mut impl Write, told: ReadTold, digest: u64) -> io::Result<(
         at,
         ..
     } = told;
-    writeln!(
-        out,
+    let whole = out.len();
+    let mut rest = out;
+    let _ = writeln!(
+        rest,
         "{number:02X}{place:016X}{kind:02X}{at:04X}{digest:016X}"
-    )
+    );
+    whole.saturating_sub(rest.len())
 }
 
-// The line for a text that is read as a system.
-pub fn judge_system(text: &[u8], numbers: &mut [f64], out: &mut impl Write) -> io::Result<()>
+// The line for a text that is read as a system, at the front of out; its length.
+pub fn judge_system(text: &[u8], numbers: &mut [f64], out: &mut [u8]) -> usize
     requires { 65536 ≤ length numbers.old }
 {
     let due = lengths_due(text);
     let numbers = &mut numbers[..due.numbers];
     let told = tell_read(read_system(text, numbers));
-    write_read(out, told, mixed_numbers(1, numbers))
+    put_read(out, told, mixed_numbers(1, numbers))
 }
 
-// The line for a text that is read as a result.
-pub fn judge_result(
-    text: &[u8],
-    numbers: &mut [f64],
-    entries: &mut [u8],
-    out: &mut impl Write,
-) -> io::Result<()>
+// The line for a text that is read as a result, at the front of out; its length.
+pub fn judge_result(text: &[u8], numbers: &mut [f64], entries: &mut [u8], out: &mut [u8]) -> usize
     requires { (65536 ≤ length numbers.old) × (4096 ≤ length entries.old) }
 {
     let due = lengths_due(text);
     let numbers = &mut numbers[..due.numbers];
     let entries = &mut entries[..due.entries];
     let told = tell_read(read_result(text, numbers, entries));
-    write_read(out, told, mixed_bytes(mixed_numbers(1, numbers), entries))
+    put_read(out, told, mixed_bytes(mixed_numbers(1, numbers), entries))
 }

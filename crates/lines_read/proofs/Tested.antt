@@ -7,7 +7,6 @@ use native.Mathlib.Omega.{arith}
 use lib.Dec.{eqb, ltb}
 use lib.ListN.{length, get_or, take}
 use lib.Seq.{get_or-take, length-take-le}
-use denote.Enum.Bare.{sameb}
 use borrow.Author.Tests.{eq-eqb, ne_eqb, le-leb, not-false}
 use Rattle.laws.proofs.Tests.{and_left}
 use Rattle.laws.proofs.Every.{every_at}
@@ -18,10 +17,7 @@ use Rattle.model.specs.Tile.{all_finite}
 use Rattle.model.specs.Refusal.{inside, refuse}
 use Rattle.model.specs.Read.{Frame, is_digit, kind_in, line_length, entries_in, numbers_in, not_digits, bad_content, bad_line, wrong_frame, not_finite_in, line_answer}
 use Rattle.digits_read.specs.Digits.{FieldOfDigits}
-use Rattle.lines_read.specs.declared.Kind.{Kind}
-use Rattle.lines_read.specs.declared.Kind.TheVariants.{Header, Tile, List as ListKind, Outcome, Refusal}
-use Rattle.lines_read.specs.contracts.Kind.{the_type}
-use Rattle.lines_read.specs.Line.{LineOfDigits, kind_number, malformed, bad_entries, bad_outcome}
+use Rattle.lines_read.specs.Line.{LineOfDigits, malformed, bad_entries, bad_outcome}
 
 -- ---- digits ended by 0A
 
@@ -79,15 +75,6 @@ other_size t l h = rw (ne_eqb (length l) (7 + 2 * t) h)
 pub right_size : (t : ℕ) (l : List ℕ) → length l ≡ 7 + 2 * t → some (ltb t) (entries_in t l) ≡ bad_entries t l
 unfolding bad_entries
 right_size t l h = rw (eq-eqb (length l) (7 + 2 * t) h)
-
--- ---- a tile's kind, by its number
-
-pub is_tile : (k : Kind) → sameb the_type k Tile ≡ eqb (kind_number k) 2
-is_tile Header = refl
-is_tile Tile = refl
-is_tile ListKind = refl
-is_tile Outcome = refl
-is_tile Refusal = refl
 
 -- ---- 3
 

@@ -21,7 +21,7 @@ kind_number Outcome = 4
 kind_number Refusal = 5
 
 abbrev pub frame_of : Due → Frame
-frame_of d = record { kind = kind_number d.kind; i = d.i; j = d.j }
+frame_of d = record { kind = d.kind; i = d.i; j = d.j }
 
 -- 12, of a line that is as long as the kind due says
 unfoldable pub malformed : ℕ → List ℕ → Bool

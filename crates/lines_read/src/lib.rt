@@ -23,7 +23,7 @@ pub enum Kind {
 
 impl Kind {
     // The number that a line of this kind begins with.
-    fn number(self) -> usize
+    pub fn number(self) -> usize
         ensures { result ≡ kind_number self }
     {
         match self {
@@ -39,7 +39,8 @@ impl Kind {
 // The frame that is due on a line: its kind, and its I and J where it has them.
 #[derive(Clone, Copy)]
 pub struct Due {
-    pub kind: Kind,
+    // The number that its line begins with.
+    pub kind: usize,
     pub i: usize,
     pub j: usize,
 }
@@ -112,10 +113,10 @@ fn wrong_frame(line: &[u8], due: Due) -> bool
     requires { LineOfDigits line.now }
     ensures { result ≡ wrong_frame (frame_of due) line.now }
 {
-    if field_at(line, 0, 2) != due.kind.number() {
+    if field_at(line, 0, 2) != due.kind {
         return true;
     }
-    if due.kind == Kind::Outcome {
+    if due.kind == Kind::Outcome.number() {
         return false;
     }
     if field_at(line, 2, 2) != due.i {
@@ -127,11 +128,11 @@ fn wrong_frame(line: &[u8], due: Due) -> bool
 // 3: the frame due is a tile, and one of its numbers isn't finite.
 fn not_finite(line: &[u8], t: usize, due: Due) -> bool
     requires line_of_digits { LineOfDigits line.now }
-    requires line_len { length line.now ≡ line_length t (kind_number due.kind) }
+    requires line_len { length line.now ≡ line_length t due.kind }
     requires t_le_most_side { t ≤ most_side }
     ensures { result ≡ not_finite_in t (frame_of due) line.now }
 {
-    if due.kind != Kind::Tile {
+    if due.kind != Kind::Tile.number() {
         return false;
     }
     (0..t * t).any(|x| !finite_at(line, 6 + 16 * x))
@@ -139,7 +140,7 @@ fn not_finite(line: &[u8], t: usize, due: Due) -> bool
 
 // What line x answers by itself, where the frame is due.
 pub fn line_answer(line: &[u8], x: usize, t: usize, due: Due) -> Answer
-    requires line_len { length line.now ≡ line_length t (kind_number due.kind) }
+    requires line_len { length line.now ≡ line_length t due.kind }
     requires t_le_most_side { t ≤ most_side }
     ensures { result ≡ line_answer t x (frame_of due) line.now accepted }
 {

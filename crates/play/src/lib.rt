@@ -6,7 +6,7 @@ use host_answers::{tell, tell_outcome, tell_run};
 use play_answers::{write_digest, write_numbers, write_told};
 use play_fields::{Command, argument, sizes};
 use play_lends::{Lent, Rooms, lend_items};
-use script::Fields;
+use script::{Fields, room};
 use std::io;
 use std::io::Write;
 use worker::Workers;
@@ -94,8 +94,8 @@ fn play_line(
     play_call(command, &mut fields, rooms, counts, out)
 }
 
-// Plays every line of a text, and writes the answers.
-pub fn play(text: &[u8], rooms: Rooms<'_>, out: &mut impl Write) -> io::Result<()> {
+// Plays every line of a text, and writes each answer at once. An answer that cannot be written is dropped.
+pub fn play(text: &[u8], rooms: Rooms<'_>, out: &mut impl Write) {
     let Rooms {
         matrix,
         lists,
@@ -104,6 +104,7 @@ pub fn play(text: &[u8], rooms: Rooms<'_>, out: &mut impl Write) -> io::Result<(
         answers,
     } = rooms;
     let mut counts = Lent::nothing();
+    let mut answer = room::<u8, 8192>(0);
     for line in text.split_inclusive(|b| *b == b'\n') {
         let rooms = Rooms {
             matrix,
@@ -112,7 +113,9 @@ pub fn play(text: &[u8], rooms: Rooms<'_>, out: &mut impl Write) -> io::Result<(
             right,
             answers,
         };
-        play_line(line, rooms, &mut counts, out)?;
+        let mut rest = &mut answer[..];
+        let _ = play_line(line, rooms, &mut counts, &mut rest);
+        let n = 8192_usize.saturating_sub(rest.len());
+        let _ = out.write_all(&answer[..n]);
     }
-    Ok(())
 }

@@ -19,7 +19,7 @@ pub fn check_result_lines(text: &[u8], tiles: usize, side: usize) -> Step
     let tiles_end = check_tiles(text, Cursor { at: 7, line: 2 }, tiles, side)?;
     let lists_end = check_lists(text, tiles_end, tiles, side)?;
     let due = Due {
-        kind: Kind::Outcome,
+        kind: Kind::Outcome.number(),
         i: 0,
         j: 0,
     };

@@ -46,6 +46,9 @@ impl<'a> Fields<'a> {
 
     // The next bytes, of two digits each.
     pub fn bytes<const N: usize>(&mut self) -> [u8; N] {
+        if self.rest.is_empty() {
+            return [0; N];
+        }
         array::from_fn(|_| self.byte())
     }
 }

@@ -10,7 +10,7 @@ use lib.ListN.{length, length-map}
 use lib.Ieee.{Float}
 use borrow.Author.Tests.{eq-eqb, eqb-true, not-false}
 use Rattle.model.specs.declared.Sizes.{Sizes}
-use Rattle.model.specs.Answer.{Answer, accepted, refused_by}
+use Rattle.model.specs.Answer.{Answer, rule_number, accepted, refused_by}
 use Rattle.model.specs.declared.Rule.TheVariants.{BadSizes, BadLengths, NotFinite, Damaged, NotFinished, NotSolved}
 use Rattle.model.specs.Lists.{run, below, keep, first_or}
 use Rattle.model.specs.Tile.{all_finite}
@@ -102,10 +102,10 @@ solves_alike z y s r cs ds p b x =
 
 -- ---- a good system
 
-ends_by_11 : (x : List Float) (u : Passed) → ((answered accepted x u).answer ≡ accepted) ⊎ ((p : ℕ) × ((answered accepted x u).answer ≡ refused_by NotSolved p))
+ends_by_11 : (x : List Float) (u : Passed) → ((answered accepted x u).answer ≡ accepted) ⊎ ((p : ℕ) × (((answered accepted x u).answer ≡ refused_by NotSolved p) × (rule_number NotSolved ≡ 11)))
 unfolding answered
 ends_by_11 x (going y) = inl refl
-ends_by_11 x (stopped p) = inr (p, refl)
+ends_by_11 x (stopped p) = inr (p, (refl, refl))
 
 module _ (z : Sizes) (s : Lent) (b x : List Float) (h : GoodSystem z s b x) where
   solves : solve_call z s b x ≡ answered accepted x (solved (plan_of z) s.buffers b)
@@ -117,8 +117,8 @@ module _ (z : Sizes) (s : Lent) (b x : List Float) (h : GoodSystem z s b x) wher
       ∙ ap (λ o. unless_good o (refuse NotFinite (first_not_finite b) (not (all_finite b)) accepted)) h.good
       ∙ passes NotFinite (first_not_finite b) (not (all_finite b)) accepted (ap not h.right_finite))
 
-  only_11 : ((solve_call z s b x).answer ≡ accepted) ⊎ ((p : ℕ) × ((solve_call z s b x).answer ≡ refused_by NotSolved p))
-  only_11 = subst (λ (a : Answers). (a.answer ≡ accepted) ⊎ ((p : ℕ) × (a.answer ≡ refused_by NotSolved p))) (sym solves) (ends_by_11 x (solved (plan_of z) s.buffers b))
+  only_11 : ((solve_call z s b x).answer ≡ accepted) ⊎ ((p : ℕ) × (((solve_call z s b x).answer ≡ refused_by NotSolved p) × (rule_number NotSolved ≡ 11)))
+  only_11 = subst (λ (a : Answers). (a.answer ≡ accepted) ⊎ ((p : ℕ) × ((a.answer ≡ refused_by NotSolved p) × (rule_number NotSolved ≡ 11)))) (sym solves) (ends_by_11 x (solved (plan_of z) s.buffers b))
 
 pub solves_promise : (z : Sizes) → Solves z
 solves_promise z = record { any_calls = λ y s r cs ds p b x. solves_alike z y s r cs ds p b x; only_11 = λ s b x h. only_11 z s b x h }

@@ -1,7 +1,18 @@
 -- The next busy worker, counting round. Assumes nothing.
-use Rattle.std.specs.Prelude.{ℕ, ◌+◌, ◌%◌, ◌<◌, ◌≡◌, true, false, List, get_or}
+use Rattle.std.specs.Prelude.{ℕ, ◌+◌, ◌%◌, ◌<◌, ◌≤◌, ◌≡◌, true, false, List, get_or}
 use Rattle.worker.specs.declared.Worker.{Worker}
 use Rattle.worker.specs.Holding.{idle}
+
+-- no worker from one to another is busy
+abbrev pub NoneBusy : List Worker → ℕ → ℕ → Type 0
+NoneBusy slots from to = (v : ℕ) → from ≤ v → v < to → (get_or slots v idle).busy ≡ false
+
+-- v is the first busy worker of those
+pub record FirstBusy (slots : List Worker) (from to v : ℕ) : Type 0 where
+  pub not_before : from ≤ v
+  pub below : v < to
+  pub busy : (get_or slots v idle).busy ≡ true
+  pub none_before : NoneBusy slots from v
 
 -- v is the first busy worker from w on, counting W of them round
 pub data NextBusy (slots : List Worker) (W w : ℕ) : ℕ → Type 0 where

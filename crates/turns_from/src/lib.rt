@@ -4,7 +4,7 @@
 ghost use Rattle.std.specs.Prelude.{◌≡◌, ◌-◌, ℕ, ◌≤◌, ◌<◌, get_or, false, MatchOption, IfSome};
 ghost use Rattle.worker.specs.Holding.{idle};
 ghost use Rattle.model.specs.Limits.{most_workers};
-ghost use Rattle.turns_from.specs.NextBusy.{NextBusy};
+ghost use Rattle.turns_from.specs.NextBusy.{NoneBusy, FirstBusy, NextBusy};
 ghost use Rattle.model.specs.Plan.{plan_of};
 ghost use Rattle.model.specs.Calls.{run_from};
 ghost use Rattle.records.specs.Records.{all_lent, OthersKept};
@@ -18,15 +18,29 @@ use records::Record;
 use unfinished::answer_after;
 use worker::{Slots, Workers};
 
+// The first busy worker of those from `from` on and below `to`.
+fn first_busy(workers: &Slots, from: usize, to: usize) -> Option<usize>
+    requires { to ≤ most_workers }
+    ensures { MatchOption result (NoneBusy workers.now from to) (FirstBusy workers.now from to) }
+{
+    for v in from..to {
+        if workers[v].busy {
+            return Some(v);
+        }
+    }
+    None
+}
+
 // The next busy worker from w on, counting `count` workers round.
 fn next_busy(workers: &Slots, count: usize, w: usize) -> Option<usize>
     requires { (w < count) × (count ≤ most_workers) }
     ensures next { MatchOption result ((v : ℕ) → v < count → (get_or workers.now v idle).busy ≡ false) (NextBusy workers.now count w) }
     ensures within { IfSome result (λ v. v < count) }
 {
-    let mut round = workers[w..count].iter().chain(workers[..w].iter());
-    let d = round.position(|h| h.busy)?;
-    Some((w + d) % count)
+    if let Some(v) = first_busy(workers, w, count) {
+        return Some(v);
+    }
+    first_busy(workers, 0, w)
 }
 
 // Workers take turns until every task is finished or the budget is spent, once `made` calls are made and the turn is worker `turn`'s. `number` is the run's number. Below `low`,

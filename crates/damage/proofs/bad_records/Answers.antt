@@ -1,13 +1,13 @@
 -- The triple kept beside p is that of task p; what is left to search gives the whole search's answer, and the calls are the sum of the limits so far.
 -- Assumes nothing.
-use Prim.Native.Nat.{ℕ, ◌+◌}
+use Prim.Native.Nat.{ℕ, ◌+◌, ◌≤◌}
 use mathlib.Core.Bool.{◌||◌}
 use mathlib.Core.Path.{◌≡◌, sym, ap, ◌∙◌, subst}
 use mathlib.Core.List.{map}
 use native.Mathlib.Numerals.{add-one}
 use native.Mathlib.Omega.{arith}
 use lib.ListN.{length}
-use Rattle.std.specs.Prelude.{Some}
+use Rattle.std.specs.Prelude.{Ok}
 use Rattle.model.specs.declared.TaskRecord.{TaskRecord}
 use Rattle.model.specs.Task.{Task, tasks}
 use Rattle.model.specs.Plan.{plan_of}
@@ -28,7 +28,7 @@ use Rattle.holds.specs.Allowed.{Allowed}
 use Rattle.numbering.proofs.Laws.{number_first, in_first}
 use Rattle.damage.proofs.Laws.{name_before, state, bad, outer, bad_outer, bad_inner, not_bad, calls_by, found_bad, found_none, outer_tested, inner_above, inner_within, inner_not_held}
 use Rattle.damage.proofs.bad_records.Goals as goal
-use Rattle.damage.proofs.bad_records.Goals.{then-taken+in-Some, else-taken}
+use Rattle.damage.proofs.bad_records.Goals.{then-taken+in-Ok, else-taken, else-found-ne0-via-then-found-ne0+else-most-found, else-found-ne0-via-else-found-ne0}
 
 pub loop-p-init : goal.loop-p-init
 loop-p-init c =
@@ -64,16 +64,16 @@ returns-in_default c =
     let m : c.record_at-found.result.mark ≡ mark (marks_from a.records.now) c.loop-p.p = ap (λ (x : TaskRecord). x.mark) c.record_at-found.ensures ∙ sym (get_mark a.records.now c.loop-p.p) in
     found_bad a.z a.records.now a.workers a.number
     (some_stops _ _ _ _ c.loop-p-test.true c.loop-p.invariant.2
-    (bad_inner a.z a.records.now a.workers a.number _ (inner_not_held a.z a.records.now a.workers a.number c.loop-p.p (c.in_default.ensures a.records.now (sym c.if-taken.true ∙ m)))))
+    (bad_inner a.z a.records.now a.workers a.number _ (inner_not_held a.z a.records.now a.workers a.number c.loop-p.p _ (c.in_default.ensures a.records.now (sym c.if-taken.true ∙ m)))))
 
 pub returns-then-most-found : goal.returns-then-most-found
 returns-then-most-found c =
     let a = c.args in
     let p = c.loop-p.p in
     let m : c.record_at-found.result.mark ≡ mark (marks_from a.records.now) p = ap (λ (x : TaskRecord). x.mark) c.record_at-found.ensures ∙ sym (get_mark a.records.now p) in
-    let allowed : Allowed a.z a.records.now a.workers p (Some c.if-taken.most) = elim c.if-taken.branch [
-      | then-taken+in-Some v ↦ subst (λ (l : Limits). Allowed a.z a.records.now a.workers p (Some l)) (sym v.most-is) (v.in-Some.ensures a.records.now (sym v.if-taken.true ∙ m))
-      | else-taken v ↦ subst (λ (l : Limits). Allowed a.z a.records.now a.workers p (Some l)) (sym v.most-is) (v.free_limits-most.ensures a.records.now a.workers p m v.if-taken.false)
+    let allowed : Allowed a.z a.records.now a.workers p (Ok c.if-taken.most) = elim c.if-taken.branch [
+      | then-taken+in-Ok v ↦ subst (λ (l : Limits). Allowed a.z a.records.now a.workers p (Ok l)) (sym v.most-is) (v.in-Ok.ensures a.records.now (sym v.if-taken.true ∙ m))
+      | else-taken v ↦ subst (λ (l : Limits). Allowed a.z a.records.now a.workers p (Ok l)) (sym v.most-is) (v.free_limits-most.ensures a.records.now a.workers p m v.if-taken.false)
     ] in
     found_bad a.z a.records.now a.workers a.number
     (some_stops _ _ _ _ c.loop-p-test.true c.loop-p.invariant.2
@@ -84,9 +84,9 @@ overflow_add-calls c =
     let a = c.args in
     let p = c.loop-p.p in
     let m : c.record_at-found.result.mark ≡ mark (marks_from a.records.now) p = ap (λ (x : TaskRecord). x.mark) c.record_at-found.ensures ∙ sym (get_mark a.records.now p) in
-    let allowed : Allowed a.z a.records.now a.workers p (Some c.if-taken.most) = elim c.if-taken.branch [
-      | then-taken+in-Some v ↦ subst (λ (l : Limits). Allowed a.z a.records.now a.workers p (Some l)) (sym v.most-is) (v.in-Some.ensures a.records.now (sym v.if-taken.true ∙ m))
-      | else-taken v ↦ subst (λ (l : Limits). Allowed a.z a.records.now a.workers p (Some l)) (sym v.most-is) (v.free_limits-most.ensures a.records.now a.workers p m v.if-taken.false)
+    let allowed : Allowed a.z a.records.now a.workers p (Ok c.if-taken.most) = elim c.if-taken.branch [
+      | then-taken+in-Ok v ↦ subst (λ (l : Limits). Allowed a.z a.records.now a.workers p (Ok l)) (sym v.most-is) (v.in-Ok.ensures a.records.now (sym v.if-taken.true ∙ m))
+      | else-taken v ↦ subst (λ (l : Limits). Allowed a.z a.records.now a.workers p (Ok l)) (sym v.most-is) (v.free_limits-most.ensures a.records.now a.workers p m v.if-taken.false)
     ] in
     omega (arith, allowed.limits.few, c.loop-p.invariant.4, c.loop-p-test.true, c.task_count-count.ensures, few_tasks c.args.z.tiles c.requires.0.few_tiles)
 
@@ -95,11 +95,15 @@ loop-p-preserved c =
     let a = c.args in
     let p = c.loop-p.p in
     let m : c.record_at-found.result.mark ≡ mark (marks_from a.records.now) p = ap (λ (x : TaskRecord). x.mark) c.record_at-found.ensures ∙ sym (get_mark a.records.now p) in
-    let allowed : Allowed a.z a.records.now a.workers p (Some c.if-taken.most) = elim c.if-taken.branch [
-      | then-taken+in-Some v ↦ subst (λ (l : Limits). Allowed a.z a.records.now a.workers p (Some l)) (sym v.most-is) (v.in-Some.ensures a.records.now (sym v.if-taken.true ∙ m))
-      | else-taken v ↦ subst (λ (l : Limits). Allowed a.z a.records.now a.workers p (Some l)) (sym v.most-is) (v.free_limits-most.ensures a.records.now a.workers p m v.if-taken.false)
+    let allowed : Allowed a.z a.records.now a.workers p (Ok c.if-taken.most) = elim c.if-taken.branch [
+      | then-taken+in-Ok v ↦ subst (λ (l : Limits). Allowed a.z a.records.now a.workers p (Ok l)) (sym v.most-is) (v.in-Ok.ensures a.records.now (sym v.if-taken.true ∙ m))
+      | else-taken v ↦ subst (λ (l : Limits). Allowed a.z a.records.now a.workers p (Ok l)) (sym v.most-is) (v.free_limits-most.ensures a.records.now a.workers p m v.if-taken.false)
     ] in
     let f = c.record_at-found.ensures in
+    let within : c.record_at-found.result.ties ≤ c.if-taken.most.ties = elim c.else-found-ne0.branch [
+      | else-found-ne0-via-then-found-ne0+else-most-found w ↦ w.if-most-found.false
+      | else-found-ne0-via-else-found-ne0 w ↦ omega (arith, w.if-found-ne0.false)
+    ] in
     let outer_is : (c.differs.result || c.bad_calls.result) ≡ outer a.z a.records.now a.workers a.number c.loop-p.p =
     outer_tested a.z a.records.now a.workers a.number c.loop-p.p _ _ _ (omega (arith, c.loop-p-test.true, c.task_count-count.ensures, c.requires.1)) c.requires.0.few_tiles
     (c.loop-p.invariant.1 c.loop-p-test.true) c.loop-p.invariant.0 _ f _ c.named_after-due.ensures _ _ c.differs.ensures c.bad_calls.ensures in
@@ -111,7 +115,7 @@ loop-p-preserved c =
       c.next-a.ensures.j_value ∙ ap (λ (n : ℕ). n + 1) inv.0,
       λ h. c.next-a.ensures.fact (omega (arith, inv.0, c.task_count-count.ensures)),
       some_goes_on _ _ _ _ more inv.2 (not_bad a.z a.records.now a.workers a.number p (sym outer_is ∙ c.if-differs-bad_calls.false)
-          (inner_within a.z a.records.now a.workers a.number p _ allowed _ f c.if-most-found.false)),
+          (inner_within a.z a.records.now a.workers a.number p _ allowed _ f within)),
       omega (arith, inv.3, with-p, its-calls),
       omega (arith, inv.4, allowed.limits.few),
       λ q e.

@@ -25,13 +25,15 @@ loop-j-init c =
 pub returns-in_err-here : goal.returns-in_err-here
 returns-in_err-here c =
     let l = c.loop-j in
-    passed_on _ _ _ c.from_residual.ensures.1 c.in_err-here.was ∙ row_stops _ _ c.args.count l.j l.here c.loop-j-test.true (frame (kind_number c.args.kind) c.args.i) l.invariant.1 c.check_line.ensures _ c.in_err-here.was
+    let e = rw c.number-number.ensures at c.check_line.ensures in
+    passed_on _ _ _ c.from_residual.ensures.1 c.in_err-here.was ∙ row_stops _ _ c.args.count l.j l.here c.loop-j-test.true (frame (kind_number c.args.kind) c.args.i) l.invariant.1 e _ c.in_err-here.was
 
 pub loop-j-preserved : goal.loop-j-preserved
 loop-j-preserved c =
-    let l = c.loop-j in (
+    let l = c.loop-j in
+    let e = rw c.number-number.ensures at c.check_line.ensures in (
       step_placed _ _ _ _ _ l.invariant.0 (sym c.check_line.ensures ∙ c.in_ok-here.was),
-      row_goes_on _ _ c.args.count l.j l.here c.loop-j-test.true (frame (kind_number c.args.kind) c.args.i) l.invariant.1 c.check_line.ensures c.in_ok-here.was,
+      row_goes_on _ _ c.args.count l.j l.here c.loop-j-test.true (frame (kind_number c.args.kind) c.args.i) l.invariant.1 e c.in_ok-here.was,
     )
 
 pub returns : goal.returns

@@ -13,4 +13,4 @@ abbrev pub frame : ℕ → ℕ → ℕ → Frame
 frame kind i j = record { kind = kind; i = i; j = j }
 
 abbrev pub invariant-loop-j : goal.invariant-loop-j
-invariant-loop-j l = CursorFits l.text l.here × (follow l.t l.text (map (frame (kind_number l.kind) l.i) (up_to l.j l.count)) l.here ≡ follow l.t l.text (row_frames (kind_number l.kind) l.count l.i) l.initial.here)
+invariant-loop-j l = CursorFits l.text l.here × (follow l.t l.text (map (frame (kind_number l.fn.kind) l.i) (up_to l.j l.count)) l.here ≡ follow l.t l.text (row_frames (kind_number l.fn.kind) l.count l.i) l.initial.here)

@@ -29,5 +29,5 @@ check_line-requires c =
 
 pub returns : goal.returns
 returns c =
-    c.check_line.ensures
+    rw c.number.ensures at c.check_line.ensures
     ∙ to_outcome _ _ _ start _ (sym c.check_tiles.ensures ∙ c.in_ok-tiles_end.was) _ (sym c.check_lists.ensures ∙ c.in_ok-lists_end.was)
