@@ -7,7 +7,7 @@ use header_read::{Shape, check_header};
 use host_answers::{ReadTold, tell_read};
 use model::MOST_ORDER;
 use result_file::read_result;
-use script::{Fields, mixed_bytes, mixed_numbers};
+use script::{Fields, mixed_bytes, mixed_numbers, value};
 use std::io::Write;
 use system_file::read_system;
 
@@ -36,8 +36,13 @@ fn lengths_due(text: &[u8]) -> Lengths
 
 // The bytes whose digits are given.
 pub fn decode(digits: &[u8], text: &mut [u8]) {
-    let mut fields = Fields::of(digits);
-    for b in text.iter_mut() {
+    let n = text.len().min(digits.len() / 2);
+    let (front, back) = text.split_at_mut(n);
+    for (b, pair) in front.iter_mut().zip(digits.chunks_exact(2)) {
+        *b = value(pair[0]) << 4 | value(pair[1]);
+    }
+    let mut fields = Fields::of(&digits[2 * n..]);
+    for b in back.iter_mut() {
         *b = fields.byte();
     }
 }

@@ -2,7 +2,7 @@
 // matched with the reference program.
 #![tactic(auto)]
 
-ghost use Rattle.std.specs.Prelude.{◌≡◌, length};
+ghost use Rattle.std.specs.Prelude.{◌≡◌, ◌<◌, length};
 
 use std::array;
 use std::num::f64_to_bits_with_nan;
@@ -12,6 +12,17 @@ pub fn room<T: Copy, const N: usize>(x: T) -> [T; N]
     ensures { N ≡ length result }
 {
     [x; N]
+}
+
+// The value of a digit; 0 for any other byte.
+pub fn value(digit: u8) -> u8
+    ensures { result < 16 }
+{
+    match digit {
+        b'0'..=b'9' => digit - b'0',
+        b'A'..=b'F' => digit - b'A' + 10,
+        _ => 0,
+    }
 }
 
 // The digits of a line that are not yet read. Past its end all are 0.
@@ -26,17 +37,13 @@ impl<'a> Fields<'a> {
         Fields { rest: line }
     }
 
-    // The value of the next digit; 0 for any other byte.
+    // The value of the next digit.
     fn digit(&mut self) -> u8 {
         let Some((first, rest)) = self.rest.split_first() else {
             return 0;
         };
         self.rest = rest;
-        match *first {
-            b @ b'0'..=b'9' => b - b'0',
-            b @ b'A'..=b'F' => b - b'A' + 10,
-            _ => 0,
-        }
+        value(*first)
     }
 
     // The next byte, of two digits.

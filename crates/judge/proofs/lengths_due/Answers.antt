@@ -3,7 +3,6 @@ use native.Mathlib.Nat.{mul-le-mul}
 use native.Mathlib.Omega.{arith}
 use Rattle.system_checked.proofs.Headers.{facts, shape_read}
 use Rattle.judge.proofs.lengths_due.Goals as goal
-use Rattle.std.specs.Prelude.{Ok}
 
 pub overflow_mul-n : goal.overflow_mul-n
 overflow_mul-n c =
