@@ -11,6 +11,9 @@ use std::io;
 use std::io::Write;
 use worker::Workers;
 
+// Room for an answer's line: the longest, of a solve with 300 answers, has 4,853 bytes.
+const ANSWER: usize = 8192;
+
 // Makes the call that a line asks for, and writes its answer. A line that asks for none changes nothing.
 fn play_call(
     command: Option<Command>,
@@ -104,7 +107,7 @@ pub fn play(text: &[u8], rooms: Rooms<'_>, out: &mut impl Write) {
         answers,
     } = rooms;
     let mut counts = Lent::nothing();
-    let mut answer = room::<u8, 8192>(0);
+    let mut answer = room::<u8, ANSWER>(0);
     for line in text.split_inclusive(|b| *b == b'\n') {
         let rooms = Rooms {
             matrix,
@@ -115,7 +118,7 @@ pub fn play(text: &[u8], rooms: Rooms<'_>, out: &mut impl Write) {
         };
         let mut rest = &mut answer[..];
         let _ = play_line(line, rooms, &mut counts, &mut rest);
-        let n = 8192_usize.saturating_sub(rest.len());
+        let n = ANSWER.saturating_sub(rest.len());
         let _ = out.write_all(&answer[..n]);
     }
 }

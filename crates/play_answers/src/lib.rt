@@ -10,7 +10,7 @@ use std::io::Write;
 use std::num::f64_to_bits_with_nan;
 use worker::{Worker, Workers};
 
-// The lowest N hexadecimal digits of v. By hand, since formatting takes more than twice the time of a whole line of many numbers.
+// The lowest N hexadecimal digits of v, by hand: with a formatter a line of many numbers takes twice as long.
 fn digits<const N: usize>(v: u64) -> [u8; N] {
     let mut rest = v;
     let mut text = [0; N];

@@ -51,7 +51,7 @@ impl<'a> Fields<'a> {
         self.digit() << 4 | self.digit()
     }
 
-    // The next bytes, of two digits each.
+    // The next bytes, of two digits each. Past the end at once: a line may tell many items and have the digits of none.
     pub fn bytes<const N: usize>(&mut self) -> [u8; N] {
         if self.rest.is_empty() {
             return [0; N];

@@ -33,6 +33,7 @@ module _ (slots : List Worker) (W w : ℕ) (h : w < W) where
       let e : w + d ≡ d - (W - w) + W = omega arith in
       ap (λ (k : ℕ). k % W) e ∙ add-mod_right (d - (W - w)) W ∙ mod-eq_of_lt (omega arith)
 
+  -- one found at w or after it
   pub next_above : (v : ℕ) → FirstBusy slots w W v → NextBusy slots W w v
   next_above v f =
       let d : w + (v - w) ≡ v = omega (arith, f.not_before) in
@@ -41,6 +42,7 @@ module _ (slots : List Worker) (W w : ℕ) (h : w < W) where
       (busy_after (v - w) (omega (arith, f.below)) (ap (λ (k : ℕ). (get_or slots k idle).busy) e ∙ f.busy)
       (λ x q. subst Idle (sym (place_above x (omega (arith, f.below, f.not_before)))) (f.none_before (w + x) (omega arith) (omega (arith, f.not_before)))))
 
+  -- one found below w, where none is busy from w on
   pub next_below : NoneBusy slots w W → (v : ℕ) → FirstBusy slots 0 w v → NextBusy slots W w v
   next_below none v f =
       let d : w + (W - w + v) ≡ v + W = omega arith in

@@ -3,11 +3,11 @@ use Rattle.std.specs.Prelude.{ℕ, ◌+◌, ◌%◌, ◌<◌, ◌≤◌, ◌≡�
 use Rattle.worker.specs.declared.Worker.{Worker}
 use Rattle.worker.specs.Holding.{idle}
 
--- no worker from one to another is busy
+-- no worker is busy of those at `from` and after it, below `to`
 abbrev pub NoneBusy : List Worker → ℕ → ℕ → Type 0
 NoneBusy slots from to = (v : ℕ) → from ≤ v → v < to → (get_or slots v idle).busy ≡ false
 
--- v is the first busy worker of those
+-- v is the first busy worker of those, none of which before v is busy
 pub record FirstBusy (slots : List Worker) (from to v : ℕ) : Type 0 where
   pub not_before : from ≤ v
   pub below : v < to
