@@ -32,7 +32,7 @@ fn play_script(from: &mut impl Read, text: &mut [u8], out: &mut impl Write) {
         right: &mut room::<f64, 300>(0.0),
         answers: &mut room::<f64, 300>(0.0),
     };
-    play::play(&text[..n], rooms, out);
+    play::play_on(&text[..n], rooms, out);
 }
 
 fn main(rt: HostRuntime) {

@@ -2,6 +2,8 @@
 // are the fronts of the rooms given; what a line lends beyond them is dropped.
 #![tactic(auto)]
 
+ghost use Rattle.std.specs.Prelude.{◌≡◌, length, IsOk};
+
 use host_answers::{tell, tell_outcome, tell_run};
 use play_answers::{write_digest, write_numbers, write_told};
 use play_fields::{Command, argument, sizes};
@@ -11,7 +13,7 @@ use std::io;
 use std::io::Write;
 use worker::Workers;
 
-// Room for an answer's line: the longest, of a solve with 300 answers, has 4,853 bytes.
+// Room for an answer's line: call_script's longest, of a solve with 300 answers, has 4,853 bytes.
 const ANSWER: usize = 8192;
 
 // Makes the call that a line asks for, and writes its answer. A line that asks for none changes nothing.
@@ -97,8 +99,34 @@ fn play_line(
     play_call(command, &mut fields, rooms, counts, out)
 }
 
-// Plays every line of a text, and writes each answer at once. An answer that cannot be written is dropped.
-pub fn play(text: &[u8], rooms: Rooms<'_>, out: &mut impl Write) {
+// Plays every line of a text, and writes the answers, of any length. The first that cannot be written ends it, and its error is told.
+pub fn play(text: &[u8], rooms: Rooms<'_>, out: &mut impl Write) -> io::Result<()>
+    ensures { length text.now ≡ 0 → IsOk result }
+{
+    let Rooms {
+        matrix,
+        lists,
+        records,
+        right,
+        answers,
+    } = rooms;
+    let mut counts = Lent::nothing();
+    let lines = text.split_inclusive(|b| *b == b'\n');
+    for line in lines {
+        let rooms = Rooms {
+            matrix,
+            lists,
+            records,
+            right,
+            answers,
+        };
+        play_line(line, rooms, &mut counts, out)?;
+    }
+    Ok(())
+}
+
+// Plays every line of a text, and writes each answer at once. A longer answer than ANSWER is cut there; one that cannot be written is dropped.
+pub fn play_on(text: &[u8], rooms: Rooms<'_>, out: &mut impl Write) {
     let Rooms {
         matrix,
         lists,
@@ -120,5 +148,69 @@ pub fn play(text: &[u8], rooms: Rooms<'_>, out: &mut impl Write) {
         let _ = play_line(line, rooms, &mut counts, &mut rest);
         let n = ANSWER.saturating_sub(rest.len());
         let _ = out.write_all(&answer[..n]);
+    }
+}
+
+#[cfg(test)]
+mod tests {
+    use super::*;
+    use std::io::ErrorKind;
+
+    // Plays a script on a matrix of one number, with room for 600 answers; how many bytes of out were written.
+    fn play_into(script: &[u8], matrix: &mut [f64], out: &mut [u8]) -> io::Result<usize> {
+        let rooms = Rooms {
+            matrix,
+            lists: &mut [],
+            records: &mut [],
+            right: &mut [],
+            answers: &mut room::<f64, 600>(0.0),
+        };
+        let whole = out.len();
+        let mut rest = out;
+        play(script, rooms, &mut rest)?;
+        whole
+            .checked_sub(rest.len())
+            .ok_or(ErrorKind::InvalidInput.into())
+    }
+
+    // A solve that is refused for its sizes tells all answers that it was lent: 600, the last of them 1. The reference program gave the digits.
+    #[test]
+    fn tells_a_long_answer(rt: HostRuntime) {
+        let mut script = room::<u8, 9667>(b'0');
+        for (at, bytes) in [
+            (0, b"15".as_slice()),
+            (63, b"258".as_slice()),
+            (9650, b"3FF0".as_slice()),
+            (9666, b"\n".as_slice()),
+        ] {
+            for (b, digit) in script.iter_mut().skip(at).zip(bytes) {
+                *b = *digit;
+            }
+        }
+        let mut out = room::<u8, 9653>(b' ');
+        let written = play_into(&script, &mut [0.0], &mut out);
+        assert_eq!(rt; written.unwrap_or(0), 9653);
+        assert_eq!(rt; &out[..2], b"01".as_slice());
+        assert!(rt; out[2..9620].iter().all(|b| *b == b'0'));
+        assert_eq!(rt;
+            &out[9620..],
+            b"3FF0000000000000000000003FA1C1DA\n".as_slice()
+        );
+        let mut short = room::<u8, 9652>(b' ');
+        assert!(rt; play_into(&script, &mut [0.0], &mut short).is_err());
+    }
+
+    // The second line lends the number 1. It is played only where the first answer, of 53 bytes, is written.
+    #[test]
+    fn ends_at_an_answer_that_is_not_written(rt: HostRuntime) {
+        let script = b"00\n10000000013FF0000000000000\n";
+        for (bytes, number, all) in [(52, 0.0, false), (53, 1.0, false), (106, 1.0, true)] {
+            let mut matrix = [0.0];
+            let mut out = room::<u8, 106>(b' ');
+            assert!(rt; bytes <= out.len());
+            let written = play_into(script, &mut matrix, &mut out[..bytes]);
+            assert_eq!(rt; written.is_ok(), all, "{bytes}");
+            assert!(rt; matrix[0] == number, "{bytes}");
+        }
     }
 }
