@@ -125,7 +125,7 @@ pub fn play(text: &[u8], rooms: Rooms<'_>, out: &mut impl Write) -> io::Result<(
     Ok(())
 }
 
-// Plays every line of a text, and writes each answer at once. A longer answer than ANSWER is cut there; one that cannot be written is dropped.
+// Plays every line of a text, and writes each answer at once. An answer longer than ANSWER is cut there; after one that cannot be written the play goes on.
 pub fn play_on(text: &[u8], rooms: Rooms<'_>, out: &mut impl Write) {
     let Rooms {
         matrix,
@@ -212,5 +212,12 @@ mod tests {
             assert_eq!(rt; written.is_ok(), all, "{bytes}");
             assert!(rt; matrix[0] == number, "{bytes}");
         }
+    }
+
+    #[test]
+    fn writes_nothing_of_an_empty_script(rt: HostRuntime) {
+        let mut out = room::<u8, 1>(b' ');
+        let written = play_into(b"", &mut [0.0], &mut out);
+        assert_eq!(rt; written.unwrap_or(1), 0);
     }
 }
